@@ -1,0 +1,158 @@
+-- Demands 2 and 3 of the mission, about bytes in and answers out. READ THIS FIRST: each theorem stands under the demand's words.
+-- The runs are those of the paper's Trans and Final (golog, specs/Trans.antt) from a sheet's first configuration; planOf and
+-- replayOf (specs/Planning.antt) are what the calls answer. A sheet is accepted when no cause of 1 to 9 holds of it.
+-- Assumes nothing.
+use mathlib.Core.Path.{_≡_, refl, sym, _∙_, ap, ap₂, subst}
+use mathlib.Core.Bool.{Bool, true, false}
+use mathlib.Core.List.{List}
+use mathlib.Core.Logic.{_↔_, Iff·trans}
+use mathlib.Core.Option.{Option}
+use Prim.Native.Nat.{ℕ, _≤_}
+use lib.Dec.{T}
+use Rattle.runs.specs.Runs.{ExactlyOne}
+use Rattle.runs.specs.Search.{Verdict, plan, nothing, more, search, Lists, Decides, Means}
+use Rattle.runs.proofs.Searched.{search-means}
+use Rattle.runs.proofs.Verdicts.{plan-iff, nothing-iff, more-iff, exactly-one, says}
+use Rattle.runs.proofs.Raised.{plan-stays, nothing-stays}
+use Rattle.runs.proofs.Guided.{accepts-iff, plan-accepted}
+use Rattle.golog.specs.World.{World}
+use Rattle.golog.specs.Steps.{Config}
+use Rattle.golog.proofs.Exact.{steps-exact, final-exact}
+use Rattle.sheet.specs.Check.{Accepts, checkOf}
+use Rattle.sheet.specs.declared.Checked.{Checked}
+use Rattle.sheet.specs.declared.Checked.the-variants.{Accepted, Refused}
+use Rattle.demands.specs.Decoded.{worldOf, firstOf, boundOf}
+use Rattle.demands.specs.Planning.{Goes, Ends, movesIn, finalIn, RunEndsFinal, HistoryOfRun, NoneOfAnyLength, NoneInTheBound, RunOf, verdictOf, acceptsOf, Planned, found, answer, plannedFrom, planOf, Replayed, replied, replayedFrom, replayOf}
+use Rattle.demands.specs.Raised.{SameButBound}
+use Rattle.demands.proofs.Raised.{world-same, first-same}
+
+-- the lists of transitions are the paper's Trans, the test for final configurations its Final
+pub listed : (W : World) → Lists (movesIn W) (Goes W)
+listed W c m d = steps-exact W (c .0) (c .1) m (d .0) (d .1)
+
+pub decided : (W : World) → Decides (finalIn W) (Ends W)
+decided W c = final-exact W (c .0) (c .1)
+
+pub means : (W : World) (k : ℕ) (c : Config) → Means (Goes W) (Ends W) k c (search (movesIn W) (finalIn W) k c)
+means W = search-means (Goes W) (Ends W) (movesIn W) (finalIn W) (listed W) (decided W)
+
+-- an answer and the verdict that it comes from
+found-plan : (v : Verdict) (h : List ℕ) (t : ℕ) → (answer v ≡ found h t) ↔ (v ≡ plan h t)
+found-plan (plan g u) h t = (λ e. cc, λ e. cc)
+found-plan nothing h t = (λ e. cc, λ e. cc)
+found-plan more h t = (λ e. cc, λ e. cc)
+
+answer-nothing : (v : Verdict) → (answer v ≡ Planned.refused 13 0) ↔ (v ≡ nothing)
+answer-nothing (plan g u) = (λ e. cc, λ e. cc)
+answer-nothing nothing = (λ e. refl, λ e. refl)
+answer-nothing more = (λ e. cc, λ e. cc)
+
+answer-more : (v : Verdict) → (answer v ≡ Planned.refused 14 0) ↔ (v ≡ more)
+answer-more (plan g u) = (λ e. cc, λ e. cc)
+answer-more nothing = (λ e. cc, λ e. cc)
+answer-more more = (λ e. refl, λ e. refl)
+
+yes-true : (b : Bool) → (replied b ≡ replied true) ↔ T b
+yes-true true = (λ e. tt, λ t. refl)
+yes-true false = (λ e. let z : false ≡ true = cc in no z, λ t. absurd t)
+  where
+    no : false ≡ true → ⊥
+    no z = subst (λ (b : Bool). T b → ⊥) z (λ t. t) tt
+
+module _ (s : List ℕ) (accepted : Accepts s) where
+  plan-is : planOf s ≡ answer (verdictOf s)
+  unfolding planOf
+  plan-is = ap (plannedFrom s) (accepted .1)
+
+  replay-is : (h : List ℕ) → replayOf s h ≡ replied (acceptsOf s h)
+  unfolding replayOf
+  replay-is h = ap (replayedFrom s h) (accepted .1)
+
+  same-answer : (a : Planned) → (planOf s ≡ a) ↔ (answer (verdictOf s) ≡ a)
+  same-answer a = (λ e. sym plan-is ∙ e, λ e. plan-is ∙ e)
+
+  -- "A history is accepted exactly when some run of at most D transitions makes exactly those moves and ends final"
+  pub history-accepted : (h : List ℕ) → (replayOf s h ≡ replied true) ↔ HistoryOfRun s h
+  unfolding acceptsOf
+  history-accepted h =
+      let W = worldOf s in
+      Iff·trans (λ e. sym (replay-is h) ∙ e, λ e. replay-is h ∙ e)
+      (Iff·trans (yes-true (acceptsOf s h))
+      (accepts-iff (Goes W) (Ends W) (movesIn W) (finalIn W) (listed W) (decided W) (boundOf s) (firstOf s) h))
+
+  -- "every plan handed out is such a history"
+  pub plan-accepted-history : (h : List ℕ) (t : ℕ) → planOf s ≡ found h t → replayOf s h ≡ replied true
+  unfolding acceptsOf verdictOf
+  plan-accepted-history h t e =
+      replay-is h
+      ∙ yes-true (acceptsOf s h) .1
+      (plan-accepted (movesIn (worldOf s)) (finalIn (worldOf s)) (boundOf s) (firstOf s) h t
+      (found-plan (verdictOf s) h t .0 (same-answer (found h t) .0 e)))
+
+  -- "A plan returns n moves and t, the transitions of one run of at most D that ends final with that history"
+  pub plan-transitions : (h : List ℕ) (t : ℕ) → planOf s ≡ found h t → (t ≤ boundOf s) × RunOf s h t
+  unfolding verdictOf
+  plan-transitions h t e =
+      let W = worldOf s in
+      let m = says (Goes W) (Ends W) (search (movesIn W) (finalIn W)) (means W) (boundOf s) (firstOf s) (plan h t)
+              (found-plan (verdictOf s) h t .0 (same-answer (found h t) .0 e)) in
+      (m .1, (m .0, m .2, m .3))
+
+  -- "A plan comes out exactly when some run of at most D transitions ends final"
+  pub plan-exactly : ((h : List ℕ) × (t : ℕ) × (planOf s ≡ found h t)) ↔ RunEndsFinal s
+  unfolding verdictOf
+  plan-exactly =
+      let W = worldOf s in
+      Iff·trans
+      (λ (h, t, e). (h, t, found-plan (verdictOf s) h t .0 (same-answer (found h t) .0 e)),
+       λ (h, t, e). (h, t, same-answer (found h t) .1 (found-plan (verdictOf s) h t .1 e)))
+      (plan-iff (Goes W) (Ends W) (search (movesIn W) (finalIn W)) (means W) (boundOf s) (firstOf s))
+
+  -- "13 exactly when none does and no run has D + 1"
+  pub thirteen-exactly : (planOf s ≡ Planned.refused 13 0) ↔ NoneOfAnyLength s
+  unfolding verdictOf
+  thirteen-exactly =
+      let W = worldOf s in
+      Iff·trans (same-answer (Planned.refused 13 0))
+      (Iff·trans (answer-nothing (verdictOf s))
+      (nothing-iff (Goes W) (Ends W) (search (movesIn W) (finalIn W)) (means W) (boundOf s) (firstOf s)))
+
+  -- "14 exactly when none does and some run has D + 1"
+  pub fourteen-exactly : (planOf s ≡ Planned.refused 14 0) ↔ NoneInTheBound s
+  unfolding verdictOf
+  fourteen-exactly =
+      let W = worldOf s in
+      Iff·trans (same-answer (Planned.refused 14 0))
+      (Iff·trans (answer-more (verdictOf s))
+      (more-iff (Goes W) (Ends W) (search (movesIn W) (finalIn W)) (means W) (boundOf s) (firstOf s)))
+
+  -- the three verdicts exclude each other, and one always holds
+  pub one-verdict : ExactlyOne (RunEndsFinal s) (NoneOfAnyLength s) (NoneInTheBound s)
+  one-verdict =
+      let W = worldOf s in
+      exactly-one (Goes W) (Ends W) (search (movesIn W) (finalIn W)) (means W) (boundOf s) (firstOf s)
+
+-- "Raising D alone keeps a plan a plan and 13 a 13"
+module _ (s s′ : List ℕ) (accepted : Accepts s) (accepted′ : Accepts s′) (but : SameButBound s s′) (raised : boundOf s ≤ boundOf s′) where
+  -- the verdict within any bound is that of the first sheet
+  verdict-same : verdictOf s′ ≡ search (movesIn (worldOf s)) (finalIn (worldOf s)) (boundOf s′) (firstOf s)
+  unfolding verdictOf
+  verdict-same =
+      ap₂ (λ (W : World) (c : Config). search (movesIn W) (finalIn W) (boundOf s′) c) (world-same s s′ accepted accepted′ but)
+      (first-same s s′ accepted accepted′ but)
+
+  pub plan-stays-plan : (h : List ℕ) (t : ℕ) → planOf s ≡ found h t → (g : List ℕ) × (u : ℕ) × (planOf s′ ≡ found g u)
+  unfolding verdictOf
+  plan-stays-plan h t e =
+      let W = worldOf s in
+      let r = plan-stays (Goes W) (Ends W) (search (movesIn W) (finalIn W)) (means W) (boundOf s′) (boundOf s) (firstOf s) h t raised
+              (found-plan (verdictOf s) h t .0 (same-answer s accepted (found h t) .0 e)) in
+      (r .0, r .1, same-answer s′ accepted′ (found (r .0) (r .1)) .1 (found-plan (verdictOf s′) (r .0) (r .1) .1 (verdict-same ∙ r .2)))
+
+  pub thirteen-stays-thirteen : planOf s ≡ Planned.refused 13 0 → planOf s′ ≡ Planned.refused 13 0
+  unfolding verdictOf
+  thirteen-stays-thirteen e =
+      let W = worldOf s in
+      let r = nothing-stays (Goes W) (Ends W) (search (movesIn W) (finalIn W)) (means W) (boundOf s′) (boundOf s) (firstOf s) raised
+              (answer-nothing (verdictOf s) .0 (same-answer s accepted (Planned.refused 13 0) .0 e)) in
+      same-answer s′ accepted′ (Planned.refused 13 0) .1 (answer-nothing (verdictOf s′) .1 (verdict-same ∙ r))

@@ -1,0 +1,88 @@
+-- Planning and replay over the program as it is held answer what they answer over the paper's trees: a held configuration has the
+-- transitions of the one that it stands for, in the same order. And it stays small enough for document 01's figure. Assumes nothing.
+use mathlib.Core.Path.{_≡_, sym, _∙_, ap, subst}
+use mathlib.Core.Bool.{Bool, cond}
+use mathlib.Core.List.{List}
+use Prim.Native.Nat.{ℕ, _+_, _-_, _*_, _≤_}
+use native.Mathlib.Nat.{mul-le-mul}
+use native.Mathlib.Omega.{arith}
+use Rattle.records.specs.declared.Program.{Program}
+use Rattle.height.specs.Height.{rise}
+use Rattle.height.specs.Work.{levels, frameWords}
+use Rattle.sheet.specs.Layout.{layoutOf}
+use Rattle.sheet.specs.Check.{Accepts}
+use Rattle.sheet.proofs.Accepted.{laid}
+use Rattle.sheet.proofs.Lower.{lower}
+use Rattle.golog.specs.Steps.{Config}
+use Rattle.held.specs.Rest.{leaf, full, nodes, AllLower}
+use Rattle.held.specs.Leaves.{Held, movesHeld, finalHeld}
+use Rattle.held.specs.Extended.{table, top}
+use Rattle.held.proofs.Same.{moves-same, final-same}
+use Rattle.held.proofs.Started.{table-lower, top-started, top-rise}
+use Rattle.held.proofs.Nodes.{Reaches, reached-nodes}
+use Rattle.runs.specs.Search.{search}
+use Rattle.runs.specs.Guide.{movesG, finG, accepts}
+use Rattle.runs.proofs.Same.{search-same, guided-same, accepts-same}
+use Rattle.demands.specs.Decoded.{worldOf, recordsOf, interruptsIn, initialOf, firstOf, boundOf}
+use Rattle.demands.specs.Planning.{movesIn, finalIn, verdictOf, acceptsOf}
+use Rattle.demands.specs.Held.{heldRecords, heldFirst, levelsOf}
+
+-- the configuration that a held one stands for
+abbrev fullOf : (ℕ → Program) → Held → Config
+fullOf p c = (full p (c .0), c .1)
+
+module _ (s : List ℕ) (accepted : Accepts s) where
+  pub all-lower : AllLower (heldRecords s)
+  all-lower = table-lower (interruptsIn s) (recordsOf s) (layoutOf s .p) (lower s accepted)
+
+  some-record : 1 ≤ layoutOf s .p
+  some-record = laid s accepted .some-record
+
+  starts : fullOf (heldRecords s) (heldFirst s) ≡ firstOf s
+  starts = λ i. (top-started (recordsOf s) (layoutOf s .p) (lower s accepted) some-record (interruptsIn s) i, initialOf s)
+
+  -- the search with no guide, and under any
+  pub verdict-held :
+      search (movesHeld (worldOf s) (heldRecords s)) (finalHeld (worldOf s) (heldRecords s)) (boundOf s) (heldFirst s) ≡ verdictOf s
+  unfolding verdictOf
+  verdict-held =
+      let W = worldOf s in
+      let p = heldRecords s in
+      search-same (fullOf p) (movesHeld W p) (finalHeld W p) (movesIn W) (finalIn W) (moves-same W p all-lower) (final-same W p all-lower) (boundOf s) (heldFirst s)
+      ∙ ap (search (movesIn W) (finalIn W) (boundOf s)) starts
+
+  pub guided-held :
+      (free : Bool) (g : List ℕ)
+      → search (movesG free (movesHeld (worldOf s) (heldRecords s))) (finG (finalHeld (worldOf s) (heldRecords s))) (boundOf s) (heldFirst s, g)
+      ≡ search (movesG free (movesIn (worldOf s))) (finG (finalIn (worldOf s))) (boundOf s) (firstOf s, g)
+  guided-held free g =
+      let W = worldOf s in
+      let p = heldRecords s in
+      guided-same (fullOf p) (movesHeld W p) (finalHeld W p) (movesIn W) (finalIn W) (moves-same W p all-lower) (final-same W p all-lower) free (boundOf s) (heldFirst s) g
+      ∙ ap (λ (c : Config). search (movesG free (movesIn W)) (finG (finalIn W)) (boundOf s) (c, g)) starts
+
+  pub accepts-held :
+      (h : List ℕ)
+      → accepts (movesHeld (worldOf s) (heldRecords s)) (finalHeld (worldOf s) (heldRecords s)) (boundOf s) (heldFirst s) h ≡ acceptsOf s h
+  unfolding acceptsOf
+  accepts-held h =
+      let W = worldOf s in
+      let p = heldRecords s in
+      accepts-same (fullOf p) (movesHeld W p) (finalHeld W p) (movesIn W) (finalIn W) (moves-same W p all-lower) (final-same W p all-lower) (boundOf s) (heldFirst s) h
+      ∙ ap (λ (c : Config). accepts (movesIn W) (finalIn W) (boundOf s) c h) starts
+
+  -- document 01's h is the height of the record that runs
+  pub top-levels : rise (heldRecords s) (top (interruptsIn s) (layoutOf s .p)) ≡ levelsOf s
+  unfolding levels
+  top-levels = top-rise (recordsOf s) (layoutOf s .p) (lower s accepted) some-record (interruptsIn s)
+
+  -- after n transitions, at most D, a held program and a header of 64 words fit one frame: document 01's figure is enough
+  pub frame-enough :
+      (n : ℕ) (d : Held)
+      → n ≤ boundOf s
+      → Reaches (worldOf s) (heldRecords s) n (heldFirst s) d
+      → 64 + 3 * nodes (d .0) ≤ frameWords (levelsOf s) (boundOf s)
+  frame-enough n d l r =
+      let h = levelsOf s in
+      let e = subst (λ (k : ℕ). nodes (d .0) ≤ 1 + 2 * k * n) top-levels (reached-nodes (worldOf s) (heldRecords s) all-lower _ n (initialOf s) d r) in
+      omega (arith, e, mul-le-mul {n₁ = 2 * h} {m₁ = n} {n₂ = 2 * h} {m₂ = boundOf s} (omega arith) l)

@@ -1,0 +1,4 @@
+pub mod Demands
+pub mod Held
+pub mod Raised
+pub mod Cases

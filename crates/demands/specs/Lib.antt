@@ -1,0 +1,5 @@
+pub mod Decoded
+pub mod Planning
+pub mod Held
+pub mod Raised
+pub mod Cases

@@ -1,0 +1,86 @@
+-- Planning and replay on bytes: the sheet is checked, then searched. Assumes nothing.
+use mathlib.Core.Path.{_≡_}
+use Prim.Native.Nat.{ℕ, _≤_, _<_}
+use mathlib.Core.Bool.{Bool}
+use mathlib.Core.List.{List}
+use mathlib.Core.Option.{Option}
+use Rattle.golog.specs.World.{World}
+use Rattle.golog.specs.Steps.{Config, final, steps}
+use Rattle.golog.specs.Trans.{Trans, Final}
+use Rattle.runs.specs.Runs.{Run, LongRun, Legal, FinalRun, NoneAtAll, NoneWithin}
+use Rattle.runs.specs.Search.{Verdict, plan, nothing, more, search}
+use Rattle.runs.specs.Guide.{accepts}
+use Rattle.sheet.specs.Check.{checkOf}
+use Rattle.sheet.specs.declared.Checked.{Checked}
+use Rattle.sheet.specs.declared.Checked.the-variants.{Accepted, Refused}
+use Rattle.demands.specs.Decoded.{worldOf, firstOf, boundOf}
+
+-- the paper's relation between configurations, and which are final
+abbrev pub Goes : World → Config → Option ℕ → Config → Type 0
+Goes W c m d = Trans W (c .0) (c .1) m (d .0) (d .1)
+
+abbrev pub Ends : World → Config → Type 0
+Ends W c = Final W (c .0) (c .1)
+
+-- the same, computed
+abbrev pub movesIn : World → Config → List (Option ℕ × Config)
+movesIn W c = steps W (c .0) (c .1)
+
+abbrev pub finalIn : World → Config → Bool
+finalIn W c = final W (c .0) (c .1)
+
+-- what the mission says of a sheet's runs: "some run of at most D transitions ends final", "makes exactly those moves and ends
+-- final", "no run has D + 1", "some run has D + 1"
+abbrev pub RunEndsFinal : List ℕ → Type 0
+RunEndsFinal s = FinalRun (Goes (worldOf s)) (Ends (worldOf s)) (boundOf s) (firstOf s)
+
+abbrev pub HistoryOfRun : List ℕ → List ℕ → Type 0
+HistoryOfRun s h = Legal (Goes (worldOf s)) (Ends (worldOf s)) (boundOf s) (firstOf s) h
+
+abbrev pub NoneOfAnyLength : List ℕ → Type 0
+NoneOfAnyLength s = NoneAtAll (Goes (worldOf s)) (Ends (worldOf s)) (boundOf s) (firstOf s)
+
+abbrev pub NoneInTheBound : List ℕ → Type 0
+NoneInTheBound s = NoneWithin (Goes (worldOf s)) (Ends (worldOf s)) (boundOf s) (firstOf s)
+
+-- some run of exactly t transitions has history h and ends final
+abbrev pub RunOf : List ℕ → List ℕ → ℕ → Type 0
+RunOf s h t = (d : Config) × Run (Goes (worldOf s)) t (firstOf s) h d × Ends (worldOf s) d
+
+-- the verdict on an accepted sheet: a plan, 13 or 14
+unfoldable pub verdictOf : List ℕ → Verdict
+verdictOf s = search (movesIn (worldOf s)) (finalIn (worldOf s)) (boundOf s) (firstOf s)
+
+-- whether a history is accepted on an accepted sheet
+unfoldable pub acceptsOf : List ℕ → List ℕ → Bool
+acceptsOf s h = accepts (movesIn (worldOf s)) (finalIn (worldOf s)) (boundOf s) (firstOf s) h
+
+-- what planning answers, the lent areas being long enough: a history with its transitions, or a number and a place
+pub data Planned : Type 0 where
+  found : (history : List ℕ) → (t : ℕ) → Planned
+  refused : (number place : ℕ) → Planned
+
+-- 13, "none at all"; 14, "none within the bound"
+abbrev pub answer : Verdict → Planned
+answer (plan h t) = found h t
+answer nothing = refused 13 0
+answer more = refused 14 0
+
+abbrev pub plannedFrom : List ℕ → Checked → Planned
+plannedFrom s (Accepted w) = answer (verdictOf s)
+plannedFrom s (Refused n p) = refused n p
+
+unfoldable pub planOf : List ℕ → Planned
+planOf s = plannedFrom s (checkOf s)
+
+-- what replay answers, work being long enough: yes or no, or a number and a place
+pub data Replayed : Type 0 where
+  replied : (yes : Bool) → Replayed
+  refused : (number place : ℕ) → Replayed
+
+abbrev pub replayedFrom : List ℕ → List ℕ → Checked → Replayed
+replayedFrom s h (Accepted w) = replied (acceptsOf s h)
+replayedFrom s h (Refused n p) = refused n p
+
+unfoldable pub replayOf : List ℕ → List ℕ → Replayed
+replayOf s h = replayedFrom s h (checkOf s)

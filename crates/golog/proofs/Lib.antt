@@ -1,0 +1,4 @@
+pub mod Tests
+pub mod Exact
+pub mod Truths
+pub mod Moves

@@ -1,0 +1,4 @@
+pub mod World
+pub mod Prog
+pub mod Trans
+pub mod Steps

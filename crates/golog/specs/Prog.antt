@@ -1,0 +1,56 @@
+-- Programs: the paper's constructs as a tree, unfolded from a table of records. Assumes nothing.
+use Prim.Native.Nat.{ℕ}
+use mathlib.Core.Bool.{Bool, true, false}
+use mathlib.Core.List.{List, [], _∷_}
+use lib.ListN.{getD}
+use Rattle.records.specs.declared.Program.{Program}
+use Rattle.records.specs.Table.{entryOf}
+use Rattle.golog.specs.World.{start, stop}
+
+-- the twelve constructs: actions and formulas by number
+pub data Prog : Type 0 where
+  nil : Prog
+  act test : ℕ → Prog
+  seq alt conc prio : Prog → Prog → Prog
+  star iter : Prog → Prog
+  ite : ℕ → Prog → Prog → Prog
+  while intr : ℕ → Prog → Prog
+  deriving Discrete as Prog-discrete
+
+-- document 01, "Program" and "Steps and endings": the program of a record, given those of its parts a and b
+unfoldable pub construct : Program → (P Q : Prog) → Prog
+construct r P Q =
+    getD
+    (
+    nil ∷  -- 0 nil
+    act (r .a) ∷  -- 1 act a
+    test (r .a) ∷  -- 2 test a
+    seq P Q ∷  -- 3 a;b
+    alt P Q ∷  -- 4 a|b
+    star P ∷  -- 5 star a
+    ite (r .c) P Q ∷  -- 6 if c then a else b
+    while (r .c) P ∷  -- 7 while c do a
+    conc P Q ∷  -- 8 a together with b
+    prio P Q ∷  -- 9 a over b
+    iter P ∷  -- 10 concurrent iteration of a
+    intr (r .c) P ∷  -- 11 interrupt c, a
+    []
+    )
+    (r .kind) nil
+
+-- a record, given the programs of the lower ones
+abbrev pub progOf : Program → (lower : List Prog) → Prog
+progOf r lower = construct r (getD lower (r .a) nil) (getD lower (r .b) nil)
+
+-- record i of the table p, given the lower ones
+abbrev pub progAt : (ℕ → Program) → ℕ → (lower : List Prog) → Prog
+progAt p i lower = progOf (p i) lower
+
+-- the program of record i of the table p
+unfoldable pub programOf : (ℕ → Program) → ℕ → Prog
+programOf p i = entryOf nil (progAt p) i
+
+-- "If any program record has kind 11, what runs is: start; (root over stop)" (000, section 5: {start_interrupts; (δ ≫ stop_interrupts)})
+abbrev pub started : (interrupts : Bool) → (root : Prog) → Prog
+started true root = seq (act start) (prio root (act stop))
+started false root = root

@@ -1,0 +1,7 @@
+// The state that conditions and actions speak of. Its meaning, and that of programs, is in specs/; nothing runs here.
+
+// Document 01: "The values of all fluents at one moment are one record of 32 places, unused ones 0"; and whether interrupts run.
+pub struct State {
+    pub values: [u8; 32],
+    pub running: bool,
+}

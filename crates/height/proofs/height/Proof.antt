@@ -1,0 +1,89 @@
+-- The table of heights is filled upwards, by the law of Fills; the last entry is the root's. Assumes nothing.
+use denote.Ref.{now}
+use mathlib.Core.Path.{_≡_, ap, _∙_}
+use Prim.Native.Nat.{ℕ, _≤_, _-_}
+use native.Mathlib.Nat.{le-antisymm}
+use native.Mathlib.Omega.{arith}
+use Rattle.records.specs.Table.{upTo}
+use Rattle.records.specs.declared.Program.{Program}
+use Rattle.records.specs.Records.{programAt}
+use Rattle.records.proofs.Fills.{Filled, start, full, at, more, up-at}
+use Rattle.height.specs.Height.{heightAt, links, over, rise}
+use Rattle.height.proofs.Heights.{heights-le}
+use Rattle.height.proofs.Links.{over-same}
+use borrow.Author.Needs.{needs}
+use Rattle.height.proofs.height.Statement.{statement}
+use Rattle.height.proofs.height.Tie as tie
+
+abbrev Inv-loop : tie.InvT-loop
+Inv-loop t n h₀ i₀ h i = (i ≤ n) × Filled 0 (heightAt (programAt t)) (λ (x : ℕ). x) 256 h i
+
+abbrev μ-loop : tie.MeasureT-loop
+μ-loop t n h₀ i₀ h i = n - i
+
+loop-holds : tie.Need-loop-holds Inv-loop μ-loop
+loop-holds c = (omega arith, start _ _ _ _)
+
+program-at-requires : tie.Need-program-at-requires Inv-loop μ-loop
+program-at-requires c κs = search needs
+
+height-over-requires : tie.Need-height-over-requires Inv-loop μ-loop
+height-over-requires c κs =
+    let b = c .before .before .before .loop .inv .1 in
+    (full _ _ _ _ b (omega arith), λ j. omega (arith, at _ _ _ _ b j, heights-le (programAt (now (c .before .before .before .before .before .args .t))) (c .before .before .before .loop .i) j))
+
+mul-h : tie.Need-mul-h Inv-loop μ-loop
+mul-h c = search needs
+
+array-write-h : tie.Need-array-write-h Inv-loop μ-loop
+array-write-h c = search needs
+
+add-i : tie.Need-add-i Inv-loop μ-loop
+add-i c = search needs
+
+loop-less : tie.Need-loop-less Inv-loop μ-loop
+loop-less c = search needs
+
+loop-again : tie.Need-loop-again Inv-loop μ-loop
+unfolding heightAt
+loop-again c =
+    let p = programAt (now (c .before .before .before .before .before .before .args .t)) in
+    let i = c .before .before .before .before .loop .i in
+    let b = c .before .before .before .before .loop .inv .1 in
+    let read : c .height-over .result ≡ over (c .before .before .before .before .loop .h) (links (p i)) = c .height-over .ensures ∙ ap (λ (r : Program). over (c .before .before .before .before .loop .h) (links r)) (c .before .program-at .ensures .0) in
+    (omega arith, more 0 (heightAt p) (λ (x : ℕ). x) 256 b (omega arith) (read ∙ over-same (c .before .before .before .before .loop .h) (upTo (heightAt p) i) (at 0 (heightAt p) (λ (x : ℕ). x) 256 b) (links (p i))))
+
+sub-result : tie.Need-sub-result Inv-loop μ-loop
+sub-result c = search needs
+
+mul-result : tie.Need-mul-result Inv-loop μ-loop
+mul-result c = search needs
+
+array-read-result : tie.Need-array-read-result Inv-loop μ-loop
+array-read-result c = search needs
+
+returns : tie.Need-returns Inv-loop μ-loop
+unfolding rise
+returns c =
+    let e = le-antisymm (c .before .loop .inv .0) (c .loop-test .left) in
+    let b = c .before .loop .inv .1 in
+    at _ _ _ _ b _ ∙ up-at 0 _ _ _ (omega (arith, e))
+
+pub height-spec : {M : Type 1} → statement M
+height-spec =
+    tie.close
+    (tie.spec
+    Inv-loop
+    μ-loop
+    loop-holds
+    program-at-requires
+    height-over-requires
+    mul-h
+    array-write-h
+    add-i
+    loop-less
+    loop-again
+    sub-result
+    mul-result
+    array-read-result
+    returns)

@@ -1,0 +1,7 @@
+pub mod Columns
+pub mod Entries
+pub mod Same
+pub mod Started
+pub mod Every
+pub mod Nodes
+pub mod Counts

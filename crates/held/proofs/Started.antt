@@ -1,0 +1,85 @@
+-- One record of the table stands for what runs: the four records above the first n are, by their numbers, start; stop; the root over
+-- stop; start, then that. The first n are those of the sheet, so the root unfolds as before and has its height. Assumes nothing.
+use mathlib.Core.Path.{_≡_, sym, _∙_, ap, ap₂, subst}
+use mathlib.Core.Bool.{Bool, true, false, cond}
+use mathlib.Core.List.{[], _∷_, List·Memᴰ, List·Memᴰ·cases-cons, List·Memᴰ·eq-of-singleton, List·Memᴰ·not-nil}
+use mathlib.Core.Logic.{⊎-elim}
+use Prim.Native.Nat.{ℕ, zero, suc, _+_, _-_, _<_, _≤_}
+use native.Mathlib.Decide.{decLt}
+use native.Mathlib.Nat.{add-zero}
+use native.Mathlib.Omega.{arith}
+use lib.ListN.{getD}
+use borrow.Author.Tests.{lt-ltb, le-ltb}
+use Rattle.records.specs.declared.Program.{Program}
+use Rattle.height.specs.Height.{links, over, heightAt, rise}
+use Rattle.height.proofs.Paths.{Lower, above, rise-above}
+use Rattle.golog.specs.Prog.{nil, seq, prio, construct, progAt, programOf, started}
+use Rattle.held.specs.Rest.{leaf, full, AllLower}
+use Rattle.held.specs.Extended.{empty, virtual, table, top}
+use Rattle.held.proofs.Entries.{entry-same, program-step}
+
+module _ (b : Bool) (p : ℕ → Program) (n : ℕ) where
+  pub table-below : (i : ℕ) → i < n → table b p n i ≡ p i
+  unfolding table
+  table-below i h = simp (lt-ltb i n h)
+
+  pub table-above : (k : ℕ) → table b p n (n + k) ≡ getD (virtual b n) k empty
+  unfolding table
+  table-above k = let e : n + k - n ≡ k = omega arith in simp (le-ltb (n + k) n (omega arith), e)
+
+  -- the records of the sheet unfold as before, and have their heights
+  pub program-below : (i : ℕ) → i < n → programOf (table b p n) i ≡ programOf p i
+  unfolding programOf
+  program-below i h = entry-same nil (progAt (table b p n)) (progAt p) i (λ j k l. ap (λ (r : Program). construct r (getD l (r .a) nil) (getD l (r .b) nil)) (table-below j (omega arith)))
+
+  pub rise-below : (i : ℕ) → i < n → rise (table b p n) i ≡ rise p i
+  unfolding rise heightAt
+  rise-below i h = entry-same 0 (heightAt (table b p n)) (heightAt p) i (λ j k l. ap (λ (r : Program). over l (links r)) (table-below j (omega arith)))
+
+-- what the four records name is lower
+pair-lower : (m x y a : ℕ) → x < m → y < m → List·Memᴰ a (x ∷ y ∷ []) → a < m
+pair-lower m x y a hx hy h = ⊎-elim (λ e. omega arith) (λ t. let e = List·Memᴰ·eq-of-singleton t in omega arith) (List·Memᴰ·cases-cons h)
+
+virtual-lower : (b : Bool) (n k a : ℕ) → List·Memᴰ a (links (getD (virtual b n) k empty)) → a < n + k
+unfolding links
+virtual-lower false n k a h = absurd (List·Memᴰ·not-nil h)
+virtual-lower true n zero a h = absurd (List·Memᴰ·not-nil h)
+virtual-lower true n (suc zero) a h = absurd (List·Memᴰ·not-nil h)
+virtual-lower true n (suc (suc zero)) a h = pair-lower (n + 2) (n - 1) (n + 1) a (omega arith) (omega arith) h
+virtual-lower true n (suc (suc (suc zero))) a h = pair-lower (n + 3) n (n + 2) a (omega arith) (omega arith) h
+virtual-lower true n (suc (suc (suc (suc k)))) a h = absurd (List·Memᴰ·not-nil h)
+
+module _ (b : Bool) (p : ℕ → Program) (n : ℕ) (low : Lower p n) where
+  -- so every record of the table names lower ones
+  pub table-lower : AllLower (table b p n)
+  table-lower i a h = go (decLt i n)
+    where
+      go : Dec (i < n) → a < i
+      go (yes l) = low i a l (rw (table-below b p n i l) at h)
+      go (no l) =
+          let k : ℕ = i - n in
+          let e : i ≡ n + k = omega arith in
+          let m : List·Memᴰ a (links (getD (virtual b n) k empty)) = subst (λ (r : Program). List·Memᴰ a (links r)) (ap (table b p n) e ∙ table-above b p n k) h in
+          omega (arith, virtual-lower b n k a m)
+
+  program-above : (k : ℕ) → let r = getD (virtual b n) k empty in programOf (table b p n) (n + k) ≡ construct r (programOf (table b p n) (r .a)) (programOf (table b p n) (r .b))
+  program-above k = program-step (table b p n) table-lower (n + k) ∙ ap (λ (r : Program). construct r (programOf (table b p n) (r .a)) (programOf (table b p n) (r .b))) (table-above b p n k)
+
+module _ (p : ℕ → Program) (n : ℕ) (low : Lower p n) (some-record : 1 ≤ n) where
+  -- what runs, as one record
+  pub top-started : (b : Bool) → full (table b p n) (leaf (top b n)) ≡ started b (programOf p (n - 1))
+  unfolding full construct
+  top-started true =
+      program-above true p n low 3
+      ∙ ap₂ seq (ap (programOf (table true p n)) (sym (add-zero n)) ∙ program-above true p n low 0)
+      (program-above true p n low 2 ∙ ap₂ prio (program-below true p n (n - 1) (omega arith)) (program-above true p n low 1))
+  top-started false = program-below false p n (n - 1) (omega arith)
+
+  -- its height: two levels above the root's where there are interrupts
+  pub top-rise : (b : Bool) → rise (table b p n) (top b n) ≡ rise p (n - 1) + cond b 2 0
+  unfolding links above
+  top-rise true =
+      let t : ℕ → Program = table true p n in
+      let at : (k : ℕ) → rise t (n + k) ≡ above (rise t) (links (getD (virtual true n) k empty)) = λ k. rise-above t (suc (n + k)) (λ j a l. table-lower true p n low j a) (n + k) (omega arith) ∙ ap (λ (r : Program). above (rise t) (links r)) (table-above true p n k) in
+      omega (arith, ap (rise t) (add-zero n), at 0, at 1, at 2, at 3, rise-below true p n (n - 1) (omega arith))
+  top-rise false = rise-below false p n (n - 1) (omega arith) ∙ omega arith

@@ -1,0 +1,102 @@
+-- Finality and transitions of what a planner holds. A record's are made upwards, of those of its parts, by one shape for all kinds: its
+-- own transition, then those of a, then those of b, each under a condition and in a construct. Assumes nothing.
+use Prim.Native.Nat.{ℕ}
+use mathlib.Core.Bool.{Bool, true, cond, _&&_}
+use mathlib.Core.List.{List, [], _∷_, _++_, map}
+use mathlib.Core.Option.{Option, none, some}
+use lib.Dec.{eqb}
+use lib.ListN.{getD}
+use Rattle.records.specs.declared.Program.{Program}
+use Rattle.records.specs.Table.{entryOf}
+use Rattle.golog.specs.declared.State.{State}
+use Rattle.golog.specs.World.{World, holds, possible, after}
+use Rattle.golog.specs.Steps.{Step, only, isNone}
+use Rattle.held.specs.Rest.{Rest, gone, leaf, node, full}
+use Rattle.held.specs.Kinds.{finalOf, ownOf, usesA, usesB, tagA, loops, tagB}
+
+-- a transition: the move, none for a test, and what it leaves. The move gives the state
+abbrev pub Move : Type 0
+Move = Option ℕ × Rest
+
+-- the same move, leaving f of what it left
+abbrev pub onRest : (Rest → Rest) → Move → Move
+onRest f x = (x .0, f (x .1))
+
+-- what a transition of a part leaves, in a construct with a record beside it
+abbrev pub wrapA : (tag sibling : ℕ) → Rest → Rest
+wrapA tag sibling g = cond (eqb tag 0) g (node tag g (leaf sibling))
+
+abbrev pub wrapB : (tag sibling : ℕ) → Rest → Rest
+wrapB tag sibling g = cond (eqb tag 0) g (node tag (leaf sibling) g)
+
+-- one record in a state: whether it is final, and its transitions in listed order
+pub record Leaf : Type 0 where
+  pub final : Bool
+  pub steps : List Move
+
+-- kind 0, nil: what is read where a record names no lower one
+abbrev pub nilLeaf : Leaf
+nilLeaf = record { final = true; steps = [] }
+
+-- the move of a record's own transition: that of an act, none of a test
+abbrev pub ownMove : Program → Option ℕ
+ownMove r = cond (eqb (r .kind) 1) (some (r .a)) none
+
+-- what stands beside what a leaves: the record itself, or its part b
+abbrev pub siblingA : Program → ℕ → ℕ
+siblingA r i = cond (loops (r .kind)) i (r .b)
+
+-- record r, number i, given its parts A and B
+unfoldable pub leafWith : World → State → Program → ℕ → (A B : Leaf) → Leaf
+leafWith W s r i A B = record {
+  final = finalOf (r .kind) (A .final) (B .final) (holds W (r .c) s) (s .running);
+  steps =
+      only (ownOf (r .kind) (possible W (r .a) s) (holds W (r .a) s)) ((ownMove r, gone) ∷ [])
+      ++ (map (onRest (wrapA (tagA (r .kind)) (siblingA r i))) (only (usesA (r .kind) (holds W (r .c) s) (s .running)) (A .steps))
+      ++ map (onRest (wrapB (tagB (r .kind)) (r .a))) (only (usesB (r .kind) (A .final) (holds W (r .c) s) (isNone (A .steps))) (B .steps)));
+}
+
+-- record i of the table p, given the lower ones
+abbrev pub leafAt : World → State → (ℕ → Program) → ℕ → (lower : List Leaf) → Leaf
+leafAt W s p i lower = leafWith W s (p i) i (getD lower (p i .a) nilLeaf) (getD lower (p i .b) nilLeaf)
+
+-- record i of the table p
+unfoldable pub leafOf : World → State → (ℕ → Program) → ℕ → Leaf
+leafOf W s p i = entryOf nilLeaf (leafAt W s p) i
+
+-- document 01, "Steps and endings", 3, 8, 9: "Final if both are"
+unfoldable pub restFinal : World → State → (ℕ → Program) → Rest → Bool
+restFinal W s p gone = true
+restFinal W s p (leaf i) = leafOf W s p i .final
+restFinal W s p (node tag l r) = restFinal W s p l && restFinal W s p r
+
+-- the right part goes: after the left one is final (3), always (8), where the left one has no step (9)
+abbrev pub goesRight : (tag : ℕ) (final idle : Bool) → Bool
+goesRight tag final idle = cond (eqb tag 3) final (cond (eqb tag 8) true idle)
+
+-- what it leaves: alone (3), or still beside the left one
+abbrev pub wrapRight : (tag : ℕ) → (l g : Rest) → Rest
+wrapRight tag l g = cond (eqb tag 3) g (node tag l g)
+
+-- those of the left part, then those of the right one
+unfoldable pub restSteps : World → State → (ℕ → Program) → Rest → List Move
+restSteps W s p gone = []
+restSteps W s p (leaf i) = leafOf W s p i .steps
+restSteps W s p (node tag l r) =
+    map (onRest (λ (g : Rest). node tag g r)) (restSteps W s p l)
+    ++ map (onRest (wrapRight tag l)) (only (goesRight tag (restFinal W s p l) (isNone (restSteps W s p l))) (restSteps W s p r))
+
+-- document 01: "A configuration is a remaining program and the values", as it is held
+abbrev pub Held : Type 0
+Held = Rest × State
+
+-- its transitions, and whether it is final
+abbrev pub movesHeld : World → (ℕ → Program) → Held → List (Option ℕ × Held)
+movesHeld W p c = map (λ (x : Move). (x .0, (x .1, after W (x .0) (c .1)))) (restSteps W (c .1) p (c .0))
+
+abbrev pub finalHeld : World → (ℕ → Program) → Held → Bool
+finalHeld W p c = restFinal W (c .1) p (c .0)
+
+-- the transition that it stands for
+abbrev pub fullStep : (ℕ → Program) → Option ℕ × Held → Step
+fullStep p x = (x .0, (full p (x .1 .0), x .1 .1))

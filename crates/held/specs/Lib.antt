@@ -1,0 +1,4 @@
+pub mod Rest
+pub mod Kinds
+pub mod Leaves
+pub mod Extended

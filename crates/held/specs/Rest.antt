@@ -1,0 +1,50 @@
+-- The remaining program as a planner can hold it: record numbers at the leaves, not unfolded, and around them what stepping put there.
+-- Assumes nothing.
+use Prim.Native.Nat.{ℕ, _+_, _*_, _≤_, _<_, max}
+use mathlib.Core.Bool.{cond}
+use mathlib.Core.List.{List·Memᴰ}
+use lib.Dec.{eqb}
+use Rattle.records.specs.declared.Program.{Program}
+use Rattle.height.specs.Height.{links, rise}
+use Rattle.golog.specs.Prog.{Prog, nil, seq, conc, prio, programOf}
+
+-- nothing (nil); a record; a construct by its kind, 3 sequence, 8 together, 9 over, with its two parts
+pub data Rest : Type 0 where
+  gone : Rest
+  leaf : ℕ → Rest
+  node : ℕ → Rest → Rest → Rest
+
+-- a construct by its kind
+abbrev pub combine : ℕ → Prog → Prog → Prog
+combine tag a b = cond (eqb tag 3) (seq a b) (cond (eqb tag 8) (conc a b) (prio a b))
+
+-- the program that it stands for, over the table p
+unfoldable pub full : (ℕ → Program) → Rest → Prog
+full p gone = nil
+full p (leaf i) = programOf p i
+full p (node tag l r) = combine tag (full p l) (full p r)
+
+-- how many nodes hold it (document 01, "Work area": three words each)
+unfoldable pub nodes : Rest → ℕ
+nodes gone = 1
+nodes (leaf i) = 1
+nodes (node tag l r) = 1 + nodes l + nodes r
+
+-- the largest rank of a record in it, 0 where it has none
+unfoldable pub largest : (rank : ℕ → ℕ) → Rest → ℕ
+largest rank gone = 0
+largest rank (leaf i) = rank i
+largest rank (node tag l r) = max (largest rank l) (largest rank r)
+
+-- the height of its highest record
+abbrev pub high : (ℕ → Program) → Rest → ℕ
+high p g = largest (rise p) g
+
+-- what it keeps to after n transitions from a record of height h (document 01's 1 + 2 × h × D)
+pub record Fits (p : ℕ → Program) (h n : ℕ) (g : Rest) : Type 0 where
+  pub size : nodes g ≤ 1 + 2 * h * n
+  pub height : high p g ≤ h
+
+-- document 01: "a and b are lower program records", of every record
+abbrev pub AllLower : (ℕ → Program) → Type 0
+AllLower p = (i a : ℕ) → List·Memᴰ a (links (p i)) → a < i

@@ -1,0 +1,4 @@
+pub mod Bytes
+pub mod Records
+pub mod Lowest
+pub mod Table

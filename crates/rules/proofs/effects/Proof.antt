@@ -1,0 +1,48 @@
+-- The loop keeps the invariant of Scan for the rule of effects. Assumes nothing.
+use borrow.Author.Needs.{needs}
+use Prim.Native.Nat.{_-_}
+use Rattle.records.proofs.Scan.{Scan, start, more, found, done}
+use Rattle.rules.specs.Tables.{effectsOk}
+use Rattle.rules.proofs.effects.Statement.{statement}
+use Rattle.rules.proofs.effects.Tie as tie
+
+abbrev Inv-loop : tie.InvT-loop
+Inv-loop fluents nf nq t n i₀ i = Scan (effectsOk fluents nf nq t) n i
+
+abbrev μ-loop : tie.MeasureT-loop
+μ-loop fluents nf nq t n i₀ i = n - i
+
+loop-holds : tie.Need-loop-holds Inv-loop μ-loop
+loop-holds c = start _ _
+
+effects-ok-requires : tie.Need-effects-ok-requires Inv-loop μ-loop
+effects-ok-requires c κs = search needs
+
+returns : tie.Need-returns Inv-loop μ-loop
+returns c = found _ (c .before .before .before .loop .inv) (c .before .before .loop-test .taken) (c .before .effects-ok .ensures) (c .if1 .taken)
+
+add-i : tie.Need-add-i Inv-loop μ-loop
+add-i c = search needs
+
+loop-less : tie.Need-loop-less Inv-loop μ-loop
+loop-less c = search needs
+
+loop-again : tie.Need-loop-again Inv-loop μ-loop
+loop-again c = more _ (c .before .before .before .loop .inv) (c .before .before .loop-test .taken) (c .before .effects-ok .ensures) (c .if1 .left)
+
+returns-2 : tie.Need-returns-2 Inv-loop μ-loop
+returns-2 c = done _ (c .before .loop .inv) (c .loop-test .left)
+
+pub effects-spec : {M : Type 1} → statement M
+effects-spec =
+    tie.close
+    (tie.spec
+    Inv-loop
+    μ-loop
+    loop-holds
+    effects-ok-requires
+    returns
+    add-i
+    loop-less
+    loop-again
+    returns-2)

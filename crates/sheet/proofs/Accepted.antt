@@ -1,0 +1,109 @@
+-- What acceptance tells: no cause of 1 to 9 holds, so the tables lie in the sheet, every record keeps its rule, the height is at most
+-- 16 and the answer is the figure. Assumes nothing.
+use mathlib.Core.Path.{_≡_, refl, sym, _∙_, ap, subst}
+use mathlib.Core.List.{List}
+use mathlib.Core.Bool.{Bool, true, false, not, cond}
+use Prim.Native.Nat.{ℕ, _+_, _-_, _≤_, _<_}
+use native.Mathlib.Omega.{arith}
+use borrow.Author.Tests.{ltb-false, not-false, eqb-true}
+use lib.ListN.{length}
+use lib.Dec.{ltb, eqb}
+use Rattle.records.specs.Lowest.{lowest}
+use Rattle.records.specs.Records.{programAt}
+use Rattle.records.proofs.Scan.{all}
+use Rattle.rules.specs.Tables.{fluentsOk, formulasOk, effectsOk, actionsOk, programsOk}
+use Rattle.height.specs.Height.{heightOf}
+use Rattle.height.specs.Work.{levels, workWords}
+use Rattle.sheet.specs.Trailer.{trailerOf, limitsOk, Within, recordBytes, distanceOk}
+use Rattle.sheet.specs.Layout.{layoutIn, layoutOf, Fits, fluentsIn, formulasIn, effectsIn, actionsIn, programsIn}
+use Rattle.sheet.specs.Check.{refusedAt, heightChecked, programsChecked, actionsChecked, effectsChecked, formulasChecked, fluentsChecked, trailerChecked, checkOf, Accepts}
+use Rattle.sheet.proofs.Laws.{within, placed, fits}
+use Rattle.sheet.specs.declared.Layout.{Layout}
+use Rattle.sheet.specs.declared.Checked.{Checked}
+use Rattle.sheet.specs.declared.Checked.the-variants.{Accepted, Refused}
+
+-- an answer that accepts has passed the test
+passed : (b : Bool) (n p : ℕ) (x : Checked) {w : ℕ} → cond b (Refused n p) x ≡ Accepted w → (b ≡ false) × (x ≡ Accepted w)
+passed true n p x e = (cc, cc)
+passed false n p x e = (refl, e)
+
+-- and has found no faulty record
+kept : (number : ℕ) (ok : ℕ → Bool) (n : ℕ) (next : Checked) {w : ℕ} → refusedAt number (lowest ok n) n next ≡ Accepted w → ((i : ℕ) → i < n → ok i ≡ true) × (next ≡ Accepted w)
+unfolding refusedAt
+kept number ok n next e = let r = passed (ltb (lowest ok n) n) number (lowest ok n) next e in (all ok n (ltb-false (lowest ok n) n (r .0)), r .1)
+
+-- what numbers 1 to 3 leave
+pub record Trailed (s : List ℕ) : Type 0 where
+  pub long : 18 ≤ length s
+  pub magic : trailerOf s .magic ≡ 0x5142
+  pub within : Within (trailerOf s)
+  pub sum : trailerOf s .distance ≡ recordBytes (trailerOf s)
+  pub room : trailerOf s .distance ≤ length s - 18
+
+-- what numbers 4 to 9 leave
+pub record Ruled (s : List ℕ) (l : Layout) (w : ℕ) : Type 0 where
+  pub fluent : (i : ℕ) → i < l .f → fluentsOk (fluentsIn s l) i ≡ true
+  pub formula : (i : ℕ) → i < l .q → formulasOk (fluentsIn s l) (l .f) (formulasIn s l) i ≡ true
+  pub effect : (i : ℕ) → i < l .e → effectsOk (fluentsIn s l) (l .f) (l .q) (effectsIn s l) i ≡ true
+  pub action : (i : ℕ) → i < l .a → actionsOk (l .q) (l .e) (actionsIn s l) i ≡ true
+  pub program : (i : ℕ) → i < l .p → programsOk (l .q) (l .a) (programsIn s l) i ≡ true
+  pub height : heightOf (programAt (programsIn s l)) (l .p) ≤ 16
+  pub figure : w ≡ workWords (levels (programAt (programsIn s l)) (l .p)) (l .d)
+
+figure-of : (x w : ℕ) → Accepted x ≡ Accepted w → w ≡ x
+figure-of x w e = cc
+
+ruled-in : (s : List ℕ) (l : Layout) (w : ℕ) → fluentsChecked s l ≡ Accepted w → Ruled s l w
+unfolding fluentsChecked formulasChecked effectsChecked actionsChecked programsChecked heightChecked
+ruled-in s l w e =
+    let p = programAt (programsIn s l) in
+    let k₄ = kept 4 (fluentsOk (fluentsIn s l)) (l .f) _ e in
+    let k₅ = kept 5 (formulasOk (fluentsIn s l) (l .f) (formulasIn s l)) (l .q) _ (k₄ .1) in
+    let k₆ = kept 6 (effectsOk (fluentsIn s l) (l .f) (l .q) (effectsIn s l)) (l .e) _ (k₅ .1) in
+    let k₇ = kept 7 (actionsOk (l .q) (l .e) (actionsIn s l)) (l .a) _ (k₆ .1) in
+    let k₈ = kept 8 (programsOk (l .q) (l .a) (programsIn s l)) (l .p) _ (k₇ .1) in
+    let h = passed (ltb 16 (heightOf p (l .p))) 9 0 _ (k₈ .1) in
+    record {
+      fluent = k₄ .0;
+      formula = k₅ .0;
+      effect = k₆ .0;
+      action = k₇ .0;
+      program = k₈ .0;
+      height = ltb-false 16 _ (h .0);
+      figure = figure-of (workWords (levels p (l .p)) (l .d)) w (h .1);
+    }
+
+-- the two together
+both : (s : List ℕ) (w : ℕ) → checkOf s ≡ Accepted w → Trailed s × Ruled s (layoutOf s) w
+unfolding checkOf trailerChecked layoutOf
+both s w e =
+    let t = trailerOf s in
+    let e₁ = passed (ltb (length s) 18) 1 0 _ e in
+    let e₂ = passed (not (eqb (t .magic) 0x5142)) 1 0 _ (e₁ .1) in
+    let e₃ = passed (not (limitsOk t)) 2 0 _ (e₂ .1) in
+    let e₄ = passed (not (distanceOk t (length s - 18))) 3 0 _ (e₃ .1) in
+    let p = placed t (length s - 18) (not-false (distanceOk t (length s - 18)) (e₄ .0)) in (
+      record {
+        long = ltb-false (length s) 18 (e₁ .0);
+        magic = eqb-true (t .magic) 0x5142 (not-false (eqb (t .magic) 0x5142) (e₂ .0));
+        within = within t (not-false (limitsOk t) (e₃ .0));
+        sum = p .0;
+        room = p .1;
+      },
+      ruled-in s (layoutIn t (length s - 18)) w (e₄ .1),
+    )
+
+module _ (s : List ℕ) (accepted : Accepts s) where
+  pub trailed : Trailed s
+  trailed = both s (accepted .0) (accepted .1) .0
+
+  pub ruled : Ruled s (layoutOf s) (accepted .0)
+  ruled = both s (accepted .0) (accepted .1) .1
+
+  -- the tables lie in the sheet
+  pub laid : Fits (layoutOf s) (length s)
+  unfolding layoutOf
+  laid =
+      let t = trailed in
+      let e : length s - 18 + 18 ≡ length s = let l = t .long in omega arith in
+      subst (Fits (layoutIn (trailerOf s) (length s - 18))) e (fits (trailerOf s) (length s - 18) (t .within) (t .sum) (t .room))

@@ -1,0 +1,80 @@
+-- What acceptance tells of each record: its rule as facts, and that the links of program records lead to lower ones. Assumes nothing.
+use mathlib.Core.Path.{_≡_, refl, subst, sym}
+use mathlib.Core.List.{List, [], _∷_, List·Memᴰ, List·Memᴰ·cases-cons, List·Memᴰ·eq-of-singleton, List·Memᴰ·not-nil}
+use mathlib.Core.Logic.{_⊎_, inl, inr, ⊎-elim}
+use Prim.Native.Nat.{ℕ, _+_, _-_, _≤_, _<_}
+use native.Mathlib.Omega.{arith}
+use Rattle.records.specs.Records.{fluentAt, formulaAt, effectAt, actionAt, programAt}
+use Rattle.records.specs.declared.Program.{Program}
+use Rattle.rules.proofs.Rows.{fluent-kept, effect-kept, action-kept, formula-kept, program-kept, FormulaRow, ProgramRow, empty, action, test, pair, loop, choice, guarded}
+use Rattle.height.specs.Height.{links, heightOf}
+use Rattle.height.proofs.Paths.{Lower, Down, height-is-most}
+use Rattle.sheet.specs.Layout.{layoutOf, fluentsIn, formulasIn, effectsIn, actionsIn, programsIn}
+use Rattle.sheet.specs.Check.{Accepts}
+use Rattle.sheet.proofs.Accepted.{ruled, laid}
+
+-- links that are none, one, or two lower records lead to lower records
+none-lower : (i : ℕ) {xs : List ℕ} → xs ≡ [] → (j : ℕ) → List·Memᴰ j xs → j < i
+none-lower i e j m = absurd (List·Memᴰ·not-nil (subst (List·Memᴰ j) e m))
+
+one-lower : (i a : ℕ) {xs : List ℕ} → a < i → xs ≡ a ∷ [] → (j : ℕ) → List·Memᴰ j xs → j < i
+one-lower i a l e j m = omega (arith, List·Memᴰ·eq-of-singleton (subst (List·Memᴰ j) e m))
+
+two-lower : (i a b : ℕ) {xs : List ℕ} → a < i → b < i → xs ≡ a ∷ b ∷ [] → (j : ℕ) → List·Memᴰ j xs → j < i
+two-lower i a b l k e j m =
+    ⊎-elim (λ q. omega (arith, q)) (λ n. omega (arith, List·Memᴰ·eq-of-singleton n)) (List·Memᴰ·cases-cons (subst (List·Memᴰ j) e m))
+
+links-lower : (nq na i : ℕ) (r : Program) → ProgramRow nq na i r → (j : ℕ) → List·Memᴰ j (links r) → j < i
+unfolding links
+links-lower nq na i r (empty e) = none-lower i (rw e)
+links-lower nq na i r (action e l) = none-lower i (rw e)
+links-lower nq na i r (test e l) = none-lower i (rw e)
+links-lower nq na i r (pair (inl (inl e)) l k) = two-lower i (r .a) (r .b) l k (rw e)
+links-lower nq na i r (pair (inl (inr e)) l k) = two-lower i (r .a) (r .b) l k (rw e)
+links-lower nq na i r (pair (inr (inl e)) l k) = two-lower i (r .a) (r .b) l k (rw e)
+links-lower nq na i r (pair (inr (inr e)) l k) = two-lower i (r .a) (r .b) l k (rw e)
+links-lower nq na i r (loop (inl e) l) = one-lower i (r .a) l (rw e)
+links-lower nq na i r (loop (inr e) l) = one-lower i (r .a) l (rw e)
+links-lower nq na i r (choice e l k c) = two-lower i (r .a) (r .b) l k (rw e)
+links-lower nq na i r (guarded (inl e) l c) = one-lower i (r .a) l (rw e)
+links-lower nq na i r (guarded (inr e) l c) = one-lower i (r .a) l (rw e)
+
+module _ (s : List ℕ) (accepted : Accepts s) where
+  abbrev fluents : List ℕ
+  fluents = fluentsIn s (layoutOf s)
+
+  pub fluent-of : (i : ℕ) → i < layoutOf s .f → let r = fluentAt fluents i in (1 ≤ r .size) × (r .size ≤ 16) × (r .initial < r .size)
+  fluent-of i l = fluent-kept _ (ruled s accepted .fluent i l)
+
+  pub formula-of :
+      (i : ℕ)
+      → i < layoutOf s .q
+      → let r = formulaAt (formulasIn s (layoutOf s)) i in FormulaRow (layoutOf s .f) (fluentAt fluents (r .x) .size) i r
+  formula-of i l = formula-kept _ _ _ _ (ruled s accepted .formula i l)
+
+  pub effect-of :
+      (i : ℕ)
+      → i < layoutOf s .e
+      → let r = effectAt (effectsIn s (layoutOf s)) i in (r .condition < layoutOf s .q) × (r .fluent < layoutOf s .f) × (r .value < fluentAt fluents (r .fluent) .size)
+  effect-of i l = effect-kept _ _ _ _ (ruled s accepted .effect i l)
+
+  pub action-of :
+      (i : ℕ)
+      → i < layoutOf s .a
+      → let r = actionAt (actionsIn s (layoutOf s)) i in (r .precondition < layoutOf s .q) × (r .first + r .count ≤ layoutOf s .e)
+  action-of i l = action-kept _ _ _ (ruled s accepted .action i l)
+
+  pub program-of :
+      (i : ℕ) → i < layoutOf s .p → ProgramRow (layoutOf s .q) (layoutOf s .a) i (programAt (programsIn s (layoutOf s)) i)
+  program-of i l = program-kept _ _ _ _ (ruled s accepted .program i l)
+
+  -- the links of program records lead to lower records
+  pub lower : Lower (programAt (programsIn s (layoutOf s))) (layoutOf s .p)
+  lower i j l m = links-lower _ _ i _ (program-of i l) j m
+
+  -- document 01's words for the height: some path down from the root has that many links, and none has more
+  pub height-is-most-links :
+      let p = programAt (programsIn s (layoutOf s)) in
+      let n = layoutOf s .p in
+      Down p (n - 1) (heightOf p n) × ((k : ℕ) → Down p (n - 1) k → k ≤ heightOf p n)
+  height-is-most-links = height-is-most _ _ lower (laid s accepted .some-record)

@@ -1,0 +1,52 @@
+-- The height decides between 9 and the figure. Assumes nothing.
+use denote.Ref.{now}
+use mathlib.Core.Path.{ap, ap₂, _∙_}
+use mathlib.Core.Bool.{Bool, true, false, cond}
+use Prim.Native.Nat.{ℕ, _+_, _≤_}
+use native.Mathlib.Omega.{arith}
+use lib.Dec.{lit≤}
+use Rattle.records.specs.Records.{programAt}
+use Rattle.height.specs.Work.{levels, workWords}
+use Rattle.sheet.proofs.Laws.{too-high, low-enough}
+use borrow.Author.Needs.{needs}
+use Rattle.sheet.proofs.check_height.Statement.{statement}
+use Rattle.sheet.proofs.check_height.Tie as tie
+
+small : (b : Bool) → cond b 2 0 ≤ 2
+small true = lit≤ tt
+small false = lit≤ tt
+
+height-requires : tie.Need-height-requires
+height-requires c κs = search needs
+
+returns : tie.Need-returns
+returns c = too-high _ _ _ _ (c .before .height .ensures) (c .if1 .taken)
+
+has-interrupts-requires : tie.Need-has-interrupts-requires
+has-interrupts-requires c κs = search needs
+
+levels-from-requires : tie.Need-levels-from-requires
+levels-from-requires c κs = search needs
+
+work-words-requires : tie.Need-work-words-requires
+work-words-requires c κs = let s = small (c .before .has-interrupts .result) in omega (arith, s, c .levels-from .ensures)
+
+returns-2 : tie.Need-returns-2
+unfolding levels
+returns-2 c =
+    let n = c .before .before .before .before .before .before .args .n in
+    let d = c .before .before .before .before .before .before .args .d in
+    let p = programAt (now (c .before .before .before .before .before .before .args .t)) in
+    let k = c .before .levels-from .ensures ∙ ap₂ (λ (h : ℕ) (b : Bool). h + cond b 2 0) (c .before .before .before .before .height .ensures) (c .before .before .has-interrupts .ensures) in
+    low-enough p n d (c .before .before .before .before .height .result) (c .before .before .before .before .height .ensures) (c .before .before .before .if1 .left) (c .work-words .ensures .0 ∙ ap (λ (h : ℕ). workWords h d) k)
+
+pub check-height-spec : {M : Type 1} → statement M
+check-height-spec =
+    tie.close
+    (tie.spec
+    height-requires
+    returns
+    has-interrupts-requires
+    levels-from-requires
+    work-words-requires
+    returns-2)

@@ -1,0 +1,4 @@
+pub mod Trailer
+pub mod Layout
+pub mod Check
+pub mod Notes

@@ -1,0 +1,238 @@
+//! "Moves" and "Steps and endings (000, sections 4 and 5)".
+
+use crate::sheet::{Formula, Program, Sheet};
+use std::rc::Rc;
+
+/// The history entry of start.
+pub const START: u16 = 65534;
+/// The history entry of stop.
+pub const STOP: u16 = 65535;
+
+/// The values of all fluents at one moment, unused places 0, and whether interrupts run.
+#[derive(Clone, Copy, Debug, PartialEq, Eq, Hash)]
+pub struct State {
+    pub values: [u8; 32],
+    pub interrupts: bool,
+}
+
+/// A remaining program: the tree of the paper's constructs, with start and stop. A condition stands first.
+#[derive(Debug, PartialEq, Eq, Hash)]
+pub enum Prog {
+    Nil,
+    Act(usize),
+    Start,
+    Stop,
+    Test(usize),
+    Sequence(Rc<Prog>, Rc<Prog>),
+    Choice(Rc<Prog>, Rc<Prog>),
+    Star(Rc<Prog>),
+    If(usize, Rc<Prog>, Rc<Prog>),
+    While(usize, Rc<Prog>),
+    Together(Rc<Prog>, Rc<Prog>),
+    Over(Rc<Prog>, Rc<Prog>),
+    Iteration(Rc<Prog>),
+    Interrupt(usize, Rc<Prog>),
+}
+
+/// A configuration: a remaining program and the values.
+#[derive(Clone, Debug, PartialEq, Eq, Hash)]
+pub struct Configuration {
+    pub program: Rc<Prog>,
+    pub state: State,
+}
+
+/// One transition: the entry it adds to the history (a test adds none) and the configuration it leads to.
+#[derive(Clone, Debug, PartialEq, Eq)]
+pub struct Transition {
+    pub entry: Option<u16>,
+    pub to: Configuration,
+}
+
+impl State {
+    /// The initial values; interrupts do not run yet.
+    pub fn initial(sheet: &Sheet) -> Self {
+        let mut values = [0; 32];
+        for (value, fluent) in values.iter_mut().zip(&sheet.fluents) {
+            *value = fluent.initial;
+        }
+        State { values, interrupts: false }
+    }
+}
+
+impl Prog {
+    /// The tree of the root.
+    pub fn root(sheet: &Sheet) -> Rc<Prog> {
+        let mut trees: Vec<Rc<Prog>> = vec![];
+        for program in &sheet.programs {
+            let at = |p: usize| trees[p].clone();
+            let tree = match *program {
+                Program::Nil => Prog::Nil,
+                Program::Act(a) => Prog::Act(a),
+                Program::Test(f) => Prog::Test(f),
+                Program::Sequence(a, b) => Prog::Sequence(at(a), at(b)),
+                Program::Choice(a, b) => Prog::Choice(at(a), at(b)),
+                Program::Star(a) => Prog::Star(at(a)),
+                Program::If(c, a, b) => Prog::If(c, at(a), at(b)),
+                Program::While(c, a) => Prog::While(c, at(a)),
+                Program::Together(a, b) => Prog::Together(at(a), at(b)),
+                Program::Over(a, b) => Prog::Over(at(a), at(b)),
+                Program::Iteration(a) => Prog::Iteration(at(a)),
+                Program::Interrupt(c, a) => Prog::Interrupt(c, at(a)),
+            };
+            trees.push(Rc::new(tree));
+        }
+        trees[trees.len() - 1].clone()
+    }
+
+    /// What runs: the root, or start; (root over stop) if any program record has kind 11.
+    pub fn what_runs(sheet: &Sheet) -> Rc<Prog> {
+        let root = Prog::root(sheet);
+        if !sheet.has_interrupt() {
+            return root;
+        }
+        let over = Prog::Over(root, Rc::new(Prog::Stop));
+        Rc::new(Prog::Sequence(Rc::new(Prog::Start), Rc::new(over)))
+    }
+}
+
+impl Configuration {
+    /// The first configuration: what runs and the initial values.
+    pub fn first(sheet: &Sheet) -> Self {
+        Configuration { program: Prog::what_runs(sheet), state: State::initial(sheet) }
+    }
+
+    /// Final, by the remaining program's outermost kind.
+    pub fn is_final(&self, sheet: &Sheet) -> bool {
+        Moment::new(sheet, self.state).is_final(&self.program)
+    }
+
+    /// Trans: every transition in listed order, once for each branch that yields it.
+    pub fn transitions(&self, sheet: &Sheet) -> Vec<Transition> {
+        Moment::new(sheet, self.state).transitions(&self.program)
+    }
+}
+
+/// A state with the truth of every formula in it.
+pub struct Moment<'a> {
+    sheet: &'a Sheet,
+    state: State,
+    truths: Vec<bool>,
+}
+
+impl<'a> Moment<'a> {
+    pub fn new(sheet: &'a Sheet, state: State) -> Self {
+        let value = |x: usize| usize::from(state.values[x]);
+        let mut truths: Vec<bool> = vec![];
+        for formula in &sheet.formulas {
+            truths.push(match *formula {
+                Formula::True => true,
+                Formula::False => false,
+                Formula::Is(x, a) => value(x) == a,
+                Formula::Less(x, a) => value(x) < a,
+                Formula::Equal(x, y) => value(x) == value(y),
+                Formula::Not(a) => !truths[a],
+                Formula::And(a, b) => truths[a] && truths[b],
+                Formula::Or(a, b) => truths[a] || truths[b],
+            });
+        }
+        Moment { sheet, state, truths }
+    }
+
+    pub fn holds(&self, formula: usize) -> bool {
+        self.truths[formula]
+    }
+
+    /// An action is possible when its precondition holds.
+    pub fn possible(&self, action: usize) -> bool {
+        self.holds(self.sheet.actions[action].precondition)
+    }
+
+    /// For each fluent, the first effect in the action's range that names it and whose condition holds in the old
+    /// values gives the new value; without one the value stays.
+    pub fn perform(&self, action: usize) -> State {
+        let effects = &self.sheet.effects[self.sheet.actions[action].effects.clone()];
+        let mut next = self.state;
+        for fluent in 0..self.sheet.fluents.len() {
+            if let Some(effect) = effects.iter().find(|e| e.fluent == fluent && self.holds(e.condition)) {
+                next.values[fluent] = effect.value;
+            }
+        }
+        next
+    }
+
+    /// Final of the paper; start and stop are actions and so never final.
+    pub fn is_final(&self, program: &Prog) -> bool {
+        use Prog::*;
+        match program {
+            Nil => true,
+            Act(_) | Start | Stop | Test(_) => false,
+            Sequence(a, b) => self.is_final(a) && self.is_final(b),
+            Choice(a, b) => self.is_final(a) || self.is_final(b),
+            Star(_) => true,
+            If(c, a, b) => self.is_final(if self.holds(*c) { a } else { b }),
+            While(c, a) => !self.holds(*c) || self.is_final(a),
+            Together(a, b) => self.is_final(a) && self.is_final(b),
+            Over(a, b) => self.is_final(a) && self.is_final(b),
+            Iteration(_) => true,
+            Interrupt(c, a) => !self.state.interrupts || (self.holds(*c) && self.is_final(a)),
+        }
+    }
+
+    /// Trans of the paper as a list: the transitions of a before those of b.
+    pub fn transitions(&self, program: &Rc<Prog>) -> Vec<Transition> {
+        use Prog::*;
+        let this = || program.clone();
+        match &**program {
+            Nil => vec![],
+            Act(a) if self.possible(*a) => leave_nil(Some(*a as u16), self.perform(*a)),
+            Act(_) => vec![],
+            Start => leave_nil(Some(START), State { interrupts: true, ..self.state }),
+            Stop => leave_nil(Some(STOP), State { interrupts: false, ..self.state }),
+            Test(f) if self.holds(*f) => leave_nil(None, self.state),
+            Test(_) => vec![],
+            Sequence(a, b) => {
+                let mut steps = wrap(self.transitions(a), |rest| Sequence(rest, b.clone()));
+                if self.is_final(a) {
+                    steps.extend(self.transitions(b));
+                }
+                steps
+            }
+            Choice(a, b) => [self.transitions(a), self.transitions(b)].concat(),
+            Star(a) => wrap(self.transitions(a), |rest| Sequence(rest, this())),
+            If(c, a, b) => self.transitions(if self.holds(*c) { a } else { b }),
+            While(c, a) if self.holds(*c) => wrap(self.transitions(a), |rest| Sequence(rest, this())),
+            While(..) => vec![],
+            Together(a, b) => {
+                let of_a = wrap(self.transitions(a), |rest| Together(rest, b.clone()));
+                let of_b = wrap(self.transitions(b), |rest| Together(a.clone(), rest));
+                [of_a, of_b].concat()
+            }
+            Over(a, b) => {
+                let of_a = self.transitions(a);
+                if of_a.is_empty() {
+                    wrap(self.transitions(b), |rest| Over(a.clone(), rest))
+                } else {
+                    wrap(of_a, |rest| Over(rest, b.clone()))
+                }
+            }
+            Iteration(a) => wrap(self.transitions(a), |rest| Together(rest, this())),
+            Interrupt(c, a) if self.state.interrupts && self.holds(*c) => {
+                wrap(self.transitions(a), |rest| Sequence(rest, this()))
+            }
+            Interrupt(..) => vec![],
+        }
+    }
+}
+
+/// The one transition that leaves nil.
+fn leave_nil(entry: Option<u16>, state: State) -> Vec<Transition> {
+    vec![Transition { entry, to: Configuration { program: Rc::new(Prog::Nil), state } }]
+}
+
+/// The same transitions with their remaining program put into a larger one.
+fn wrap(mut steps: Vec<Transition>, larger: impl Fn(Rc<Prog>) -> Prog) -> Vec<Transition> {
+    for step in &mut steps {
+        step.to.program = Rc::new(larger(step.to.program.clone()));
+    }
+    steps
+}
