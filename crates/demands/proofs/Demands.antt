@@ -95,7 +95,7 @@ module _ (s : List ℕ) (accepted : Accepts s) where
   plan-transitions h t e =
       let W = worldOf s in
       let m = says (Goes W) (Ends W) (search (movesIn W) (finalIn W)) (means W) (boundOf s) (firstOf s) (plan h t)
-              (found-plan (verdictOf s) h t .0 (same-answer (found h t) .0 e)) in
+      (found-plan (verdictOf s) h t .0 (same-answer (found h t) .0 e)) in
       (m .1, (m .0, m .2, m .3))
 
   -- "A plan comes out exactly when some run of at most D transitions ends final"
@@ -103,9 +103,10 @@ module _ (s : List ℕ) (accepted : Accepts s) where
   unfolding verdictOf
   plan-exactly =
       let W = worldOf s in
-      Iff·trans
-      (λ (h, t, e). (h, t, found-plan (verdictOf s) h t .0 (same-answer (found h t) .0 e)),
-       λ (h, t, e). (h, t, same-answer (found h t) .1 (found-plan (verdictOf s) h t .1 e)))
+      Iff·trans (
+        λ (h, t, e). (h, t, found-plan (verdictOf s) h t .0 (same-answer (found h t) .0 e)),
+        λ (h, t, e). (h, t, same-answer (found h t) .1 (found-plan (verdictOf s) h t .1 e)),
+      )
       (plan-iff (Goes W) (Ends W) (search (movesIn W) (finalIn W)) (means W) (boundOf s) (firstOf s))
 
   -- "13 exactly when none does and no run has D + 1"
@@ -146,7 +147,7 @@ module _ (s s′ : List ℕ) (accepted : Accepts s) (accepted′ : Accepts s′)
   plan-stays-plan h t e =
       let W = worldOf s in
       let r = plan-stays (Goes W) (Ends W) (search (movesIn W) (finalIn W)) (means W) (boundOf s′) (boundOf s) (firstOf s) h t raised
-              (found-plan (verdictOf s) h t .0 (same-answer s accepted (found h t) .0 e)) in
+      (found-plan (verdictOf s) h t .0 (same-answer s accepted (found h t) .0 e)) in
       (r .0, r .1, same-answer s′ accepted′ (found (r .0) (r .1)) .1 (found-plan (verdictOf s′) (r .0) (r .1) .1 (verdict-same ∙ r .2)))
 
   pub thirteen-stays-thirteen : planOf s ≡ Planned.refused 13 0 → planOf s′ ≡ Planned.refused 13 0
@@ -154,5 +155,5 @@ module _ (s s′ : List ℕ) (accepted : Accepts s) (accepted′ : Accepts s′)
   thirteen-stays-thirteen e =
       let W = worldOf s in
       let r = nothing-stays (Goes W) (Ends W) (search (movesIn W) (finalIn W)) (means W) (boundOf s′) (boundOf s) (firstOf s) raised
-              (answer-nothing (verdictOf s) .0 (same-answer s accepted (Planned.refused 13 0) .0 e)) in
+      (answer-nothing (verdictOf s) .0 (same-answer s accepted (Planned.refused 13 0) .0 e)) in
       same-answer s′ accepted′ (Planned.refused 13 0) .1 (answer-nothing (verdictOf s′) .1 (verdict-same ∙ r))

@@ -7,7 +7,7 @@ use native.Mathlib.Omega.{arith}
 use lib.ListN.{length, getD, drop, length-drop}
 use lib.Seq.{ext-getD, getD-take, getD-drop, length-take-le}
 use Rattle.records.specs.Bytes.{part, le16}
-use Rattle.records.specs.Records.{formulaAt, effectAt, actionAt, programAt}
+use Rattle.records.specs.Records.{programAt}
 use Rattle.height.specs.Height.{interrupts}
 use Rattle.sheet.specs.Trailer.{trailerIn, trailerOf}
 use Rattle.sheet.specs.Layout.{layoutIn, layoutOf, Fits, fluentsIn, formulasIn, effectsIn, actionsIn, programsIn}
@@ -15,7 +15,7 @@ use Rattle.sheet.specs.Check.{Accepts}
 use Rattle.sheet.specs.declared.Trailer.{Trailer}
 use Rattle.sheet.specs.declared.Layout.{Layout}
 use Rattle.sheet.proofs.Accepted.{trailed, laid}
-use Rattle.golog.specs.World.{World}
+use Rattle.golog.specs.Decoded.{world}
 use Rattle.golog.specs.Prog.{programOf, started}
 use Rattle.golog.specs.Steps.{Config}
 use Rattle.demands.specs.Decoded.{worldOf, startingWith, firstOf}
@@ -131,8 +131,7 @@ module _ (s s′ : List ℕ) (accepted : Accepts s) (accepted′ : Accepts s′)
   programs-same = table-same _ _ _ _ same-programs same-end (omega arith)
 
   pub world-same : worldOf s′ ≡ worldOf s
-  world-same =
-      λ i. record { formula = formulaAt (formulas-same i); effect = effectAt (effects-same i); action = actionAt (actions-same i) }
+  world-same = λ i. world (formulas-same i) (effects-same i) (actions-same i)
 
   pub first-same : firstOf s′ ≡ firstOf s
   first-same =

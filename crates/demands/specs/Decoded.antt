@@ -4,24 +4,20 @@ use Prim.Native.Nat.{ℕ, _-_}
 use mathlib.Core.Bool.{Bool, true, false}
 use mathlib.Core.List.{List, _++_, map}
 use lib.ListN.{replicate}
-use Rattle.records.specs.Records.{fluentAt, formulaAt, effectAt, actionAt, programAt}
+use Rattle.records.specs.Records.{fluentAt, programAt}
 use Rattle.records.specs.Table.{upTo}
 use Rattle.records.specs.declared.Program.{Program}
 use Rattle.height.specs.Height.{interrupts}
 use Rattle.sheet.specs.Layout.{layoutOf, fluentsIn, formulasIn, effectsIn, actionsIn, programsIn}
 use Rattle.golog.specs.declared.State.{State}
 use Rattle.golog.specs.World.{World}
+use Rattle.golog.specs.Decoded.{world}
 use Rattle.golog.specs.Prog.{programOf, started}
 use Rattle.golog.specs.Steps.{Config}
 
 -- the formulas, effects and actions
 abbrev pub worldOf : List ℕ → World
-worldOf s =
-    record {
-      formula = formulaAt (formulasIn s (layoutOf s));
-      effect = effectAt (effectsIn s (layoutOf s));
-      action = actionAt (actionsIn s (layoutOf s));
-    }
+worldOf s = world (formulasIn s (layoutOf s)) (effectsIn s (layoutOf s)) (actionsIn s (layoutOf s))
 
 -- the program records
 abbrev pub recordsOf : List ℕ → ℕ → Program

@@ -2,3 +2,4 @@ pub mod World
 pub mod Prog
 pub mod Trans
 pub mod Steps
+pub mod Decoded

@@ -13,7 +13,7 @@ use lib.Seq.{set-at, append-snoc, getD-at}
 use Rattle.records.specs.Table.{upTo, entryOf}
 
 module _ {B : Type 0} (d : B) where
-  getD-same : (k j : ℕ) → getD (replicate k d) j d ≡ d
+  pub getD-same : (k j : ℕ) → getD (replicate k d) j d ≡ d
   getD-same zero j = refl
   getD-same (suc k) zero = refl
   getD-same (suc k) (suc j) = getD-same k j

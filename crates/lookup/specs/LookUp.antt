@@ -1,0 +1,25 @@
+-- What a look-up answers (document 01: "looks up one fluent (its domain size and initial value)"; number 12). Assumes nothing.
+use Prim.Native.Nat.{ℕ}
+use mathlib.Core.List.{List}
+use mathlib.Core.Bool.{cond}
+use lib.Dec.{ltb}
+use Rattle.records.specs.Records.{fluentAt}
+use Rattle.sheet.specs.Layout.{layoutOf, fluentsIn}
+use Rattle.sheet.specs.Check.{checkOf}
+use Rattle.sheet.specs.declared.Checked.{Checked}
+use Rattle.sheet.specs.declared.Checked.the-variants as checked
+use Rattle.lookup.specs.declared.Looked.{Looked}
+use Rattle.lookup.specs.declared.Looked.the-variants as looked
+
+-- fluent x of a table of n: "12: lookup of a fluent not below F"
+unfoldable pub lookedIn : (fluents : List ℕ) → (n x : ℕ) → Looked
+lookedIn fluents n x =
+    cond (ltb x n) (looked.Found (fluentAt fluents x .size) (fluentAt fluents x .initial)) (looked.Refused 12 0)
+
+abbrev pub lookedUp : List ℕ → ℕ → Checked → Looked
+lookedUp s x (checked.Accepted w) = lookedIn (fluentsIn s (layoutOf s)) (layoutOf s .f) x
+lookedUp s x (checked.Refused n p) = looked.Refused n p
+
+-- fluent x of a sheet, which is checked first
+unfoldable pub lookOf : List ℕ → ℕ → Looked
+lookOf s x = lookedUp s x (checkOf s)

@@ -1,0 +1,76 @@
+-- The search over frames serves planning and replay: with a free guide and no moves it is the plain search, and with a closed guide
+-- what it says at the bound does not matter, since no plan comes of it. Assumes nothing.
+use Prim.Native.Nat.{ℕ, zero, suc}
+use mathlib.Core.Bool.{Bool, true, false, _||_}
+use mathlib.Core.List.{List, [], _∷_, _++_}
+use mathlib.Core.Option.{Option, none, some}
+use mathlib.Core.Path.{_≡_, refl, sym, _∙_, ap, ap₂}
+use Rattle.runs.specs.Search.{Verdict, plan, nothing, more, isPlan, orMore, before, tries, anyStep, unless, search}
+use Rattle.runs.specs.Guide.{follow1, follow, movesG, finG, accepts}
+use Rattle.search.specs.Outcome.{outcome, join, flagged}
+
+-- the verdict on two rows of transitions, one after the other
+before-join : (m : Option ℕ) (v r t : Verdict) → before m v (join r t) ≡ join (before m v r) t
+before-join m (plan h u) r t = refl
+before-join m nothing r t = refl
+before-join m more (plan h u) t = refl
+before-join m more nothing t = refl
+before-join m more more (plan h u) = refl
+before-join m more more nothing = refl
+before-join m more more more = refl
+
+module _ {C : Type 0} where
+  pub tries-append : (f : C → Verdict) (xs ys : List (Option ℕ × C)) → tries f (xs ++ ys) ≡ join (tries f xs) (tries f ys)
+  tries-append f [] ys = refl
+  tries-append f (x ∷ xs) ys =
+      ap (before (x .0) (f (x .1))) (tries-append f xs ys) ∙ before-join (x .0) (f (x .1)) (tries f xs) (tries f ys)
+
+  tries-free : (f : C × List ℕ → Verdict) (g : C → Verdict) → ((d : C) → f (d, []) ≡ g d) → (xs : List (Option ℕ × C)) → tries f (follow true [] xs) ≡ tries g xs
+  tries-free f g e [] = refl
+  tries-free f g e ((none, d) ∷ xs) = ap₂ (before none) (e d) (tries-free f g e xs)
+  tries-free f g e ((some a, d) ∷ xs) = ap₂ (before (some a)) (e d) (tries-free f g e xs)
+
+  -- planning
+  pub outcome-free :
+      (moves : C → List (Option ℕ × C)) (fin : C → Bool) (k : ℕ) (c : C) → outcome moves fin true k (c, []) ≡ search moves fin k c
+  outcome-free moves fin zero c = refl
+  outcome-free moves fin (suc k) c =
+      ap (unless (fin c))
+      (tries-free (λ (d : C × List ℕ). outcome moves fin true k d) (λ (d : C). search moves fin k d) (λ d. outcome-free moves fin k d) (moves c))
+
+-- whether there is a plan among two rows
+plan-before : (m : Option ℕ) (v r : Verdict) → isPlan (before m v r) ≡ (isPlan v || isPlan r)
+plan-before m (plan h t) r = refl
+plan-before m nothing r = refl
+plan-before m more (plan h t) = refl
+plan-before m more nothing = refl
+plan-before m more more = refl
+
+plan-any : {C : Type 0} (xs : List (Option ℕ × C)) → isPlan (anyStep xs) ≡ false
+plan-any [] = refl
+plan-any (x ∷ xs) = refl
+
+plan-unless : (b : Bool) (v w : Verdict) → isPlan v ≡ isPlan w → isPlan (unless b v) ≡ isPlan (unless b w)
+plan-unless true v w e = refl
+plan-unless false v w e = e
+
+module _ {C : Type 0} (moves : C → List (Option ℕ × C)) (fin : C → Bool) (free : Bool) where
+  plan-tries : {D : Type 0} (f g : D → Verdict) → ((d : D) → isPlan (f d) ≡ isPlan (g d)) → (xs : List (Option ℕ × D)) → isPlan (tries f xs) ≡ isPlan (tries g xs)
+  plan-tries f g e [] = refl
+  plan-tries f g e (x ∷ xs) =
+      plan-before (x .0) (f (x .1)) (tries f xs)
+      ∙ ap₂ _||_ (e (x .1)) (plan-tries f g e xs)
+      ∙ sym (plan-before (x .0) (g (x .1)) (tries g xs))
+
+  outcome-plan : (k : ℕ) (c : C × List ℕ) → isPlan (outcome moves fin free k c) ≡ isPlan (search (movesG free moves) (finG fin) k c)
+  outcome-plan zero c = plan-unless (finG fin c) _ _ (plan-any (moves (c .0)) ∙ sym (plan-any (movesG free moves c)))
+  outcome-plan (suc k) c =
+      plan-unless (finG fin c) _ _
+      (plan-tries (λ (d : C × List ℕ). outcome moves fin free k d) (λ (d : C × List ℕ). search (movesG free moves) (finG fin) k d)
+      (λ d. outcome-plan k d) (movesG free moves c))
+
+-- replay
+pub outcome-closed :
+    {C : Type 0} (moves : C → List (Option ℕ × C)) (fin : C → Bool) (k : ℕ) (c : C) (h : List ℕ)
+    → isPlan (outcome moves fin false k (c, h)) ≡ accepts moves fin k c h
+outcome-closed moves fin k c h = outcome-plan moves fin false k (c, h)

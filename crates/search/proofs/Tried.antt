@@ -1,0 +1,164 @@
+-- The loop over a configuration's transitions: after the first k, what they left as a flag joined with the verdict on the later ones is
+-- the verdict on all. A plan ends the loop, and its history is laid into the trace on the way back. Assumes nothing.
+use Prim.Native.Nat.{ℕ, zero, suc, _+_, _≤_, _<_}
+use native.Mathlib.Numerals.{add-one}
+use native.Mathlib.Omega.{arith}
+use mathlib.Core.Bool.{Bool, true, false}
+use mathlib.Core.List.{List, [], _∷_, _++_}
+use mathlib.Core.Option.{Option, none, some}
+use mathlib.Core.Path.{_≡_, refl, sym, _∙_, ap, ap₂, subst}
+use lib.ListN.{length, drop, set, getElem?, drop-of-length-le}
+use Rattle.runs.specs.Search.{Verdict, plan, nothing, more, orMore, before, tries}
+use Rattle.runs.specs.Guide.{follow1, follow}
+use Rattle.search.specs.Outcome.{join, flagged, lay, Says, Reported, isFound, cutAfter}
+use Rattle.search.specs.declared.Outcome.{Outcome}
+use Rattle.search.specs.declared.Outcome.the-variants.{Found, Nothing, More}
+use Rattle.search.proofs.Outcomes.{tries-append}
+
+nth-drop : {A : Type 0} (xs : List A) (k : ℕ) {x : A} → getElem? xs k ≡ some x → drop k xs ≡ x ∷ drop (suc k) xs
+nth-drop [] k h = cc
+nth-drop (a ∷ xs) zero h = cc
+nth-drop (a ∷ xs) (suc k) h = nth-drop xs k h
+
+nth-less : {A : Type 0} (xs : List A) (k : ℕ) {x : A} → getElem? xs k ≡ some x → k < length xs
+nth-less [] k h = let z : _≡_ {A = ℕ} 0 1 = cc in omega arith
+nth-less (a ∷ xs) zero h = omega arith
+nth-less (a ∷ xs) (suc k) h = let z = nth-less xs k h in omega arith
+
+-- a flag and a verdict
+flag-nothing : (cut : Bool) → join (flagged cut) nothing ≡ flagged cut
+flag-nothing true = refl
+flag-nothing false = refl
+
+flag-plan : (cut : Bool) (h : List ℕ) (t : ℕ) (r : Verdict) → join (flagged cut) (join (plan h t) r) ≡ plan h t
+flag-plan true h t r = refl
+flag-plan false h t r = refl
+
+more-twice : (r : Verdict) → orMore (orMore r) ≡ orMore r
+more-twice (plan h t) = refl
+more-twice nothing = refl
+more-twice more = refl
+
+flag-more : (cut : Bool) (r : Verdict) → join (flagged cut) (join more r) ≡ join (flagged true) r
+flag-more true r = more-twice r
+flag-more false r = refl
+
+module _ {C : Type 0} (f : C × List ℕ → Verdict) (free : Bool) (g : List ℕ) where
+  -- the verdict on one transition that the guide lets pass or not, and on all of a list
+  abbrev pub branch : Option ℕ × C → Verdict
+  branch x = tries f (follow1 free g (x .0) (x .1))
+
+  abbrev pub branches : List (Option ℕ × C) → Verdict
+  branches xs = tries f (follow free g xs)
+
+  pub record Tried (xs : List (Option ℕ × C)) (k : ℕ) (cut : Bool) : Type 0 where
+    pub count : k ≤ length xs
+    pub same : join (flagged cut) (branches (drop k xs)) ≡ branches xs
+
+  pub tried-none : (xs : List (Option ℕ × C)) → Tried xs 0 false
+  tried-none xs = record { count = omega arith; same = refl }
+
+  module _ (xs : List (Option ℕ × C)) (k : ℕ) (cut : Bool) (T : Tried xs k cut) where
+    pub tried-all : length xs ≤ k → branches xs ≡ flagged cut
+    tried-all l =
+        sym (T .same)
+        ∙ ap (λ (ys : List (Option ℕ × C)). join (flagged cut) (branches ys)) (drop-of-length-le xs {i = k} l)
+        ∙ flag-nothing cut
+
+    module _ (x : Option ℕ × C) (at : getElem? xs k ≡ some x) where
+      next : join (flagged cut) (join (branch x) (branches (drop (suc k) xs))) ≡ branches xs
+      next =
+          ap (join (flagged cut)) (sym (tries-append f (follow1 free g (x .0) (x .1)) (follow free g (drop (suc k) xs))))
+          ∙ ap (λ (ys : List (Option ℕ × C)). join (flagged cut) (branches ys)) (sym (nth-drop xs k at))
+          ∙ T .same
+
+      found-here : (h : List ℕ) (t : ℕ) → branch x ≡ plan h t → branches xs ≡ plan h t
+      found-here h t e =
+          sym next
+          ∙ ap (λ (v : Verdict). join (flagged cut) (join v (branches (drop (suc k) xs)))) e
+          ∙ flag-plan cut h t (branches (drop (suc k) xs))
+
+      on : (cut′ : Bool) → join (flagged cut′) (branches (drop (suc k) xs)) ≡ branches xs → Tried xs (k + 1) cut′
+      on cut′ e =
+          record {
+            count = omega (arith, nth-less xs k at);
+            same = ap (λ (j : ℕ). join (flagged cut′) (branches (drop j xs))) (add-one k) ∙ e;
+          }
+
+      module _ (n d : ℕ) (trace trace′ : List ℕ) (o : Outcome) where
+        -- an answer that is found is that of all
+        pub tried-found : Reported n d trace trace′ o (branch x) → isFound o ≡ true → Reported n d trace trace′ o (branches xs)
+        tried-found R y = go (branch x) refl (R .says)
+          where
+            no : {v : Outcome} → o ≡ v → isFound v ≡ false → Reported n d trace trace′ o (branches xs)
+            no e z = let q : _≡_ {A = ℕ} 0 1 = let p : true ≡ false = sym y ∙ ap isFound e ∙ z in cc in absurd (omega arith)
+
+            go : (v : Verdict) → branch x ≡ v → Says n d trace trace′ o v → Reported n d trace trace′ o (branches xs)
+            go (plan h t) e s = record { says = subst (Says n d trace trace′ o) (sym (found-here h t e)) s }
+            go nothing e s = no (s .0) refl
+            go more e s = no (s .0) refl
+
+        -- one that is not leaves the trace, and a flag
+        pub tried-more : Reported n d trace trace′ o (branch x) → isFound o ≡ false → (trace′ ≡ trace) × Tried xs (k + 1) (cutAfter cut o)
+        tried-more R y = go (branch x) refl (R .says)
+          where
+            go : (v : Verdict) → branch x ≡ v → Says n d trace trace′ o v → (trace′ ≡ trace) × Tried xs (k + 1) (cutAfter cut o)
+            go (plan h t) e s = let q : _≡_ {A = ℕ} 0 1 = let p : false ≡ true = sym y ∙ ap isFound (s .0) in cc in absurd (omega arith)
+            go nothing e s = (
+              s .1,
+              subst (λ (v : Outcome). Tried xs (k + 1) (cutAfter cut v)) (sym (s .0))
+                  (on cut (ap (λ (v : Verdict). join (flagged cut) (join v (branches (drop (suc k) xs)))) (sym e) ∙ next)),
+            )
+            go more e s = (
+              s .1,
+              subst (λ (v : Outcome). Tried xs (k + 1) (cutAfter cut v)) (sym (s .0))
+                  (on true
+                  (sym (flag-more cut (branches (drop (suc k) xs)))
+                  ∙ ap (λ (v : Verdict). join (flagged cut) (join v (branches (drop (suc k) xs)))) (sym e)
+                  ∙ next)),
+            )
+
+-- how many entries a transition puts into a history, and the trace with them
+abbrev pub moved : Option ℕ → ℕ
+moved none = 0
+moved (some a) = 1
+
+-- the answer from where a transition leads is the answer of that transition: it is written down where a plan was found
+module _ {C : Type 0} (f : C × List ℕ → Verdict) (n d : ℕ) (trace trace′ : List ℕ) (o : Outcome) (c : C × List ℕ) where
+  pub after-test : Reported n (d + 1) trace trace′ o (f c) → Reported n d trace trace′ o (tries f ((none, c) ∷ []))
+  after-test R = go (f c) refl (R .says)
+    where
+      go : (v : Verdict) → f c ≡ v → Says n (d + 1) trace trace′ o v → Reported n d trace trace′ o (tries f ((none, c) ∷ []))
+      go (plan h t) e s =
+          record {
+            says =
+                subst (λ (v : Verdict). Says n d trace trace′ o (before none v nothing)) (sym e)
+                (s .0 ∙ ap (Found (n + length h)) (omega arith), s .1);
+          }
+      go nothing e s = record { says = subst (λ (v : Verdict). Says n d trace trace′ o (before none v nothing)) (sym e) s }
+      go more e s = record { says = subst (λ (v : Verdict). Says n d trace trace′ o (before none v nothing)) (sym e) s }
+
+  module _ (a : ℕ) (R : Reported (n + 1) (d + 1) trace trace′ o (f c)) where
+    pub after-move : isFound o ≡ true → Reported n d trace (set trace′ n a) o (tries f ((some a, c) ∷ []))
+    after-move y = go (f c) refl (R .says)
+      where
+        no : {v : Outcome} → o ≡ v → isFound v ≡ false → Reported n d trace (set trace′ n a) o (tries f ((some a, c) ∷ []))
+        no e z = let q : _≡_ {A = ℕ} 0 1 = let p : true ≡ false = sym y ∙ ap isFound e ∙ z in cc in absurd (omega arith)
+
+        go : (v : Verdict) → f c ≡ v → Says (n + 1) (d + 1) trace trace′ o v → Reported n d trace (set trace′ n a) o (tries f ((some a, c) ∷ []))
+        go (plan h t) e s =
+            record {
+              says =
+                  subst (λ (v : Verdict). Says n d trace (set trace′ n a) o (before (some a) v nothing)) (sym e)
+                  (s .0 ∙ ap₂ Found (omega arith) (omega arith), ap (λ (l : List ℕ). set l n a) (s .1));
+            }
+        go nothing e s = no (s .0) refl
+        go more e s = no (s .0) refl
+
+    pub after-move-missed : isFound o ≡ false → Reported n d trace trace′ o (tries f ((some a, c) ∷ []))
+    after-move-missed y = go (f c) refl (R .says)
+      where
+        go : (v : Verdict) → f c ≡ v → Says (n + 1) (d + 1) trace trace′ o v → Reported n d trace trace′ o (tries f ((some a, c) ∷ []))
+        go (plan h t) e s = let q : _≡_ {A = ℕ} 0 1 = let p : false ≡ true = sym y ∙ ap isFound (s .0) in cc in absurd (omega arith)
+        go nothing e s = record { says = subst (λ (v : Verdict). Says n d trace trace′ o (before (some a) v nothing)) (sym e) s }
+        go more e s = record { says = subst (λ (v : Verdict). Says n d trace trace′ o (before (some a) v nothing)) (sym e) s }

@@ -1,0 +1,4 @@
+pub mod Held
+pub mod Performed
+pub mod Laid
+pub mod Header

@@ -1,0 +1,128 @@
+-- The laws of performing an action. A search through the effects keeps what is still to come equal to what the whole range gives; values
+-- are changed place by place; and where the truths that conditions are read from are those of a world, the outcome is golog's, since each
+-- definition here differs from golog's in nothing else. Assumes nothing.
+use Prim.Native.Nat.{ℕ, zero, suc, _+_, _-_, _≤_, _<_}
+use mathlib.Core.Path.{_≡_, refl, sym, ap, _∙_}
+use mathlib.Core.Bool.{Bool, true, false, _||_}
+use mathlib.Core.List.{List, [], _∷_}
+use native.Mathlib.Numerals.{add-one}
+use native.Mathlib.Omega.{arith}
+use native.Mathlib.Decide.{decLt}
+use borrow.Author.Tests.{ne-eqb, lt-ltb}
+use lib.Dec.{eqb}
+use lib.Seq.{ext-getD}
+use lib.ListN.{getD, length}
+use Rattle.records.specs.declared.Effect.{Effect}
+use Rattle.records.specs.Records.{effectAt, actionAt}
+use Rattle.golog.specs.declared.State.{State}
+use Rattle.golog.specs.World.{start, special, each, holds, given, changed, possible, perform}
+use Rattle.golog.specs.Decoded.{world}
+use Rattle.state.specs.Truths.{Held}
+use Rattle.state.specs.Performed.{possibleBy, changesBy, givenBy, changedBy, performBy, Names, Judged}
+use Rattle.state.proofs.Laid.{Laid}
+
+module _ (effects : List ℕ) (held : List Bool) (x old : ℕ) where
+  given-none : (i : ℕ) → givenBy effects held x old i 0 ≡ old
+  unfolding givenBy
+  given-none i = refl
+
+  given-here : (i k : ℕ) → changesBy (effectAt effects i) held x ≡ true → givenBy effects held x old i (suc k) ≡ effectAt effects i .value
+  unfolding givenBy
+  given-here i k e = rw e
+
+  given-later : (i k : ℕ) → changesBy (effectAt effects i) held x ≡ false → givenBy effects held x old i (suc k) ≡ givenBy effects held x old (suc i) k
+  unfolding givenBy
+  given-later i k e = rw (e, givenBy)
+
+  -- the effects before number i change nothing
+  pub record Passed (first count value i : ℕ) : Type 0 where
+    pub «from» : first ≤ i
+    pub to : i ≤ first + count
+    pub kept : value ≡ old
+    pub same : givenBy effects held x old i (first + count - i) ≡ givenBy effects held x old first count
+
+  pub passed-none : (first count : ℕ) → Passed first count old first
+  passed-none first count = record { «from» = omega arith; to = omega arith; kept = refl; same = ap (givenBy effects held x old first) (omega arith) }
+
+  module _ {first count value i : ℕ} (p : Passed first count value i) where
+    left : i < first + count → first + count - i ≡ suc (first + count - (i + 1))
+    left l = omega arith
+
+    pub passed-more : i < first + count → {e : Effect} → e ≡ effectAt effects i → {flag : Bool} → flag ≡ changesBy e held x → flag ≡ false → Passed first count value (i + 1)
+    passed-more l {e} r f t = record {
+      «from» = omega arith;
+      to = omega arith;
+      kept = p .kept;
+      same =
+          ap (λ (j : ℕ). givenBy effects held x old j (first + count - (i + 1))) (add-one i)
+          ∙ sym (given-later i (first + count - (i + 1)) (ap (λ (e : Effect). changesBy e held x) (sym r) ∙ sym f ∙ t))
+          ∙ ap (givenBy effects held x old i) (sym (left l))
+          ∙ p .same;
+    }
+
+    pub passed-found : i < first + count → {e : Effect} → e ≡ effectAt effects i → {flag : Bool} → flag ≡ changesBy e held x → flag ≡ true → e .value ≡ givenBy effects held x old first count
+    passed-found l {e} r f t =
+        ap (λ (e : Effect). e .value) r
+        ∙ sym (given-here i (first + count - (i + 1)) (ap (λ (e : Effect). changesBy e held x) (sym r) ∙ sym f ∙ t))
+        ∙ ap (givenBy effects held x old i) (sym (left l))
+        ∙ p .same
+
+    pub passed-all : first + count ≤ i → value ≡ givenBy effects held x old first count
+    passed-all l = p .kept ∙ sym (given-none i) ∙ ap (givenBy effects held x old i) (omega arith) ∙ p .same
+
+given-stays : (effects : List ℕ) (held : List Bool) (x old n k first : ℕ) → Names effects n first k → n ≤ x → givenBy effects held x old first k ≡ old
+unfolding givenBy
+given-stays effects held x old n zero first h l = refl
+given-stays effects held x old n (suc k) first h l =
+    let stays : eqb (effectAt effects first .fluent) x ≡ false = ne-eqb (effectAt effects first .fluent) x (λ (e : effectAt effects first .fluent ≡ x). omega (arith, h first (omega arith) (omega arith))) in
+    rw (stays, givenBy) (given-stays effects held x old n k (suc first) (λ i a b. h i (omega arith) (omega arith)) l)
+
+length-each : (f : ℕ → ℕ → ℕ) (x : ℕ) (l : List ℕ) → length (each f x l) ≡ length l
+unfolding each
+length-each f x [] = refl
+length-each f x (v ∷ l) = ap suc (length-each f (suc x) l)
+
+each-at : (f : ℕ → ℕ → ℕ) (x : ℕ) (l : List ℕ) (j : ℕ) → j < length l → getD (each f x l) j 0 ≡ f (x + j) (getD l j 0)
+unfolding each
+each-at f x [] j h = absurd (omega arith)
+each-at f x (v ∷ l) zero h = ap (λ (y : ℕ). f y v) (omega arith)
+each-at f x (v ∷ l) (suc j) h = each-at f (suc x) l j (omega arith) ∙ ap (λ (y : ℕ). f y (getD l j 0)) (omega arith)
+
+-- values written up to the number that no effect passes are those after all effects
+pub changed-all : (effects : List ℕ) (held : List Bool) (first count n x : ℕ) (values new : List ℕ) → Names effects n first count → n ≤ x → Laid 0 (λ (y : ℕ). givenBy effects held y (getD values y 0) first count) values new x → new ≡ changedBy effects held first count values
+unfolding changedBy
+changed-all effects held first count n x values new h l L = ext-getD 0 new _ (L .len ∙ sym (length-each _ 0 values)) (λ j b. pick j (decLt j x) (omega (arith, L .len)) ∙ sym (each-at _ 0 values j (omega (arith, L .len))))
+  where
+    pick : (j : ℕ) → Dec (j < x) → j < length values → getD new j 0 ≡ givenBy effects held (0 + j) (getD values j 0) first count
+    pick j (yes q) b = ap (λ (y : ℕ). getD new y 0) (omega arith) ∙ L .laid j q ∙ ap (λ (y : ℕ). givenBy effects held y (getD values j 0) first count) (omega arith)
+    pick j (no q) b = L .above j (omega arith) ∙ sym (given-stays effects held (0 + j) (getD values j 0) n count first h (omega arith))
+
+each-same : (f g : ℕ → ℕ → ℕ) → ((x v : ℕ) → f x v ≡ g x v) → (x : ℕ) (l : List ℕ) → each f x l ≡ each g x l
+unfolding each
+each-same f g h x [] = refl
+each-same f g h x (v ∷ l) = rw (h x v, each-same f g h (suc x) l)
+
+-- where `held` has what the first n formulas say in s
+module _ (formulas effects actions : List ℕ) (s : State) (n : ℕ) (held : List Bool) (H : Held (world formulas effects actions) s n held) where
+  -- possible is golog's, for an action whose precondition is among them
+  pub possible-is : (a : ℕ) → (a < start → actionAt actions a .precondition < n) → possibleBy actions held a ≡ possible (world formulas effects actions) a s
+  unfolding possible
+  possible-is a h = go (decLt a start)
+    where
+      go : Dec (a < start) → possibleBy actions held a ≡ (special a || holds (world formulas effects actions) (actionAt actions a .precondition) s)
+      go (yes l) = rw (H (actionAt actions a .precondition) (h l))
+      go (no l) = rw (lt-ltb 65533 a (omega arith))
+
+  given-is : (x old k i : ℕ) → Judged effects n i k → givenBy effects held x old i k ≡ given (world formulas effects actions) s x old i k
+  unfolding givenBy given
+  given-is x old zero i h = refl
+  given-is x old (suc k) i h = rw (H (effectAt effects i .condition) (h i (omega arith) (omega arith)), given-is x old k (suc i) (λ j a b. h j (omega arith) (omega arith)))
+
+  -- performing is golog's, for an action whose effects' conditions are among them
+  pub perform-is : (a : ℕ) → (a < start → Judged effects n (actionAt actions a .first) (actionAt actions a .count)) → performBy effects actions held a s ≡ perform (world formulas effects actions) a s
+  unfolding performBy perform changedBy changed
+  perform-is a h = go (decLt a start)
+    where
+      go : Dec (a < start) → performBy effects actions held a s ≡ perform (world formulas effects actions) a s
+      go (yes l) = rw (each-same _ _ (λ x v. given-is x v (actionAt actions a .count) (actionAt actions a .first) (h l)) 0 (s .values))
+      go (no l) = rw (lt-ltb 65533 a (omega arith))

@@ -1,0 +1,56 @@
+-- The loop writes the new values of the fluents below n, each from the old ones; no effect names a fluent from n on. Assumes nothing.
+use Prim.Native.Nat.{ℕ, _-_, _≤_}
+use mathlib.Core.Path.{_≡_}
+use native.Mathlib.Omega.{arith}
+use borrow.Author.Needs.{needs}
+use lib.ListN.{getD, length}
+use Rattle.state.specs.Performed.{givenBy}
+use Rattle.state.proofs.Laid.{Laid, laid-none, laid-more}
+use Rattle.state.proofs.Performed.{changed-all}
+use Rattle.state.proofs.changed.Statement.{statement}
+use Rattle.state.proofs.changed.Tie as tie
+
+abbrev Inv-loop : tie.InvT-loop
+Inv-loop effects first count n held values new₀ x₀ new x = (x ≤ n) × (length values ≡ 32) × Laid 0 (λ (y : ℕ). givenBy effects held y (getD values y 0) first count) values new x
+
+abbrev μ-loop : tie.MeasureT-loop
+μ-loop effects first count n held values new₀ x₀ new x = n - x
+
+loop-holds : tie.Need-loop-holds Inv-loop μ-loop
+loop-holds c = (omega arith, search needs, laid-none _ _ _)
+
+array-read-new-value : tie.Need-array-read-new-value Inv-loop μ-loop
+array-read-new-value c = search needs
+
+new-value-requires : tie.Need-new-value-requires Inv-loop μ-loop
+new-value-requires c κs = search needs
+
+array-write-new : tie.Need-array-write-new Inv-loop μ-loop
+array-write-new c = omega (arith, c .before .before .loop .inv .2 .len)
+
+add-x : tie.Need-add-x Inv-loop μ-loop
+add-x c = search needs
+
+loop-less : tie.Need-loop-less Inv-loop μ-loop
+loop-less c = search needs
+
+loop-again : tie.Need-loop-again Inv-loop μ-loop
+loop-again c = (omega arith, c .before .before .loop .inv .1, laid-more _ _ _ (c .before .before .loop .inv .2) (omega arith) (omega arith) (c .new-value .ensures))
+
+returns : tie.Need-returns Inv-loop μ-loop
+returns c = changed-all _ _ _ _ _ _ _ _ (c .before .before .before .before .pre .1) (c .loop-test .left) (c .before .loop .inv .2)
+
+pub changed-spec : {M : Type 1} → statement M
+changed-spec =
+    tie.close
+    (tie.spec
+    Inv-loop
+    μ-loop
+    loop-holds
+    array-read-new-value
+    new-value-requires
+    array-write-new
+    add-x
+    loop-less
+    loop-again
+    returns)

@@ -1,0 +1,23 @@
+-- Start and stop stand above every action's number and switch the flag; any other action's range is read in its record. Assumes nothing.
+use native.Mathlib.Omega.{arith}
+use borrow.Author.Tests.{lt-ltb, le-ltb}
+use Rattle.state.specs.Performed.{performBy}
+use Rattle.state.proofs.perform.Statement.{statement}
+use Rattle.state.proofs.perform.Tie as tie
+
+returns : tie.Need-returns
+unfolding performBy
+returns c = rw (lt-ltb _ _ (c .if1 .taken))
+
+action-at-requires : tie.Need-action-at-requires
+action-at-requires c κs = c .before .before .before .before .before .pre .0 .known (omega arith)
+
+changed-requires : tie.Need-changed-requires
+changed-requires c κs = let p = c .before .before .before .before .before .before .pre in rw (c .action-at .ensures .0) ((p .0 .range (omega arith), p .1), p .0 .names (omega arith))
+
+returns-2 : tie.Need-returns-2
+unfolding performBy
+returns-2 c = rw (le-ltb _ _ (c .before .before .if1 .left), ← c .before .action-at .ensures .0, c .changed .ensures)
+
+pub perform-spec : {M : Type 1} → statement M
+perform-spec = tie.close (tie.spec returns action-at-requires changed-requires returns-2)

@@ -1,0 +1,49 @@
+-- Possible and performing as golog has them (document 01, "Moves"), with what conditions say read from a list of truths in the old values,
+-- and actions and effects from their tables. Assumes nothing.
+use Prim.Native.Nat.{ℕ, zero, suc, _+_, _*_, _≤_, _<_}
+use mathlib.Core.Bool.{Bool, false, cond, _&&_, _||_}
+use mathlib.Core.List.{List}
+use lib.Dec.{eqb}
+use lib.ListN.{getD, length}
+use Rattle.records.specs.declared.Effect.{Effect}
+use Rattle.records.specs.Records.{effectAt, actionAt}
+use Rattle.golog.specs.declared.State.{State}
+use Rattle.golog.specs.World.{start, special, each}
+
+-- "An action is possible when its precondition holds"; "Start and stop are always possible"
+abbrev pub possibleBy : (actions : List ℕ) (held : List Bool) → ℕ → Bool
+possibleBy actions held a = special a || getD held (actionAt actions a .precondition) false
+
+-- an effect names fluent x and its condition holds
+abbrev pub changesBy : Effect → (held : List Bool) → (x : ℕ) → Bool
+changesBy e held x = eqb (e .fluent) x && getD held (e .condition) false
+
+-- "the first effect in the action's range that names it and whose condition holds in the old values gives the new value; without one the
+-- value stays": fluent x, with the value old, under the k effects from number i on
+unfoldable pub givenBy : (effects : List ℕ) (held : List Bool) (x old i k : ℕ) → ℕ
+givenBy effects held x old i zero = old
+givenBy effects held x old i (suc k) = let later : ℕ = givenBy effects held x old (suc i) k in cond (changesBy (effectAt effects i) held x) (effectAt effects i .value) later
+
+-- the values after the count effects from number first on
+unfoldable pub changedBy : (effects : List ℕ) (held : List Bool) (first count : ℕ) (values : List ℕ) → List ℕ
+changedBy effects held first count values = each (λ (x old : ℕ). givenBy effects held x old first count) 0 values
+
+-- start and stop switch whether interrupts run, other actions change values
+unfoldable pub performBy : (effects actions : List ℕ) (held : List Bool) → ℕ → State → State
+performBy effects actions held a s =
+    let new : List ℕ = changedBy effects held (actionAt actions a .first) (actionAt actions a .count) (s .values) in
+    record { values = cond (special a) (s .values) new; running = cond (special a) (eqb a start) (s .running) }
+
+-- of the count effects from number first on: each names a fluent below n
+abbrev pub Names : (effects : List ℕ) (n first count : ℕ) → Type 0
+Names effects n first count = (i : ℕ) → first ≤ i → i < first + count → effectAt effects i .fluent < n
+
+-- each has its condition among the first n formulas
+abbrev pub Judged : (effects : List ℕ) (n first count : ℕ) → Type 0
+Judged effects n first count = (i : ℕ) → first ≤ i → i < first + count → effectAt effects i .condition < n
+
+-- action a is start, stop or one of the table; its range lies in the table of effects and names fluents below n
+pub record Performable (effects actions : List ℕ) (n a : ℕ) : Type 0 where
+  pub known : a < start → 6 * a + 6 ≤ length actions
+  pub range : a < start → 4 * (actionAt actions a .first + actionAt actions a .count) ≤ length effects
+  pub names : a < start → Names effects n (actionAt actions a .first) (actionAt actions a .count)

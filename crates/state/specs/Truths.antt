@@ -1,0 +1,22 @@
+-- What the formulas of a table say of values, as a table of 512 places. Assumes nothing.
+use Prim.Native.Nat.{ℕ, _-_, _<_}
+use mathlib.Core.Path.{_≡_}
+use mathlib.Core.Bool.{Bool, false}
+use mathlib.Core.List.{List, _++_}
+use lib.ListN.{getD, replicate}
+use Rattle.records.specs.Records.{formulaAt}
+use Rattle.records.specs.Table.{upTo}
+use Rattle.golog.specs.declared.State.{State}
+use Rattle.golog.specs.World.{World, truthOf, holds}
+
+-- document 01, "Formula": formula i of the table t, given what the lower ones say (golog's `truthAt`)
+abbrev pub truthIn : (t values : List ℕ) → ℕ → (lower : List Bool) → Bool
+truthIn t values i lower = truthOf (formulaAt t i) values lower
+
+-- the first n formulas, false in the places after them
+unfoldable pub truthsOf : (t values : List ℕ) → ℕ → List Bool
+truthsOf t values n = upTo (truthIn t values) n ++ replicate (512 - n) false
+
+-- `held` has what each of the first n formulas says in s
+abbrev pub Held : World → State → ℕ → List Bool → Type 0
+Held W s n held = (q : ℕ) → q < n → getD held q false ≡ holds W q s

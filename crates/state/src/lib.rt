@@ -1,0 +1,185 @@
+// One state: what all formulas say of it, which actions are possible, the state after an action, and the state in words.
+ghost use mathlib.Core.Path.{_≡_};
+ghost use mathlib.Core.Bool.{false, cond};
+ghost use Prim.Native.Nat.{_+_, _*_, _≤_, _<_};
+ghost use lib.ListN.{length, getD};
+ghost use Rattle.records.specs.Records.{formulaAt};
+ghost use Rattle.golog.specs.declared.State.{State};
+ghost use Rattle.golog.specs.World.{truthOf, start};
+ghost use Rattle.state.specs.Truths.{truthsOf};
+ghost use Rattle.state.specs.Performed.{possibleBy, changesBy, givenBy, changedBy, performBy, Names, Performable};
+ghost use Rattle.state.specs.Header.{StateAt, StatePut};
+use golog::State;
+use records::Effect;
+
+// What a list of truths says of formula q, false past its end.
+pub fn holds_in(held: &[bool], q: usize) -> bool
+    ensures { λ r. ⌜ r ≡ getD (now (held .entry)) q false ⌝ }
+{
+    if q < held.len() { held[q] } else { false }
+}
+
+// The value of fluent x, 0 past the end.
+fn value_in(values: &[u8], x: usize) -> usize
+    ensures { λ r. ⌜ r ≡ getD (now (values .entry)) x 0 ⌝ }
+{
+    if x < values.len() {
+        records::wide(values[x])
+    } else {
+        0
+    }
+}
+
+// What formula i says, where `lower` has what the formulas before it say.
+fn truth_at(formulas: &[u8], i: usize, values: &[u8], lower: &[bool]) -> bool
+    requires { ⌜ 6 * i + 6 ≤ length (now formulas) ⌝ }
+    ensures { λ r. ⌜ r ≡ truthOf (formulaAt (now (formulas .entry)) i) (now (values .entry)) (now (lower .entry)) ⌝ }
+{
+    let f = records::formula_at(formulas, i);
+    let kind = f.kind;
+    match kind {
+        0 => true,
+        2 => value_in(values, f.x) == f.a,
+        3 => value_in(values, f.x) < f.a,
+        4 => value_in(values, f.x) == value_in(values, f.a),
+        5 => !holds_in(lower, f.a),
+        6 => holds_in(lower, f.a) & holds_in(lower, f.b),
+        7 => holds_in(lower, f.a) | holds_in(lower, f.b),
+        _ => false,
+    }
+}
+
+// What each of the first n formulas says of a state: one pass upwards, since a formula names lower ones only.
+pub fn truths(formulas: &[u8], n: usize, s: State) -> [bool; 512]
+    requires { ⌜ (6 * n ≤ length (now formulas)) × (n ≤ 512) ⌝ }
+    ensures { λ r. ⌜ r ≡ truthsOf (now (formulas .entry)) (s .values) n ⌝ }
+{
+    let values = s.values;
+    let mut held = [false; 512];
+    let mut i = 0;
+    while i < n {
+        let r = truth_at(formulas, i, &values, &held);
+        held[i] = r;
+        i += 1;
+    }
+    held
+}
+
+// Whether action a is possible, where `held` has what the formulas say.
+pub fn can(actions: &[u8], held: &[bool], a: usize) -> bool
+    requires { ⌜ (a < start → 6 * a + 6 ≤ length (now actions)) ⌝ }
+    ensures { λ r. ⌜ r ≡ possibleBy (now (actions .entry)) (now (held .entry)) a ⌝ }
+{
+    if 65533 < a {
+        return true;
+    }
+    let r = records::action_at(actions, a);
+    holds_in(held, r.precondition)
+}
+
+// Whether an effect names fluent x and its condition holds.
+fn changes(e: Effect, held: &[bool], x: usize) -> bool
+    ensures { λ r. ⌜ r ≡ changesBy e (now (held .entry)) x ⌝ }
+{
+    (e.fluent == x) & holds_in(held, e.condition)
+}
+
+// The new value of fluent x under an action's effects.
+fn new_value(effects: &[u8], first: usize, count: usize, held: &[bool], x: usize, old: u8) -> u8
+    requires { ⌜ 4 * (first + count) ≤ length (now effects) ⌝ }
+    ensures { λ r. ⌜ r ≡ givenBy (now (effects .entry)) (now (held .entry)) x old first count ⌝ }
+{
+    let end = first + count;
+    let mut value = old;
+    let mut i = first;
+    'effects: while i < end {
+        let e = records::effect_at(effects, i);
+        if changes(e, held, x) {
+            value = e.value as u8;
+            break 'effects;
+        }
+        i += 1;
+    }
+    value
+}
+
+// The values after an action's effects, which name fluents below n.
+fn changed(
+    effects: &[u8],
+    first: usize,
+    count: usize,
+    n: usize,
+    held: &[bool],
+    values: [u8; 32],
+) -> [u8; 32]
+    requires { ⌜ (4 * (first + count) ≤ length (now effects)) × (n ≤ 32) ⌝ }
+    requires { ⌜ Names (now effects) n first count ⌝ }
+    ensures { λ r. ⌜ r ≡ changedBy (now (effects .entry)) (now (held .entry)) first count values ⌝ }
+{
+    let mut new = values;
+    let mut x = 0;
+    while x < n {
+        new[x] = new_value(effects, first, count, held, x, values[x]);
+        x += 1;
+    }
+    new
+}
+
+// The state after action a, where n is the number of fluents and `held` has what the formulas say of s.
+pub fn perform(effects: &[u8], actions: &[u8], n: usize, held: &[bool], a: usize, s: State) -> State
+    requires { ⌜ Performable (now effects) (now actions) n a ⌝ }
+    requires { ⌜ n ≤ 32 ⌝ }
+    ensures { λ r. ⌜ r ≡ performBy (now (effects .entry)) (now (actions .entry)) (now (held .entry)) a s ⌝ }
+{
+    let values = s.values;
+    if 65533 < a {
+        return State {
+            values,
+            running: a == 65534,
+        };
+    }
+    let r = records::action_at(actions, a);
+    let new = changed(effects, r.first, r.count, n, held, values);
+    State {
+        values: new,
+        running: s.running,
+    }
+}
+
+// A flag as a word.
+fn bit(b: bool) -> u32
+    ensures { λ r. ⌜ r ≡ cond b 1 0 ⌝ }
+{
+    if b { 1 } else { 0 }
+}
+
+// Writes a state into the 33 words from `at` on.
+pub fn write_state(work: &mut [u32], at: usize, s: State)
+    requires { ⌜ at + 33 ≤ length (now work) ⌝ }
+    ensures { λ _. ⌜ StatePut s at (now (work .entry)) (now (work .exit)) ⌝ }
+{
+    let values = s.values;
+    let mut x = 0;
+    while x < 32 {
+        work[at + x] = values[x] as u32;
+        x += 1;
+    }
+    work[at + 32] = bit(s.running);
+}
+
+// The state in the 33 words from `at` on.
+pub fn read_state(work: &[u32], at: usize) -> State
+    requires { ⌜ ((s : State) × StateAt s (now work) at) ⌝ }
+    ensures { λ r. ⌜ ((s : State) → StateAt s (now (work .entry)) at → r ≡ s) ⌝ }
+{
+    let mut values = [0; 32];
+    let mut x = 0;
+    while x < 32 {
+        values[x] = work[at + x] as u8;
+        x += 1;
+    }
+    State {
+        values,
+        running: work[at + 32] == 1,
+    }
+}
