@@ -1,0 +1,92 @@
+-- What planning and replay answer and leave, for every input (document 01, "Work area" and "Who can cause which number"), over what
+-- `demands` says of the sheet alone. Which plan and which t come out the papers leave free: here those of `planOf`, the first found
+-- depth first in listed order; what holds of them is in proofs/Demands.antt. Assumes nothing.
+use Prim.Native.Nat.{ℕ, _-_}
+use mathlib.Core.Bool.{Bool, true, false, cond}
+use mathlib.Core.List.{List, _++_}
+use lib.ListN.{length, drop, replicate}
+use lib.Dec.{ltb}
+use Rattle.sheet.specs.Check.{checkOf}
+use Rattle.sheet.specs.declared.Checked.{Checked}
+use Rattle.sheet.specs.declared.Checked.the-variants as checked
+use Rattle.demands.specs.Decoded.{boundOf}
+use Rattle.demands.specs.Planning as meant
+use Rattle.demands.specs.Planning.{planOf, replayOf}
+use Rattle.planner.specs.declared.Planned.{Planned}
+use Rattle.planner.specs.declared.Planned.the-variants as planned
+use Rattle.planner.specs.declared.Replayed.{Replayed}
+use Rattle.planner.specs.declared.Replayed.the-variants as replayed
+
+-- how far a call comes: turned away by a number and a place, or searching with w words of work
+pub data Stage : Type 0 where
+  refused : (number place : ℕ) → Stage
+  searching : (w : ℕ) → Stage
+
+-- 11: work shorter than required
+abbrev pub withWork : (work w : ℕ) → Stage
+withWork work w = cond (ltb work w) (refused 11 0) (searching w)
+
+-- replay: 1 to 9, then 11
+abbrev pub replayChecked : (work : ℕ) → Checked → Stage
+replayChecked work (checked.Accepted w) = withWork work w
+replayChecked work (checked.Refused n p) = refused n p
+
+abbrev pub replayStage : List ℕ → (work : ℕ) → Stage
+replayStage s work = replayChecked work (checkOf s)
+
+-- planning: 1 to 9, then 10 where the trace is shorter than D, then 11
+abbrev pub planChecked : List ℕ → (work trace : ℕ) → Checked → Stage
+planChecked s work trace (checked.Accepted w) = cond (ltb trace (boundOf s)) (refused 10 0) (withWork work w)
+planChecked s work trace (checked.Refused n p) = refused n p
+
+abbrev pub planStage : List ℕ → (work trace : ℕ) → Stage
+planStage s work trace = planChecked s work trace (checkOf s)
+
+-- planning's answer: n moves and t transitions, or a number and a place
+abbrev pub planAnswer : meant.Planned → Planned
+planAnswer (meant.found h t) = planned.Found (length h) t
+planAnswer (meant.Planned.refused n p) = planned.Refused n p
+
+abbrev pub planAt : List ℕ → Stage → Planned
+planAt s (refused n p) = planned.Refused n p
+planAt s (searching w) = planAnswer (planOf s)
+
+-- the trace: "the first n trace entries hold it, the rest are untouched"; "untouched under every number"
+abbrev pub traced : meant.Planned → List ℕ → List ℕ
+traced (meant.found h t) trace = h ++ drop (length h) trace
+traced (meant.Planned.refused n p) trace = trace
+
+abbrev pub traceAt : List ℕ → Stage → List ℕ → List ℕ
+traceAt s (refused n p) trace = trace
+traceAt s (searching w) trace = traced (planOf s) trace
+
+-- work: untouched under 1 to 12; else "the required work words are 0 and those beyond untouched"
+abbrev pub workAt : Stage → List ℕ → List ℕ
+workAt (refused n p) work = work
+workAt (searching w) work = replicate w 0 ++ drop w work
+
+-- what `plan` answers and leaves
+unfoldable pub answerOf : List ℕ → (work trace : ℕ) → Planned
+answerOf s work trace = planAt s (planStage s work trace)
+
+unfoldable pub traceOf : List ℕ → (work : ℕ) → List ℕ → List ℕ
+traceOf s work trace = traceAt s (planStage s work (length trace)) trace
+
+unfoldable pub planWork : List ℕ → List ℕ → (trace : ℕ) → List ℕ
+planWork s work trace = workAt (planStage s (length work) trace) work
+
+-- what `replay` answers and leaves
+abbrev pub reply : meant.Replayed → Replayed
+reply (meant.replied true) = replayed.Yes
+reply (meant.replied false) = replayed.No
+reply (meant.Replayed.refused n p) = replayed.Refused n p
+
+abbrev pub replayAt : List ℕ → List ℕ → Stage → Replayed
+replayAt s h (refused n p) = replayed.Refused n p
+replayAt s h (searching w) = reply (replayOf s h)
+
+unfoldable pub replyOf : List ℕ → List ℕ → (work : ℕ) → Replayed
+replyOf s h work = replayAt s h (replayStage s work)
+
+unfoldable pub replayWork : List ℕ → List ℕ → List ℕ
+replayWork s work = workAt (replayStage s (length work)) work
