@@ -8,8 +8,11 @@
 //! Nothing here links to the verified library. A program or test that compares the two takes its sheets and
 //! histories from [`random`], its own answers from [`sheet`] and [`planner`], and brings the link itself.
 
+pub mod examples;
 pub mod meaning;
 pub mod planner;
+pub mod program;
 pub mod random;
 pub mod sheet;
+pub mod source;
 pub mod write;

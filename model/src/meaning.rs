@@ -1,6 +1,7 @@
 //! "Moves" and "Steps and endings (000, sections 4 and 5)".
 
 use crate::sheet::{Formula, Program, Sheet};
+use std::ops::ControlFlow::{self, Break, Continue};
 use std::rc::Rc;
 
 /// The history entry of start.
@@ -106,7 +107,7 @@ impl Configuration {
         Moment::new(sheet, self.state).is_final(&self.program)
     }
 
-    /// Trans: every transition in listed order, once for each branch that yields it.
+    /// Trans: every transition in listed order.
     pub fn transitions(&self, sheet: &Sheet) -> Vec<Transition> {
         Moment::new(sheet, self.state).transitions(&self.program)
     }
@@ -178,61 +179,83 @@ impl<'a> Moment<'a> {
         }
     }
 
-    /// Trans of the paper as a list: the transitions of a before those of b.
-    pub fn transitions(&self, program: &Rc<Prog>) -> Vec<Transition> {
+    /// Trans of the paper: hands `found` each transition in listed order, those of a before those of b and once for
+    /// each branch that yields it, until `found` breaks off.
+    pub fn each<B>(&self, program: &Rc<Prog>, found: &mut dyn FnMut(Transition) -> ControlFlow<B>) -> ControlFlow<B> {
         use Prog::*;
         let this = || program.clone();
         match &**program {
-            Nil => vec![],
-            Act(a) if self.possible(*a) => leave_nil(Some(*a as u16), self.perform(*a)),
-            Act(_) => vec![],
-            Start => leave_nil(Some(START), State { interrupts: true, ..self.state }),
-            Stop => leave_nil(Some(STOP), State { interrupts: false, ..self.state }),
-            Test(f) if self.holds(*f) => leave_nil(None, self.state),
-            Test(_) => vec![],
+            Nil => Continue(()),
+            Act(a) if self.possible(*a) => found(leave_nil(Some(*a as u16), self.perform(*a))),
+            Act(_) => Continue(()),
+            Start => found(leave_nil(Some(START), State { interrupts: true, ..self.state })),
+            Stop => found(leave_nil(Some(STOP), State { interrupts: false, ..self.state })),
+            Test(f) if self.holds(*f) => found(leave_nil(None, self.state)),
+            Test(_) => Continue(()),
             Sequence(a, b) => {
-                let mut steps = wrap(self.transitions(a), |rest| Sequence(rest, b.clone()));
+                self.each(a, &mut |step| found(step.inside(|rest| Sequence(rest, b.clone()))))?;
                 if self.is_final(a) {
-                    steps.extend(self.transitions(b));
+                    self.each(b, found)?;
                 }
-                steps
+                Continue(())
             }
-            Choice(a, b) => [self.transitions(a), self.transitions(b)].concat(),
-            Star(a) => wrap(self.transitions(a), |rest| Sequence(rest, this())),
-            If(c, a, b) => self.transitions(if self.holds(*c) { a } else { b }),
-            While(c, a) if self.holds(*c) => wrap(self.transitions(a), |rest| Sequence(rest, this())),
-            While(..) => vec![],
+            Choice(a, b) => {
+                self.each(a, found)?;
+                self.each(b, found)
+            }
+            Star(a) => self.each(a, &mut |step| found(step.inside(|rest| Sequence(rest, this())))),
+            If(c, a, b) => self.each(if self.holds(*c) { a } else { b }, found),
+            While(c, a) if self.holds(*c) => {
+                self.each(a, &mut |step| found(step.inside(|rest| Sequence(rest, this()))))
+            }
+            While(..) => Continue(()),
             Together(a, b) => {
-                let of_a = wrap(self.transitions(a), |rest| Together(rest, b.clone()));
-                let of_b = wrap(self.transitions(b), |rest| Together(a.clone(), rest));
-                [of_a, of_b].concat()
+                self.each(a, &mut |step| found(step.inside(|rest| Together(rest, b.clone()))))?;
+                self.each(b, &mut |step| found(step.inside(|rest| Together(a.clone(), rest))))
             }
             Over(a, b) => {
-                let of_a = self.transitions(a);
-                if of_a.is_empty() {
-                    wrap(self.transitions(b), |rest| Over(a.clone(), rest))
-                } else {
-                    wrap(of_a, |rest| Over(rest, b.clone()))
+                let mut a_has_a_step = false;
+                self.each(a, &mut |step| {
+                    a_has_a_step = true;
+                    found(step.inside(|rest| Over(rest, b.clone())))
+                })?;
+                if !a_has_a_step {
+                    self.each(b, &mut |step| found(step.inside(|rest| Over(a.clone(), rest))))?;
                 }
+                Continue(())
             }
-            Iteration(a) => wrap(self.transitions(a), |rest| Together(rest, this())),
+            Iteration(a) => self.each(a, &mut |step| found(step.inside(|rest| Together(rest, this())))),
             Interrupt(c, a) if self.state.interrupts && self.holds(*c) => {
-                wrap(self.transitions(a), |rest| Sequence(rest, this()))
+                self.each(a, &mut |step| found(step.inside(|rest| Sequence(rest, this()))))
             }
-            Interrupt(..) => vec![],
+            Interrupt(..) => Continue(()),
         }
     }
-}
 
-/// The one transition that leaves nil.
-fn leave_nil(entry: Option<u16>, state: State) -> Vec<Transition> {
-    vec![Transition { entry, to: Configuration { program: Rc::new(Prog::Nil), state } }]
-}
-
-/// The same transitions with their remaining program put into a larger one.
-fn wrap(mut steps: Vec<Transition>, larger: impl Fn(Rc<Prog>) -> Prog) -> Vec<Transition> {
-    for step in &mut steps {
-        step.to.program = Rc::new(larger(step.to.program.clone()));
+    /// The same as a list.
+    pub fn transitions(&self, program: &Rc<Prog>) -> Vec<Transition> {
+        let mut list = vec![];
+        let _ = self.each::<()>(program, &mut |step| {
+            list.push(step);
+            Continue(())
+        });
+        list
     }
-    steps
+
+    pub fn has_a_step(&self, program: &Rc<Prog>) -> bool {
+        self.each(program, &mut |_| Break(())).is_break()
+    }
+}
+
+/// The transition that leaves nil.
+fn leave_nil(entry: Option<u16>, state: State) -> Transition {
+    Transition { entry, to: Configuration { program: Rc::new(Prog::Nil), state } }
+}
+
+impl Transition {
+    /// The same transition with its remaining program put into a larger one.
+    fn inside(mut self, larger: impl Fn(Rc<Prog>) -> Prog) -> Self {
+        self.to.program = Rc::new(larger(self.to.program));
+        self
+    }
 }

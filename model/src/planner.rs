@@ -3,6 +3,7 @@
 use crate::meaning::{Configuration, Moment};
 use crate::sheet::{Refusal, Sheet};
 use std::collections::{HashMap, HashSet};
+use std::ops::ControlFlow::{self, Break, Continue};
 
 /// Numbers 10 and 11: the entries of trace (none for replay) and the words of work that the caller lends.
 pub fn lent(sheet: &Sheet, trace: Option<usize>, work: usize) -> Result<(), Refusal> {
@@ -73,42 +74,49 @@ pub struct Plan {
 
 /// The first plan, depth first in listed order, to at most D transitions and with no memory of configurations.
 pub fn depth_first(sheet: &Sheet) -> Result<Plan, Refusal> {
-    let mut search = DepthFirst { sheet, history: vec![], longer: false };
-    match search.from(&Configuration::first(sheet), sheet.bound) {
-        Some(transitions) => Ok(Plan { history: search.history, transitions }),
-        None => Err(Refusal::number(if search.longer { 14 } else { 13 })),
-    }
+    explore(sheet).0
+}
+
+/// The same, and the number of transitions that were followed on the way.
+pub fn explore(sheet: &Sheet) -> (Result<Plan, Refusal>, usize) {
+    let mut search = DepthFirst { sheet, history: vec![], followed: 0, longer: false };
+    let answer = match search.from(&Configuration::first(sheet), 0) {
+        Break(transitions) => Ok(Plan { history: search.history, transitions }),
+        Continue(()) => Err(Refusal::number(if search.longer { 14 } else { 13 })),
+    };
+    (answer, search.followed)
 }
 
 struct DepthFirst<'a> {
     sheet: &'a Sheet,
     /// The entries on the way to the configuration that is explored.
     history: Vec<u16>,
+    /// The transitions followed so far.
+    followed: usize,
     /// Whether a run of D + 1 transitions was seen.
     longer: bool,
 }
 
 impl DepthFirst<'_> {
-    /// The transitions of the first run from here, of at most `left`, that ends final.
-    fn from(&mut self, configuration: &Configuration, left: usize) -> Option<usize> {
+    /// Explores a configuration that was reached by `made` transitions, and breaks off with the length of the first
+    /// run through it, of at most D, that ends final.
+    fn from(&mut self, configuration: &Configuration, made: usize) -> ControlFlow<usize> {
         let moment = Moment::new(self.sheet, configuration.state);
         if moment.is_final(&configuration.program) {
-            return Some(0);
+            return Break(made);
         }
-        let steps = moment.transitions(&configuration.program);
-        if left == 0 {
-            self.longer |= !steps.is_empty();
-            return None;
+        if made == self.sheet.bound {
+            self.longer = self.longer || moment.has_a_step(&configuration.program);
+            return Continue(());
         }
-        for step in steps {
-            let made = self.history.len();
+        moment.each(&configuration.program, &mut |step| {
+            let entries = self.history.len();
             self.history.extend(step.entry);
-            if let Some(transitions) = self.from(&step.to, left - 1) {
-                return Some(transitions + 1);
-            }
-            self.history.truncate(made);
-        }
-        None
+            self.followed += 1;
+            self.from(&step.to, made + 1)?;
+            self.history.truncate(entries);
+            Continue(())
+        })
     }
 }
 
@@ -120,11 +128,17 @@ pub fn runs(sheet: &Sheet, limit: usize) -> Option<usize> {
     for _ in 0..=sheet.bound {
         let mut next = HashMap::new();
         for (configuration, count) in layer {
-            for step in configuration.transitions(sheet) {
+            let moment = Moment::new(sheet, configuration.state);
+            let counted = moment.each(&configuration.program, &mut |step| {
                 *next.entry(step.to).or_insert(0) += count;
                 total += count;
-            }
-            if total > limit {
+                if total > limit {
+                    Break(())
+                } else {
+                    Continue(())
+                }
+            });
+            if counted.is_break() {
                 return None;
             }
         }

@@ -1,16 +1,18 @@
 -- The loop over a configuration's transitions: after the first k, what they left as a flag joined with the verdict on the later ones is
 -- the verdict on all. A plan ends the loop, and its history is laid into the trace on the way back. Assumes nothing.
 use Prim.Native.Nat.{ℕ, zero, suc, _+_, _≤_, _<_}
+use native.Mathlib.Nat.{add-zero}
 use native.Mathlib.Numerals.{add-one}
 use native.Mathlib.Omega.{arith}
-use mathlib.Core.Bool.{Bool, true, false}
+use mathlib.Core.Bool.{Bool, true, false, cond}
 use mathlib.Core.List.{List, [], _∷_, _++_}
 use mathlib.Core.Option.{Option, none, some}
 use mathlib.Core.Path.{_≡_, refl, sym, _∙_, ap, ap₂, subst}
 use lib.ListN.{length, drop, set, getElem?, drop-of-length-le}
 use Rattle.runs.specs.Search.{Verdict, plan, nothing, more, orMore, before, tries}
-use Rattle.runs.specs.Guide.{follow1, follow}
+use Rattle.runs.specs.Guide.{only, follow1, follow}
 use Rattle.search.specs.Outcome.{join, flagged, lay, Says, Reported, isFound, cutAfter}
+use Rattle.search.specs.Moves.{passes, leftOver, entries, noted}
 use Rattle.search.specs.declared.Outcome.{Outcome}
 use Rattle.search.specs.declared.Outcome.the-variants.{Found, Nothing, More}
 use Rattle.search.proofs.Outcomes.{tries-append}
@@ -118,11 +120,6 @@ module _ {C : Type 0} (f : C × List ℕ → Verdict) (free : Bool) (g : List �
                   ∙ next)),
             )
 
--- how many entries a transition puts into a history, and the trace with them
-abbrev pub moved : Option ℕ → ℕ
-moved none = 0
-moved (some a) = 1
-
 -- the answer from where a transition leads is the answer of that transition: it is written down where a plan was found
 module _ {C : Type 0} (f : C × List ℕ → Verdict) (n d : ℕ) (trace trace′ : List ℕ) (o : Outcome) (c : C × List ℕ) where
   pub after-test : Reported n (d + 1) trace trace′ o (f c) → Reported n d trace trace′ o (tries f ((none, c) ∷ []))
@@ -162,3 +159,37 @@ module _ {C : Type 0} (f : C × List ℕ → Verdict) (n d : ℕ) (trace trace�
         go (plan h t) e s = let q : _≡_ {A = ℕ} 0 1 = let p : false ≡ true = sym y ∙ ap isFound (s .0) in cc in absurd (omega arith)
         go nothing e s = record { says = subst (λ (v : Verdict). Says n d trace trace′ o (before (some a) v nothing)) (sym e) s }
         go more e s = record { says = subst (λ (v : Verdict). Says n d trace trace′ o (before (some a) v nothing)) (sym e) s }
+
+-- a transition that passes or not
+pub follow-passes :
+    {C : Type 0} (free : Bool) (g : List ℕ) (m : Option ℕ) (d : C)
+    → follow1 free g m d ≡ only (passes free g m) ((m, (d, leftOver g m)) ∷ [])
+follow-passes free g none d = refl
+follow-passes free [] (some a) d = refl
+follow-passes free (b ∷ g) (some a) d = refl
+
+module _
+    {C : Type 0} (f : C × List ℕ → Verdict) (free : Bool) (g : List ℕ) (m : Option ℕ) (c : C) (n d : ℕ) (trace trace′ : List ℕ)
+    (o : Outcome) where
+  -- held back by the guide, it comes to nothing
+  pub held-back : passes free g m ≡ false → Reported n d trace trace Nothing (branch f free g (m, c))
+  held-back e =
+      let q : branch f free g (m, c) ≡ nothing = ap (tries f) (follow-passes free g m c ∙ ap (λ (b : Bool). only b ((m, (c, leftOver g m)) ∷ [])) e) in
+      record { says = subst (Says n d trace trace Nothing) (sym q) (refl, refl) }
+
+  -- let pass, it comes to what the search from where it leads comes to, written down where that is a plan
+  pub let-pass :
+      passes free g m ≡ true
+      → Reported (n + entries m) (d + 1) trace trace′ o (f (c, leftOver g m))
+      → Reported n d trace (noted m n o trace′) o (branch f free g (m, c))
+  let-pass e R =
+      let q : branch f free g (m, c) ≡ tries f ((m, (c, leftOver g m)) ∷ []) = ap (tries f) (follow-passes free g m c ∙ ap (λ (b : Bool). only b ((m, (c, leftOver g m)) ∷ [])) e) in
+      subst (Reported n d trace (noted m n o trace′) o) (sym q) (go m R)
+    where
+      go : (m : Option ℕ) → Reported (n + entries m) (d + 1) trace trace′ o (f (c, leftOver g m)) → Reported n d trace (noted m n o trace′) o (tries f ((m, (c, leftOver g m)) ∷ []))
+      go none R = after-test f n d trace trace′ o (c, g) (subst (λ (k : ℕ). Reported k (d + 1) trace trace′ o (f (c, g))) (add-zero n) R)
+      go (some a) R = pick (isFound o) refl
+        where
+          pick : (b : Bool) → isFound o ≡ b → Reported n d trace (cond (isFound o) (set trace′ n a) trace′) o (tries f ((some a, (c, leftOver g (some a))) ∷ []))
+          pick true y = subst (λ (b : Bool). Reported n d trace (cond b (set trace′ n a) trace′) o (tries f ((some a, (c, leftOver g (some a))) ∷ []))) (sym y) (after-move f n d trace trace′ o (c, leftOver g (some a)) a R y)
+          pick false y = subst (λ (b : Bool). Reported n d trace (cond b (set trace′ n a) trace′) o (tries f ((some a, (c, leftOver g (some a))) ∷ []))) (sym y) (after-move-missed f n d trace trace′ o (c, leftOver g (some a)) a R y)

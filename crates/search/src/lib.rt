@@ -1,15 +1,56 @@
 // The bounded depth-first search over frames.
 ghost use mathlib.Core.Path.{_≡_};
-ghost use Prim.Native.Nat.{_*_, _≤_};
-ghost use lib.ListN.{length, replicate};
-ghost use Rattle.demands.specs.Decoded.{startingWith};
+ghost use mathlib.Core.Bool.{Bool, cond, _&&_};
+ghost use mathlib.Core.Option.{Option};
+ghost use Prim.Native.Nat.{ℕ, _+_, _*_, _≤_, _<_};
+ghost use lib.ListN.{length, replicate, drop};
+ghost use Rattle.golog.specs.World.{after};
+ghost use Rattle.demands.specs.Decoded.{startingWith, worldOf, boundOf};
+ghost use Rattle.sheet.specs.Layout.{layoutOf};
+ghost use Rattle.sheet.specs.Check.{Accepts};
+ghost use Rattle.state.specs.Truths.{Held};
+ghost use Rattle.state.specs.Header.{Full};
+ghost use Rattle.golog.specs.declared.State.{State};
+ghost use Rattle.runs.specs.Guide.{isNil};
+ghost use Rattle.held.specs.Rest.{Rest};
+ghost use Rattle.held.specs.Leaves.{restSteps};
+ghost use Rattle.demands.specs.Held.{heldRecords, heldFirst, levelsOf};
+ghost use Rattle.height.specs.Work.{frameWords, workWords};
+ghost use Rattle.held.specs.Extended.{top};
+ghost use Rattle.words.specs.Words.{At, Holds, Kept};
+ghost use Rattle.ends.specs.Ends.{finalIn};
+ghost use Rattle.steps.specs.Laid.{codeOf};
+ghost use Rattle.search.specs.Outcome.{Reported, isFound, cutAfter};
+ghost use Rattle.search.specs.Frames.{Config, Stands, Tasked, Ready, Counts, Surveyed, outcomeOf, branchesOf, Branched};
+ghost use Rattle.search.specs.Moves.{Known, Action, passes, leftOver, entries, noted};
 use golog::State;
+use leaves::Tally;
+use sheet::Layout;
+use steps::Turn;
 
 // What a search comes to: a run that ends final, of n moves and t transitions; none at all; none within the bound.
 pub enum Outcome {
     Found { n: usize, t: usize },
     Nothing,
     More,
+}
+
+// What stays the same throughout a search: where the tables lie, whether there are interrupts, whether moves may follow those that are
+// given, and the words of a frame.
+pub struct Task {
+    pub layout: Layout,
+    pub interrupts: bool,
+    pub free: bool,
+    pub frame: usize,
+}
+
+// Where a search stands: its frame, the transitions left, the given moves made, the moves and the transitions made.
+pub struct Place {
+    pub at: usize,
+    pub left: usize,
+    pub j: usize,
+    pub n: usize,
+    pub d: usize,
 }
 
 fn byte(x: usize) -> u8
@@ -46,4 +87,288 @@ fn clear(work: &mut [u32])
         work[i] = 0;
         i += 1;
     }
+}
+
+fn found(o: Outcome) -> bool
+    ensures { λ r. ⌜ r ≡ isFound o ⌝ }
+{
+    match o {
+        Outcome::Found { n: _, t: _ } => true,
+        Outcome::Nothing => false,
+        Outcome::More => false,
+    }
+}
+
+fn cut_after(cut: bool, o: Outcome) -> bool
+    ensures { λ r. ⌜ r ≡ cutAfter cut o ⌝ }
+{
+    match o {
+        Outcome::Found { n: _, t: _ } => cut,
+        Outcome::Nothing => cut,
+        Outcome::More => true,
+    }
+}
+
+// Whether the guide lets a transition pass, j of the moves having been made: a test always, else the next move, or any where none is
+// left and more may follow.
+fn lets_pass(moves: &[u16], j: usize, free: bool, entry: u32) -> bool
+    requires { ⌜ j ≤ length (now moves) ⌝ }
+    ensures { λ r. ⌜ ((m : Option ℕ) → Known (λ (a : ℕ). a < 65536) m → entry ≡ codeOf m → r ≡ passes free (drop j (now (moves .entry))) m) ⌝ }
+{
+    if entry == 65536 {
+        return true;
+    }
+    if j < moves.len() {
+        return moves[j] as u32 == entry;
+    }
+    free
+}
+
+// How many of the moves have been made after a transition that passed.
+fn made_after(moves: &[u16], j: usize, entry: u32) -> usize
+    requires { ⌜ j ≤ length (now moves) ⌝ }
+    ensures { λ r. ⌜ r ≤ length (now (moves .entry)) ⌝ }
+    ensures { λ r. ⌜ ((m : Option ℕ) → Known (λ (a : ℕ). a < 65536) m → entry ≡ codeOf m → drop r (now (moves .entry)) ≡ leftOver (drop j (now (moves .entry))) m) ⌝ }
+{
+    if entry == 65536 {
+        return j;
+    }
+    if j < moves.len() {
+        return j + 1;
+    }
+    j
+}
+
+// How many entries a transition puts into a history.
+fn entries_of(entry: u32) -> usize
+    ensures { λ r. ⌜ r ≤ 1 ⌝ }
+    ensures { λ r. ⌜ ((m : Option ℕ) → Known (λ (a : ℕ). a < 65536) m → entry ≡ codeOf m → r ≡ entries m) ⌝ }
+{
+    if entry == 65536 { 0 } else { 1 }
+}
+
+// Writes a move into place n of the trace, where a plan was found behind it.
+fn note(trace: &mut [u16], n: usize, entry: u32, o: Outcome)
+    requires { ⌜ n < length (now trace) ⌝ }
+    requires { ⌜ entry ≤ 65536 ⌝ }
+    ensures { λ _. ⌜ ((m : Option ℕ) → Known (λ (a : ℕ). a < 65536) m → entry ≡ codeOf m → now (trace .exit) ≡ noted m n o (now (trace .entry))) ⌝ }
+{
+    if entry < 65536 {
+        if found(o) {
+            trace[n] = entry as u16;
+        }
+    }
+}
+
+// The state after a transition, where `held` has what the formulas say in the state before it.
+fn state_after(s: &[u8], l: Layout, held: &[bool], entry: u32, st: State) -> State
+    requires { ⌜ Accepts (now s) × (l ≡ layoutOf (now s)) ⌝ }
+    requires { ⌜ ((m : Option ℕ) × Known (Action (now s)) m × (entry ≡ codeOf m)) ⌝ }
+    ensures { λ r. ⌜ (Held (worldOf (now (s .entry))) st (layoutOf (now (s .entry)) .q) (now (held .entry)) → (m : Option ℕ) → Known (Action (now (s .entry))) m → entry ≡ codeOf m → r ≡ after (worldOf (now (s .entry))) m st) ⌝ }
+{
+    if entry == 65536 {
+        return st;
+    }
+    let a = l.effects;
+    let b = l.actions;
+    let c = l.programs;
+    state::perform(&s[a..b], &s[b..c], l.f, held, entry as usize, st)
+}
+
+// What the formulas of a sheet say in a state.
+fn truths_of(s: &[u8], l: Layout, st: State) -> [bool; 512]
+    requires { ⌜ Accepts (now s) × (l ≡ layoutOf (now s)) ⌝ }
+    ensures { λ r. ⌜ Held (worldOf (now (s .entry))) st (layoutOf (now (s .entry)) .q) r ⌝ }
+{
+    let a = l.formulas;
+    let b = l.effects;
+    state::truths(&s[a..b], l.q, st)
+}
+
+// Which records of a sheet are final in a state, and how many transitions each has.
+fn tally_of(s: &[u8], t: Task, held: &[bool], running: bool) -> Tally
+    requires { ⌜ Tasked (now s) t ⌝ }
+    ensures { λ r. ⌜ ((st : State) → running ≡ st .running → Held (worldOf (now (s .entry))) st (layoutOf (now (s .entry)) .q) (now (held .entry)) → Surveyed (now (s .entry)) st (now (held .entry)) (r .finals) (r .counts)) ⌝ }
+{
+    let l = t.layout;
+    let a = l.actions;
+    let b = l.programs;
+    let c = l.end;
+    leaves::tallies(&s[b..c], l.p, t.interrupts, &s[a..b], l.a, held, running)
+}
+
+// Whether no given move is left and the remaining program is final.
+fn is_over(moves: &[u16], j: usize, finals: &[bool], work: &[u32], at: usize) -> bool
+    requires { ⌜ Holds (now work) at × (j ≤ length (now moves)) ⌝ }
+    ensures { λ r. ⌜ ((g : Rest) → At g (now (work .entry)) at → r ≡ (isNil (drop j (now (moves .entry))) && finalIn (now (finals .entry)) g)) ⌝ }
+{
+    if j < moves.len() {
+        return false;
+    }
+    ends::final_rest(finals, work, at)
+}
+
+// Tries the k-th transition of the remaining program at q: makes it in the next frame and, if the guide lets it pass, searches on.
+fn try_step(
+    s: &[u8],
+    moves: &[u16],
+    held: &[bool],
+    finals: &[bool],
+    counts: &[u32],
+    work: &mut [u32],
+    trace: &mut [u16],
+    t: Task,
+    q: Place,
+    st: State,
+    k: usize,
+) -> Outcome
+    requires { ⌜ Tasked (now s) t × Surveyed (now s) st (now held) (now finals) (now counts) ⌝ }
+    requires { ⌜ ((g : Rest) × Ready (now s) (now work) t q g × (k < length (restSteps (worldOf (now s)) st (heldRecords (now s)) g))) ⌝ }
+    requires { ⌜ Counts (now moves) (now trace) q × (1 ≤ q .left) × Full (st .values) ⌝ }
+    ensures { λ r. ⌜ ((g : Rest) → At g (now (work .entry)) (q .at + 64) → Branched (now (s .entry)) (t .free) (now (moves .entry)) q st g k (now (trace .entry)) (now (trace .exit)) r) ⌝ }
+    ensures { λ _. ⌜ Kept (q .at + t .frame) (now (work .entry)) (now (work .exit)) ⌝ }
+{
+    let l = t.layout;
+    let a = l.programs;
+    let b = l.end;
+    let to = q.at + t.frame;
+    let turn = steps::step_rest(&s[a..b], l.p, t.interrupts, held, st.running, finals, counts, work, q.at + 64, to + 64, k);
+    let Turn::Made { entry, size: _ } = turn else {
+        return Outcome::Nothing;
+    };
+    if !lets_pass(moves, q.j, t.free, entry) {
+        return Outcome::Nothing;
+    }
+    state::write_state(work, to, state_after(s, l, held, entry, st));
+    let next = Place {
+        at: to,
+        left: q.left - 1,
+        j: made_after(moves, q.j, entry),
+        n: q.n + entries_of(entry),
+        d: q.d + 1,
+    };
+    let o = explore(s, moves, work, trace, t, next);
+    note(trace, q.n, entry, o);
+    o
+}
+
+// Tries all transitions of the remaining program at q, until a plan is found.
+fn try_all(
+    s: &[u8],
+    moves: &[u16],
+    held: &[bool],
+    finals: &[bool],
+    counts: &[u32],
+    work: &mut [u32],
+    trace: &mut [u16],
+    t: Task,
+    q: Place,
+    st: State,
+) -> Outcome
+    requires { ⌜ Tasked (now s) t × Surveyed (now s) st (now held) (now finals) (now counts) ⌝ }
+    requires { ⌜ ((g : Rest) × Ready (now s) (now work) t q g) ⌝ }
+    requires { ⌜ Counts (now moves) (now trace) q × (1 ≤ q .left) × Full (st .values) ⌝ }
+    ensures { λ r. ⌜ ((g : Rest) → At g (now (work .entry)) (q .at + 64) → Reported (q .n) (q .d) (now (trace .entry)) (now (trace .exit)) r (branchesOf (now (s .entry)) (t .free) (q .left) (g, st) (drop (q .j) (now (moves .entry))))) ⌝ }
+    ensures { λ _. ⌜ Kept (q .at + t .frame) (now (work .entry)) (now (work .exit)) ⌝ }
+{
+    let count = ends::count_rest(finals, counts, work, q.at + 64);
+    let mut cut = false;
+    let mut k = 0;
+    while k < count {
+        let o = try_step(s, moves, held, finals, counts, work, trace, t, q, st, k);
+        if found(o) {
+            return o;
+        }
+        cut = cut_after(cut, o);
+        k += 1;
+    }
+    if cut {
+        return Outcome::More;
+    }
+    Outcome::Nothing
+}
+
+// Searches from the configuration at q, depth first.
+fn explore(s: &[u8], moves: &[u16], work: &mut [u32], trace: &mut [u16], t: Task, q: Place) -> Outcome
+    requires { ⌜ Tasked (now s) t ⌝ }
+    requires { ⌜ ((c : Config) × Stands (now work) (q .at) c × Ready (now s) (now work) t q (c .0)) ⌝ }
+    requires { ⌜ Counts (now moves) (now trace) q ⌝ }
+    ensures { λ r. ⌜ ((c : Config) → Stands (now (work .entry)) (q .at) c → Reported (q .n) (q .d) (now (trace .entry)) (now (trace .exit)) r (outcomeOf (now (s .entry)) (t .free) (q .left) (c, drop (q .j) (now (moves .entry))))) ⌝ }
+    ensures { λ _. ⌜ Kept (q .at + t .frame) (now (work .entry)) (now (work .exit)) ⌝ }
+{
+    let st = state::read_state(work, q.at);
+    let held = truths_of(s, t.layout, st);
+    let y = tally_of(s, t, &held, st.running);
+    let finals = y.finals;
+    let counts = y.counts;
+    if is_over(moves, q.j, &finals, work, q.at + 64) {
+        return Outcome::Found { n: q.n, t: q.d };
+    }
+    if q.left == 0 {
+        if ends::has_step(&finals, &counts, work, q.at + 64) {
+            return Outcome::More;
+        }
+        return Outcome::Nothing;
+    }
+    try_all(s, moves, &held, &finals, &counts, work, trace, t, q, st)
+}
+
+// The task of a search: there are interrupts or not, and the frames are as high as the work figure says.
+fn task_of(s: &[u8], l: Layout, free: bool) -> Task
+    requires { ⌜ Accepts (now s) × (l ≡ layoutOf (now s)) ⌝ }
+    ensures { λ r. ⌜ Tasked (now (s .entry)) r ⌝ }
+    ensures { λ r. ⌜ (r .free ≡ free) × (r .frame ≡ frameWords (levelsOf (now (s .entry))) (boundOf (now (s .entry)))) ⌝ }
+{
+    let a = l.programs;
+    let b = l.end;
+    let t = &s[a..b];
+    let interrupts = height::has_interrupts(t, l.p);
+    let h = height::levels_from(height::height(t, l.p), interrupts);
+    Task {
+        layout: l,
+        interrupts,
+        free,
+        frame: height::frame_words(h, l.d),
+    }
+}
+
+// The record that runs, of n records.
+fn top_of(n: usize, interrupts: bool) -> usize
+    requires { ⌜ (1 ≤ n) × (n ≤ 256) ⌝ }
+    ensures { λ r. ⌜ (r ≡ top interrupts n) × (r < 260) ⌝ }
+{
+    if interrupts { n + 3 } else { n - 1 }
+}
+
+// Puts the first configuration into the first frame.
+fn put_first(s: &[u8], t: Task, work: &mut [u32])
+    requires { ⌜ Tasked (now s) t × (67 ≤ length (now work)) ⌝ }
+    ensures { λ _. ⌜ Stands (now (work .exit)) 0 (heldFirst (now (s .entry))) × (length (now (work .exit)) ≡ length (now (work .entry))) ⌝ }
+{
+    let l = t.layout;
+    let a = l.fluents;
+    let b = l.formulas;
+    state::write_state(work, 0, initial(&s[a..b], l.f));
+    words::put_node(work, 64, 1, top_of(l.p, t.interrupts), 1);
+}
+
+// Searches from a sheet's first configuration, along the moves given first: the work area is as long as required.
+pub fn run(s: &[u8], l: Layout, free: bool, moves: &[u16], work: &mut [u32], trace: &mut [u16]) -> Outcome
+    requires { ⌜ Accepts (now s) × (l ≡ layoutOf (now s)) ⌝ }
+    requires { ⌜ (length (now work) ≡ workWords (levelsOf (now s)) (boundOf (now s))) × (boundOf (now s) ≤ length (now trace)) ⌝ }
+    ensures { λ r. ⌜ Reported 0 0 (now (trace .entry)) (now (trace .exit)) r (outcomeOf (now (s .entry)) free (boundOf (now (s .entry))) (heldFirst (now (s .entry)), now (moves .entry))) ⌝ }
+    ensures { λ _. ⌜ now (work .exit) ≡ replicate (length (now (work .entry))) 0 ⌝ }
+{
+    let t = task_of(s, l, free);
+    put_first(s, t, work);
+    let q = Place {
+        at: 0,
+        left: l.d,
+        j: 0,
+        n: 0,
+        d: 0,
+    };
+    let o = explore(s, moves, work, trace, t, q);
+    clear(work);
+    o
 }

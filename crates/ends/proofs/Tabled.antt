@@ -1,0 +1,64 @@
+-- What the tables of a state say of a remaining program is what it is: leaf by leaf the tables hold what the records are, and the parts
+-- of a construct add up as its transitions do. Assumes nothing.
+use mathlib.Core.Path.{_≡_, refl, sym, ap, ap₂, _∙_}
+use mathlib.Core.Bool.{not, _&&_}
+use mathlib.Core.List.{List·Memᴰ}
+use Prim.Native.Nat.{ℕ, _≤_, _<_}
+use native.Mathlib.Omega.{arith}
+use lib.Dec.{eqb}
+use lib.ListN.{length}
+use Rattle.records.specs.declared.Program.{Program}
+use Rattle.height.specs.Height.{rise}
+use Rattle.golog.specs.declared.State.{State}
+use Rattle.golog.specs.World.{World}
+use Rattle.golog.specs.Steps.{isNone}
+use Rattle.held.specs.Rest.{Rest, gone, leaf, node, largest, high, AllLower}
+use Rattle.held.specs.Leaves.{Move, restFinal, restSteps}
+use Rattle.held.proofs.Nodes.{step-high, step-number}
+use Rattle.held.proofs.Counts.{none-length, node-count}
+use Rattle.leaves.specs.Tallies.{finalsOf, countsOf}
+use Rattle.leaves.proofs.Entries.{finals-at, counts-exact}
+use Rattle.ends.specs.Ends.{finalIn, countIn, hasIn, Within}
+
+module _ {p : ℕ → Program} {m : ℕ} where
+  pub within-leaf : {i : ℕ} → Within p m (leaf i) → (i < m) × (high p (leaf i) ≤ 18)
+  unfolding largest
+  within-leaf H = (H .number, H .height)
+
+  pub within-left : {tag : ℕ} {l r : Rest} → Within p m (node tag l r) → Within p m l
+  unfolding largest
+  within-left H = record { number = omega (arith, H .number); height = omega (arith, H .height) }
+
+  pub within-right : {tag : ℕ} {l r : Rest} → Within p m (node tag l r) → Within p m r
+  unfolding largest
+  within-right H = record { number = omega (arith, H .number); height = omega (arith, H .height) }
+
+-- a record of the table that is low enough, to begin with
+pub within-start : {p : ℕ → Program} {m i : ℕ} → i < m → rise p i ≤ 18 → Within p m (leaf i)
+unfolding largest
+within-start h k = record { number = h; height = k }
+
+-- a transition leaves what is within again
+pub within-step : (W : World) (s : State) (p : ℕ → Program) → AllLower p → {m : ℕ} {g : Rest} → Within p m g → (x : Move) → List·Memᴰ x (restSteps W s p g) → Within p m (x .1)
+within-step W s p low {m} {g} H x k = record { number = omega (arith, H .number, step-number W s p low g x k); height = omega (arith, H .height, step-high W s p low g x k) }
+
+module _ (W : World) (s : State) (p : ℕ → Program) (m : ℕ) where
+  -- it is final by the tables where it is
+  pub final-in : (g : Rest) → Within p m g → finalIn (finalsOf W s p m) g ≡ restFinal W s p g
+  unfolding finalIn restFinal
+  final-in gone H = refl
+  final-in (leaf i) H = finals-at W s p m i (within-leaf H .0)
+  final-in (node tag l r) H = ap₂ _&&_ (final-in l (within-left H)) (final-in r (within-right H))
+
+  module _ (low : AllLower p) where
+    -- they count its transitions
+    pub count-in : (g : Rest) → Within p m g → countIn (finalsOf W s p m) (countsOf W s p m) g ≡ length (restSteps W s p g)
+    unfolding countIn restSteps largest
+    count-in gone H = refl
+    count-in (leaf i) H = counts-exact W s p low m i (within-leaf H .0) (within-leaf H .1)
+    count-in (node tag l r) H =
+        rw (count-in l (within-left H), count-in r (within-right H), final-in l (within-left H)) (sym (node-count W s p tag l r))
+
+    -- and tell whether there is one
+    pub has-in : (g : Rest) → Within p m g → hasIn (finalsOf W s p m) (countsOf W s p m) g ≡ not (isNone (restSteps W s p g))
+    has-in g H = ap (λ (n : ℕ). not (eqb n 0)) (count-in g H) ∙ ap not (sym (none-length (restSteps W s p g)))

@@ -1,0 +1,66 @@
+-- What stands in the tables at a record is what the record is. A record up to height 18, as all are that run, has at most 2 ^ 18
+-- transitions, fewer than the cap, so its count is exact. Assumes nothing.
+use mathlib.Core.Path.{_≡_, refl, _∙_, ap}
+use mathlib.Core.Bool.{Bool, true, false, cond}
+use mathlib.Core.List.{List, map}
+use Prim.Native.Nat.{ℕ, _-_, _^_, _<_, _≤_, min}
+use native.Mathlib.Nat.{pow-le-pow-right}
+use native.Mathlib.Omega.{arith}
+use lib.Dec.{T}
+use lib.ListN.{length, getD, List·getD-map}
+use Rattle.records.specs.declared.Program.{Program}
+use Rattle.records.specs.Table.{upTo}
+use Rattle.records.proofs.Fills.{default-at, up-at}
+use Rattle.height.specs.Height.{rise}
+use Rattle.golog.specs.declared.State.{State}
+use Rattle.golog.specs.World.{World, holds}
+use Rattle.held.specs.Rest.{AllLower}
+use Rattle.held.specs.Leaves.{Leaf, nilLeaf, leafAt, leafOf}
+use Rattle.held.specs.Kinds.{usesA}
+use Rattle.held.proofs.Columns.{by-kind}
+use Rattle.held.proofs.Counts.{leaf-few}
+use Rattle.held.proofs.Entries.{hasA, lower-a, rise-a}
+use Rattle.leaves.specs.Tallies.{cap, counted, finalsOf, countsOf, SeesRecord, firstBy}
+use Rattle.leaves.proofs.Seen.{first-seen}
+
+where-used : (b : Bool) (x y : ℕ) → (T b → x ≡ y) → cond b x 0 ≡ cond b y 0
+where-used true x y e = e tt
+where-used false x y e = refl
+
+-- a kind that uses its part a has one
+first-has : (kind : ℕ) (h running : Bool) → T (usesA kind h running) → T (hasA kind)
+unfolding usesA
+first-has kind h running =
+    by-kind (λ (k : ℕ). T (usesA k h running) → T (hasA k))
+    (λ t. absurd t) (λ t. absurd t) (λ t. absurd t) (λ t. tt) (λ t. tt) (λ t. tt) (λ t. tt) (λ t. tt) (λ t. tt) (λ t. tt) (λ t. tt) (λ t. tt) (λ k t. absurd t) kind
+
+module _ (W : World) (s : State) (p : ℕ → Program) where
+  pub finals-at : (m i : ℕ) → i < m → getD (finalsOf W s p m) i true ≡ leafOf W s p i .final
+  unfolding finalsOf leafOf
+  finals-at m i h =
+      default-at true (map (λ (l : Leaf). l .final) (upTo (leafAt W s p) m)) (260 - m) i
+      ∙ List·getD-map (λ (l : Leaf). l .final) (upTo (leafAt W s p) m) i nilLeaf
+      ∙ ap (λ (l : Leaf). l .final) (up-at nilLeaf (leafAt W s p) m i h)
+
+  pub counts-at : (m i : ℕ) → i < m → getD (countsOf W s p m) i 0 ≡ min cap (length (leafOf W s p i .steps))
+  unfolding countsOf leafOf
+  counts-at m i h =
+      default-at 0 (map counted (upTo (leafAt W s p) m)) (260 - m) i
+      ∙ List·getD-map counted (upTo (leafAt W s p) m) i nilLeaf
+      ∙ ap counted (up-at nilLeaf (leafAt W s p) m i h)
+
+  pub few-steps : AllLower p → (i : ℕ) → rise p i ≤ 18 → length (leafOf W s p i .steps) ≤ 262144
+  few-steps low i h = let u : 2 ^ rise p i ≤ 2 ^ 18 = pow-le-pow-right (omega arith) h in omega (arith, leaf-few W s p low i)
+
+  pub counts-exact : AllLower p → (m i : ℕ) → i < m → rise p i ≤ 18 → getD (countsOf W s p m) i 0 ≡ length (leafOf W s p i .steps)
+  counts-exact low m i h k = omega (arith, counts-at m i h, few-steps low i k)
+
+  -- the transitions of a record's part a, counted
+  pub first-exact : AllLower p → (m i : ℕ) → i < m → rise p i ≤ 18 → {held : List Bool} {can : ℕ → Bool} {running : Bool} → SeesRecord W s held can (p i) → s .running ≡ running
+      → firstBy (p i) held running (countsOf W s p m) ≡ cond (usesA (p i .kind) (holds W (p i .c) s) (s .running)) (length (leafOf W s p (p i .a) .steps)) 0
+  unfolding firstBy
+  first-exact low m i h k S e =
+      let used : Bool = usesA (p i .kind) (holds W (p i .c) s) (s .running) in
+      let exact : T used → getD (countsOf W s p m) (p i .a) 0 ≡ length (leafOf W s p (p i .a) .steps) =
+      λ t. let u = first-has (p i .kind) (holds W (p i .c) s) (s .running) t in counts-exact low m (p i .a) (omega (arith, lower-a p low i u)) (omega (arith, rise-a p low i u)) in
+      rw (← e) (ap (λ (b : Bool). cond b (getD (countsOf W s p m) (p i .a) 0) 0) (first-seen S (s .running)) ∙ where-used used _ _ exact)

@@ -1,0 +1,105 @@
+-- The tables are filled upwards, by the law of Filling: each turn puts what the record is, whatever state is seen so. The tables' lengths
+-- stand apart, since a state need not be there. Assumes nothing.
+use mathlib.Core.Path.{_≡_, sym, _∙_}
+use mathlib.Core.Bool.{true}
+use Prim.Native.Nat.{ℕ, _-_, _≤_}
+use native.Mathlib.Nat.{le-antisymm}
+use native.Mathlib.Omega.{arith}
+use lib.ListN.{length, length-set, length-replicate}
+use borrow.Author.Needs.{needs}
+use Rattle.records.specs.Records.{programAt}
+use Rattle.golog.specs.declared.State.{State}
+use Rattle.golog.specs.World.{World}
+use Rattle.held.specs.Extended.{table}
+use Rattle.leaves.specs.Tallies.{places, possibleIn, Sees, finalsOf, countsOf}
+use Rattle.leaves.proofs.Filling.{Both, none, next}
+use Rattle.leaves.proofs.tallies.Statement.{statement}
+use Rattle.leaves.proofs.tallies.Tie as tie
+
+abbrev Inv-loop : tie.InvT-loop
+Inv-loop programs n interrupts actions na held running m finals₀ counts₀ i₀ finals counts i =
+    (i ≤ m) × (length finals ≡ 260) × (length counts ≡ 260)
+    × ((W : World) (s : State) → Sees W s (table interrupts (programAt programs) n) (places interrupts n) held (possibleIn actions na held) running → Both W s (table interrupts (programAt programs) n) finals counts i)
+
+abbrev μ-loop : tie.MeasureT-loop
+μ-loop programs n interrupts actions na held running m finals₀ counts₀ i₀ finals counts i = m - i
+
+places-of-requires : tie.Need-places-of-requires Inv-loop μ-loop
+places-of-requires c κs = search needs
+
+loop-holds : tie.Need-loop-holds Inv-loop μ-loop
+loop-holds c = (omega arith, length-replicate 260 true, length-replicate {A = ℕ} 260 0, λ W s S. none W s _)
+
+record-at-requires : tie.Need-record-at-requires Inv-loop μ-loop
+record-at-requires c κs = search needs
+
+slice-aggregate-final-at : tie.Need-slice-aggregate-final-at Inv-loop μ-loop
+slice-aggregate-final-at c = sym (c .before .before .before .loop .inv .1)
+
+final-at-requires : tie.Need-final-at-requires Inv-loop μ-loop
+final-at-requires c κs = search needs
+
+slice-aggregate-count-at : tie.Need-slice-aggregate-count-at Inv-loop μ-loop
+slice-aggregate-count-at c = sym (c .before .before .before .before .before .loop .inv .1)
+
+slice-aggregate-count-at-2 : tie.Need-slice-aggregate-count-at-2 Inv-loop μ-loop
+slice-aggregate-count-at-2 c = sym (c .before .before .before .before .before .before .loop .inv .2)
+
+count-at-requires : tie.Need-count-at-requires Inv-loop μ-loop
+count-at-requires c κs = search needs
+
+array-write-finals : tie.Need-array-write-finals Inv-loop μ-loop
+array-write-finals c = search needs
+
+mul-counts : tie.Need-mul-counts Inv-loop μ-loop
+mul-counts c = search needs
+
+array-write-counts : tie.Need-array-write-counts Inv-loop μ-loop
+array-write-counts c = search needs
+
+add-i : tie.Need-add-i Inv-loop μ-loop
+add-i c = search needs
+
+loop-less : tie.Need-loop-less Inv-loop μ-loop
+loop-less c = search needs
+
+loop-again : tie.Need-loop-again Inv-loop μ-loop
+loop-again c =
+    let e = c .before .before .before .before .before .record-at .ensures .0 in
+    let v = c .before .before .before .before .before .before .before .loop .inv in (
+      omega arith,
+      simp length-set (v .1),
+      simp length-set (v .2),
+      λ W s S. next (v .3 W s S) (S .each _ (omega arith)) (S .runs) (omega arith) (rw e at (c .before .before .before .final-at .ensures)) (rw e at (c .count-at .ensures)),
+    )
+
+returns : tie.Need-returns Inv-loop μ-loop
+unfolding finalsOf countsOf
+returns c =
+    let v = c .before .loop .inv in
+    let e = le-antisymm (v .0) (c .loop-test .left) ∙ c .before .before .places-of .ensures .0 in
+    λ W s S.
+    let b = v .3 W s S in
+    rw (← e) (b .done .same, b .many .same)
+
+pub tallies-spec : {M : Type 1} → statement M
+tallies-spec =
+    tie.close
+    (tie.spec
+    Inv-loop
+    μ-loop
+    places-of-requires
+    loop-holds
+    record-at-requires
+    slice-aggregate-final-at
+    final-at-requires
+    slice-aggregate-count-at
+    slice-aggregate-count-at-2
+    count-at-requires
+    array-write-finals
+    mul-counts
+    array-write-counts
+    add-i
+    loop-less
+    loop-again
+    returns)

@@ -1,0 +1,296 @@
+// For a state, by one pass over the program table: whether each record is final, and how many transitions it has.
+ghost use mathlib.Core.Path.{_≡_};
+ghost use mathlib.Core.Bool.{false, true, not, cond, _&&_, _||_};
+ghost use Prim.Native.Nat.{_+_, _*_, _≤_, _<_, min};
+ghost use lib.ListN.{length, getD};
+ghost use Rattle.records.specs.Records.{programAt};
+ghost use Rattle.held.specs.Kinds.{usesA};
+ghost use Rattle.held.specs.Extended.{empty, virtual, table};
+ghost use Rattle.leaves.specs.Tallies.{cap, places, possibleIn, Tallied, finalBy, countBy, firstBy};
+use records::Program;
+
+// What stands in a list of truths, false past its end.
+fn held_in(held: &[bool], q: usize) -> bool
+    ensures { λ r. ⌜ r ≡ getD (now (held .entry)) q false ⌝ }
+{
+    if q < held.len() { held[q] } else { false }
+}
+
+// Whether record a is final: past the end stands nil, which is.
+pub fn final_in(finals: &[bool], a: usize) -> bool
+    ensures { λ r. ⌜ r ≡ getD (now (finals .entry)) a true ⌝ }
+{
+    if a < finals.len() { finals[a] } else { true }
+}
+
+// How many transitions record a has: past the end stands nil, which has none.
+pub fn count_in(counts: &[u32], a: usize) -> u32
+    ensures { λ r. ⌜ r ≡ getD (now (counts .entry)) a 0 ⌝ }
+{
+    if a < counts.len() { counts[a] } else { 0 }
+}
+
+// Whether action a is possible, where `held` has what the formulas say.
+fn possible_in(actions: &[u8], na: usize, held: &[bool], a: usize) -> bool
+    requires { ⌜ 6 * na ≤ length (now actions) ⌝ }
+    ensures { λ r. ⌜ r ≡ possibleIn (now (actions .entry)) na (now (held .entry)) a ⌝ }
+{
+    if 65533 < a {
+        return true;
+    }
+    if a < na {
+        let r = records::action_at(actions, a);
+        return held_in(held, r.precondition);
+    }
+    false
+}
+
+// The records above the first n, where there are interrupts.
+fn virtual_at(n: usize, k: usize) -> Program
+    requires { ⌜ (1 ≤ n) × (n ≤ 256) ⌝ }
+    ensures { λ r. ⌜ r ≡ getD (virtual true n) k empty ⌝ }
+    ensures { λ r. ⌜ (r .a < 65536) × (r .b < 65536) ⌝ }
+{
+    match k {
+        0 => Program {
+            kind: 1,
+            a: 65534,
+            b: 0,
+            c: 0,
+        },
+        1 => Program {
+            kind: 1,
+            a: 65535,
+            b: 0,
+            c: 0,
+        },
+        2 => Program {
+            kind: 9,
+            a: n - 1,
+            b: n + 1,
+            c: 0,
+        },
+        3 => Program {
+            kind: 3,
+            a: n,
+            b: n + 2,
+            c: 0,
+        },
+        _ => Program {
+            kind: 0,
+            a: 0,
+            b: 0,
+            c: 0,
+        },
+    }
+}
+
+// Record i of the table that runs.
+pub fn record_at(programs: &[u8], n: usize, interrupts: bool, i: usize) -> Program
+    requires { ⌜ (8 * n ≤ length (now programs)) × (1 ≤ n) × (n ≤ 256) ⌝ }
+    ensures { λ r. ⌜ r ≡ table interrupts (programAt (now (programs .entry))) n i ⌝ }
+    ensures { λ r. ⌜ (r .a < 65536) × (r .b < 65536) ⌝ }
+{
+    if i < n {
+        return records::program_at(programs, i);
+    }
+    if interrupts {
+        return virtual_at(n, i - n);
+    }
+    Program {
+        kind: 0,
+        a: 0,
+        b: 0,
+        c: 0,
+    }
+}
+
+fn both_final(finals: &[bool], a: usize, b: usize) -> bool
+    ensures { λ r. ⌜ r ≡ (getD (now (finals .entry)) a true && getD (now (finals .entry)) b true) ⌝ }
+{
+    final_in(finals, a) & final_in(finals, b)
+}
+
+fn choice(h: bool, fa: bool, fb: bool) -> bool
+    ensures { λ r. ⌜ r ≡ (h && fa || not h && fb) ⌝ }
+{
+    h & fa | !h & fb
+}
+
+// Whether a record is final, from those before it.
+fn final_at(r: Program, held: &[bool], running: bool, finals: &[bool]) -> bool
+    ensures { λ f. ⌜ f ≡ finalBy r (now (held .entry)) running (now (finals .entry)) ⌝ }
+{
+    let kind = r.kind;
+    match kind {
+        1 => false,
+        2 => false,
+        3 => both_final(finals, r.a, r.b),
+        4 => final_in(finals, r.a) | final_in(finals, r.b),
+        6 => choice(
+            held_in(held, r.c),
+            final_in(finals, r.a),
+            final_in(finals, r.b),
+        ),
+        7 => !held_in(held, r.c) | final_in(finals, r.a),
+        8 => both_final(finals, r.a, r.b),
+        9 => both_final(finals, r.a, r.b),
+        11 => !running | held_in(held, r.c) & final_in(finals, r.a),
+        _ => true,
+    }
+}
+
+fn one_if(b: bool) -> u64
+    ensures { λ r. ⌜ r ≡ cond b 1 0 ⌝ }
+{
+    if b { 1 } else { 0 }
+}
+
+// The transitions of a part, where they count.
+fn part(b: bool, count: u32) -> u64
+    ensures { λ r. ⌜ (r ≡ cond b count 0) × (r < 4294967296) ⌝ }
+{
+    if b { count as u64 } else { 0 }
+}
+
+fn both_if(b: bool, ca: u32, cb: u32) -> u64
+    ensures { λ r. ⌜ r ≡ ca + cond b cb 0 ⌝ }
+{
+    part(true, ca) + part(b, cb)
+}
+
+fn either(b: bool, ca: u32, cb: u32) -> u64
+    ensures { λ r. ⌜ r ≡ cond b ca cb ⌝ }
+{
+    if b { ca as u64 } else { cb as u64 }
+}
+
+// How many transitions a record has, from those before it: its own, and those of the parts that it uses.
+fn total_at(
+    r: Program,
+    actions: &[u8],
+    na: usize,
+    held: &[bool],
+    running: bool,
+    finals: &[bool],
+    counts: &[u32],
+) -> u64
+    requires { ⌜ 6 * na ≤ length (now actions) ⌝ }
+    ensures { λ k. ⌜ k ≡ countBy r (now (held .entry)) (possibleIn (now (actions .entry)) na (now (held .entry))) running (now (finals .entry)) (now (counts .entry)) ⌝ }
+{
+    let kind = r.kind;
+    match kind {
+        1 => one_if(possible_in(actions, na, held, r.a)),
+        2 => one_if(held_in(held, r.a)),
+        3 => both_if(
+            final_in(finals, r.a),
+            count_in(counts, r.a),
+            count_in(counts, r.b),
+        ),
+        4 | 8 => both_if(true, count_in(counts, r.a), count_in(counts, r.b)),
+        5 | 10 => part(true, count_in(counts, r.a)),
+        6 => either(
+            held_in(held, r.c),
+            count_in(counts, r.a),
+            count_in(counts, r.b),
+        ),
+        7 => part(held_in(held, r.c), count_in(counts, r.a)),
+        9 => both_if(
+            count_in(counts, r.a) == 0,
+            count_in(counts, r.a),
+            count_in(counts, r.b),
+        ),
+        11 => part(running & held_in(held, r.c), count_in(counts, r.a)),
+        _ => 0,
+    }
+}
+
+fn capped(n: u64) -> u32
+    ensures { λ r. ⌜ r ≡ min cap n ⌝ }
+{
+    if n < 1000000 { n as u32 } else { 1000000 }
+}
+
+fn count_at(
+    r: Program,
+    actions: &[u8],
+    na: usize,
+    held: &[bool],
+    running: bool,
+    finals: &[bool],
+    counts: &[u32],
+) -> u32
+    requires { ⌜ 6 * na ≤ length (now actions) ⌝ }
+    ensures { λ k. ⌜ k ≡ min cap (countBy r (now (held .entry)) (possibleIn (now (actions .entry)) na (now (held .entry))) running (now (finals .entry)) (now (counts .entry))) ⌝ }
+{
+    capped(total_at(r, actions, na, held, running, finals, counts))
+}
+
+// For each record of the table that runs, whether it is final and how many transitions it has.
+pub struct Tally {
+    pub finals: [bool; 260],
+    pub counts: [u32; 260],
+}
+
+fn places_of(n: usize, interrupts: bool) -> usize
+    requires { ⌜ n ≤ 256 ⌝ }
+    ensures { λ r. ⌜ (r ≡ places interrupts n) × (r ≤ 260) ⌝ }
+{
+    if interrupts { n + 4 } else { n }
+}
+
+// The tables of the state that `held`, the actions and `running` say: one pass upwards, since a record names lower ones only.
+pub fn tallies(
+    programs: &[u8],
+    n: usize,
+    interrupts: bool,
+    actions: &[u8],
+    na: usize,
+    held: &[bool],
+    running: bool,
+) -> Tally
+    requires { ⌜ (8 * n ≤ length (now programs)) × (1 ≤ n) × (n ≤ 256) × (6 * na ≤ length (now actions)) ⌝ }
+    ensures { λ r. ⌜ Tallied (table interrupts (programAt (now (programs .entry))) n) (places interrupts n) (now (held .entry)) (possibleIn (now (actions .entry)) na (now (held .entry))) running (r .finals) (r .counts) ⌝ }
+{
+    let m = places_of(n, interrupts);
+    let mut finals = [true; 260];
+    let mut counts = [0u32; 260];
+    let mut i = 0;
+    while i < m {
+        let r = record_at(programs, n, interrupts, i);
+        let f = final_at(r, held, running, &finals);
+        let k = count_at(r, actions, na, held, running, &finals, &counts);
+        finals[i] = f;
+        counts[i] = k;
+        i += 1;
+    }
+    Tally { finals, counts }
+}
+
+fn uses_first(kind: usize, h: bool, running: bool) -> bool
+    ensures { λ r. ⌜ r ≡ usesA kind h running ⌝ }
+{
+    match kind {
+        3 => true,
+        4 => true,
+        5 => true,
+        6 => h,
+        7 => h,
+        8 => true,
+        9 => true,
+        10 => true,
+        11 => running & h,
+        _ => false,
+    }
+}
+
+// How many of a record's transitions are those of its part a: they come first.
+pub fn first_count(r: Program, held: &[bool], running: bool, counts: &[u32]) -> usize
+    ensures { λ k. ⌜ (k ≡ firstBy r (now (held .entry)) running (now (counts .entry))) × (k < 4294967296) ⌝ }
+{
+    let k = part(
+        uses_first(r.kind, held_in(held, r.c), running),
+        count_in(counts, r.a),
+    );
+    k as usize
+}

@@ -1,0 +1,141 @@
+-- Down by counts, and on the way back up a construct around what was laid out; the record number falls (Laying.antt). Assumes nothing.
+use borrow.Author.Needs.{needs}
+use native.Mathlib.Omega.{arith}
+use Rattle.steps.proofs.Laying.{own-lays, a-falls, a-can, a-room, a-lays, b-falls, b-can, b-room, b-lays, many-few}
+use Prim.Native.Nat.{ℕ, _<_}
+use borrow.Fn.Kinds.{In}
+use borrow.Fn.PlainCycle.{Measures, is, falls, and}
+use Rattle.steps.proofs.lay_record.Reads as lay-record
+use Rattle.steps.proofs.lay_record.Kinds as lay-record-kinds
+use Rattle.steps.proofs.+lay_record.Lts-lay_record as lay-record-lts
+use Rattle.leaves.proofs.first_count.Reads as first-count-reads
+use Rattle.leaves.proofs.record_at.Reads as record-at-reads
+use Rattle.steps.proofs.entry_of.Reads as entry-of-reads
+use Rattle.steps.proofs.past_words.Reads as past-words-reads
+use Rattle.steps.proofs.tag_a.Reads as tag-a-reads
+use Rattle.steps.proofs.tag_b.Reads as tag-b-reads
+use Rattle.steps.proofs.wrap_a.Reads as wrap-a-reads
+use Rattle.steps.proofs.wrap_b.Reads as wrap-b-reads
+use Rattle.words.proofs.put_node.Reads as put-node-reads
+use Rattle.steps.proofs.+lay_record.{statement}
+use Rattle.steps.proofs.+lay_record.Tie.{close}
+
+abbrev μ-lay-record : Measures 4 lay-record-kinds.ps ℕ
+μ-lay-record κs a = a .1 .1 .1 .1 .1 .1 .1 .0
+
+abbrev lay-record-at : ℕ → In 4 lay-record-kinds.ps
+lay-record-at t =
+    and 4 lay-record-kinds.ps (is 4 lay-record-kinds.ps μ-lay-record t) lay-record.Pre
+
+abbrev lay-record-below : ℕ → In 4 lay-record-kinds.ps
+lay-record-below t =
+    and 4 lay-record-kinds.ps (falls 4 lay-record-kinds.ps _<_ μ-lay-record t) lay-record.Pre
+
+abbrev claims : ℕ → lay-record-lts.Claims
+claims t = (
+  record-at-reads.Asked,
+  record-at-reads.Learnt,
+  put-node-reads.Asked,
+  put-node-reads.Learnt,
+  entry-of-reads.Asked,
+  entry-of-reads.Learnt,
+  first-count-reads.Asked,
+  first-count-reads.Learnt,
+  tag-a-reads.Asked,
+  tag-a-reads.Learnt,
+  past-words-reads.Asked,
+  past-words-reads.Learnt,
+  lay-record-below t,
+  lay-record.Post,
+  wrap-a-reads.Asked,
+  wrap-a-reads.Learnt,
+  tag-b-reads.Asked,
+  tag-b-reads.Learnt,
+  wrap-b-reads.Asked,
+  wrap-b-reads.Learnt,
+)
+
+lay-record-record-at-requires : (t : ℕ) → lay-record-lts.Need-record-at-requires (claims t) (lay-record-at t) lay-record.Post
+lay-record-record-at-requires t c κs = (c .before .before .before .before .pre .1 .0)
+
+lay-record-put-node-requires : (t : ℕ) → lay-record-lts.Need-put-node-requires (claims t) (lay-record-at t) lay-record.Post
+lay-record-put-node-requires t c κs = omega (arith, (c .before .before .before .before .before .before .before .before .pre .1 .1) .room .inside)
+
+lay-record-entry-of-requires : (t : ℕ) → lay-record-lts.Need-entry-of-requires (claims t) (lay-record-at t) lay-record.Post
+lay-record-entry-of-requires t c κs = (c .before .before .before .before .before .before .record-at .ensures .1 .0)
+
+lay-record-same-length : (t : ℕ) → lay-record-lts.Need-same-length (claims t) (lay-record-at t) lay-record.Post
+lay-record-same-length t c = search needs
+
+lay-record-returns : (t : ℕ) → lay-record-lts.Need-returns (claims t) (lay-record-at t) lay-record.Post
+lay-record-returns t c W s C = own-lays C _ ((c .before .before .before .before .before .before .before .before .before .before .before .before .pre .1 .1) .inside) ((c .before .before .before .before .before .before .before .before .before .before .before .before .pre .1 .1) .low) _ (c .before .before .before .before .before .before .before .record-at .ensures .0) ((c .before .before .before .before .before .before .before .before .before .before .before .before .pre .1 .1) .least) (c .before .before .before .before .before .if1 .taken) ((c .before .before .before .before .before .before .before .before .before .before .before .before .pre .1 .1) .room) (c .before .before .before .put-node .ensures) (c .entry-of .ensures)
+
+lay-record-first-count-requires : (t : ℕ) → lay-record-lts.Need-first-count-requires (claims t) (lay-record-at t) lay-record.Post
+lay-record-first-count-requires t c κs = search needs
+
+lay-record-tag-a-requires : (t : ℕ) → lay-record-lts.Need-tag-a-requires (claims t) (lay-record-at t) lay-record.Post
+lay-record-tag-a-requires t c κs = search needs
+
+lay-record-past-words-requires : (t : ℕ) → lay-record-lts.Need-past-words-requires (claims t) (lay-record-at t) lay-record.Post
+lay-record-past-words-requires t c κs = search needs
+
+lay-record-add-at : (t : ℕ) → lay-record-lts.Need-add-at (claims t) (lay-record-at t) lay-record.Post
+lay-record-add-at t c = omega (arith, (c .before .before .before .before .before .before .before .before .before .before .before .pre .1 .1) .room .inside, (c .before .before .before .before .before .before .before .before .before .before .before .pre .1 .1) .room .small, c .past-words .ensures .1)
+
+lay-record-lay-record-requires : (t : ℕ) → lay-record-lts.Need-lay-record-requires (claims t) (lay-record-at t) lay-record.Post
+lay-record-lay-record-requires t c κs = (omega (arith, a-falls ((c .before .before .before .before .before .before .before .before .before .before .before .before .pre .1 .1) .counted) _ ((c .before .before .before .before .before .before .before .before .before .before .before .before .pre .1 .1) .inside) ((c .before .before .before .before .before .before .before .before .before .before .before .before .pre .1 .1) .low) _ (c .before .before .before .before .before .before .before .record-at .ensures .0) (c .before .before .before .before .before .if1 .left) _ (c .before .before .before .before .first-count .ensures .0) _ (c .before .before .before .if2 .taken), c .before .before .before .before .before .before .before .before .before .before .before .before .pre .0), (c .before .before .before .before .before .before .before .before .before .before .before .before .pre .1 .0, a-can ((c .before .before .before .before .before .before .before .before .before .before .before .before .pre .1 .1) .counted) _ ((c .before .before .before .before .before .before .before .before .before .before .before .before .pre .1 .1) .inside) ((c .before .before .before .before .before .before .before .before .before .before .before .before .pre .1 .1) .low) _ (c .before .before .before .before .before .before .before .record-at .ensures .0) (c .before .before .before .before .before .if1 .left) _ (c .before .before .before .before .first-count .ensures .0) _ (c .before .before .before .if2 .taken) ((c .before .before .before .before .before .before .before .before .before .before .before .before .pre .1 .1) .room) (c .before .past-words .ensures .1)))
+
+lay-record-wrap-a-requires : (t : ℕ) → lay-record-lts.Need-wrap-a-requires (claims t) (lay-record-at t) lay-record.Post
+lay-record-wrap-a-requires t c κs = (a-room ((c .before .before .before .before .before .before .before .before .before .before .before .before .before .before .before .before .pre .1 .1) .counted) _ ((c .before .before .before .before .before .before .before .before .before .before .before .before .before .before .before .before .pre .1 .1) .inside) ((c .before .before .before .before .before .before .before .before .before .before .before .before .before .before .before .before .pre .1 .1) .low) _ (c .before .before .before .before .before .before .before .before .before .before .before .record-at .ensures .0) (c .before .before .before .before .before .before .before .before .before .if1 .left) _ (c .before .before .before .before .before .before .before .before .first-count .ensures .0) _ (c .before .before .before .before .before .before .before .if2 .taken) ((c .before .before .before .before .before .before .before .before .before .before .before .before .before .before .before .before .pre .1 .1) .room) (c .before .before .before .lay-record .ensures _ _ ((c .before .before .before .before .before .before .before .before .before .before .before .before .before .before .before .before .pre .1 .1) .counted)), (many-few (c .before .before .before .before .before .before .before .before .before .before .before .before .before .before .before .before .args .interrupts) (c .before .before .before .before .before .before .before .before .before .before .before .before .before .before .before .before .args .n) _ (c .before .before .before .before .before .before .before .before .before .before .before .before .before .before .before .before .pre .1 .0 .2) ((c .before .before .before .before .before .before .before .before .before .before .before .before .before .before .before .before .pre .1 .1) .inside), c .before .before .before .before .before .before .before .before .before .before .before .record-at .ensures .1 .1))
+
+lay-record-same-length-2 : (t : ℕ) → lay-record-lts.Need-same-length-2 (claims t) (lay-record-at t) lay-record.Post
+lay-record-same-length-2 t c = search needs
+
+lay-record-returns-2 : (t : ℕ) → lay-record-lts.Need-returns-2 (claims t) (lay-record-at t) lay-record.Post
+lay-record-returns-2 t c W s C = a-lays C _ ((c .before .before .before .before .before .before .before .before .before .before .before .before .before .before .before .before .before .before .before .pre .1 .1) .inside) ((c .before .before .before .before .before .before .before .before .before .before .before .before .before .before .before .before .before .before .before .pre .1 .1) .low) _ (c .before .before .before .before .before .before .before .before .before .before .before .before .before .before .record-at .ensures .0) (c .before .before .before .before .before .before .before .before .before .before .before .before .if1 .left) _ (c .before .before .before .before .before .before .before .before .before .before .before .first-count .ensures .0) _ (c .before .before .before .before .before .before .before .before .before .before .if2 .taken) (c .before .before .before .before .before .before .before .before .before .tag-a .ensures) (c .before .before .before .before .before .before .before .before .past-words .ensures .0) (c .before .before .before .before .before .before .lay-record .ensures W s C) (c .before .before .wrap-a .ensures)
+
+lay-record-tag-b-requires : (t : ℕ) → lay-record-lts.Need-tag-b-requires (claims t) (lay-record-at t) lay-record.Post
+lay-record-tag-b-requires t c κs = search needs
+
+lay-record-past-words-requires-2 : (t : ℕ) → lay-record-lts.Need-past-words-requires-2 (claims t) (lay-record-at t) lay-record.Post
+lay-record-past-words-requires-2 t c κs = search needs
+
+lay-record-add-at-2 : (t : ℕ) → lay-record-lts.Need-add-at-2 (claims t) (lay-record-at t) lay-record.Post
+lay-record-add-at-2 t c = omega (arith, (c .before .before .before .before .before .before .before .before .before .before .before .pre .1 .1) .room .inside, (c .before .before .before .before .before .before .before .before .before .before .before .pre .1 .1) .room .small, c .past-words2 .ensures .1)
+
+lay-record-lay-record-requires-2 : (t : ℕ) → lay-record-lts.Need-lay-record-requires-2 (claims t) (lay-record-at t) lay-record.Post
+lay-record-lay-record-requires-2 t c κs = (omega (arith, b-falls ((c .before .before .before .before .before .before .before .before .before .before .before .before .pre .1 .1) .counted) _ ((c .before .before .before .before .before .before .before .before .before .before .before .before .pre .1 .1) .inside) ((c .before .before .before .before .before .before .before .before .before .before .before .before .pre .1 .1) .low) _ (c .before .before .before .before .before .before .before .record-at .ensures .0) (c .before .before .before .before .before .if1 .left) _ (c .before .before .before .before .first-count .ensures .0) _ ((c .before .before .before .before .before .before .before .before .before .before .before .before .pre .1 .1) .least) (c .before .before .before .if2 .left), c .before .before .before .before .before .before .before .before .before .before .before .before .pre .0), (c .before .before .before .before .before .before .before .before .before .before .before .before .pre .1 .0, b-can ((c .before .before .before .before .before .before .before .before .before .before .before .before .pre .1 .1) .counted) _ ((c .before .before .before .before .before .before .before .before .before .before .before .before .pre .1 .1) .inside) ((c .before .before .before .before .before .before .before .before .before .before .before .before .pre .1 .1) .low) _ (c .before .before .before .before .before .before .before .record-at .ensures .0) (c .before .before .before .before .before .if1 .left) _ (c .before .before .before .before .first-count .ensures .0) _ ((c .before .before .before .before .before .before .before .before .before .before .before .before .pre .1 .1) .least) (c .before .before .before .if2 .left) ((c .before .before .before .before .before .before .before .before .before .before .before .before .pre .1 .1) .room) (c .before .past-words2 .ensures .1)))
+
+lay-record-wrap-b-requires : (t : ℕ) → lay-record-lts.Need-wrap-b-requires (claims t) (lay-record-at t) lay-record.Post
+lay-record-wrap-b-requires t c κs = (b-room ((c .before .before .before .before .before .before .before .before .before .before .before .before .before .before .before .before .pre .1 .1) .counted) _ ((c .before .before .before .before .before .before .before .before .before .before .before .before .before .before .before .before .pre .1 .1) .inside) ((c .before .before .before .before .before .before .before .before .before .before .before .before .before .before .before .before .pre .1 .1) .low) _ (c .before .before .before .before .before .before .before .before .before .before .before .record-at .ensures .0) (c .before .before .before .before .before .before .before .before .before .if1 .left) _ (c .before .before .before .before .before .before .before .before .first-count .ensures .0) _ ((c .before .before .before .before .before .before .before .before .before .before .before .before .before .before .before .before .pre .1 .1) .least) (c .before .before .before .before .before .before .before .if2 .left) ((c .before .before .before .before .before .before .before .before .before .before .before .before .before .before .before .before .pre .1 .1) .room) (c .before .before .before .lay-record2 .ensures _ _ ((c .before .before .before .before .before .before .before .before .before .before .before .before .before .before .before .before .pre .1 .1) .counted)), c .before .before .before .before .before .before .before .before .before .before .before .record-at .ensures .1 .0)
+
+lay-record-same-length-3 : (t : ℕ) → lay-record-lts.Need-same-length-3 (claims t) (lay-record-at t) lay-record.Post
+lay-record-same-length-3 t c = search needs
+
+lay-record-returns-3 : (t : ℕ) → lay-record-lts.Need-returns-3 (claims t) (lay-record-at t) lay-record.Post
+lay-record-returns-3 t c W s C = b-lays C _ ((c .before .before .before .before .before .before .before .before .before .before .before .before .before .before .before .before .before .before .before .pre .1 .1) .inside) ((c .before .before .before .before .before .before .before .before .before .before .before .before .before .before .before .before .before .before .before .pre .1 .1) .low) _ (c .before .before .before .before .before .before .before .before .before .before .before .before .before .before .record-at .ensures .0) (c .before .before .before .before .before .before .before .before .before .before .before .before .if1 .left) _ (c .before .before .before .before .before .before .before .before .before .before .before .first-count .ensures .0) _ ((c .before .before .before .before .before .before .before .before .before .before .before .before .before .before .before .before .before .before .before .pre .1 .1) .least) (c .before .before .before .before .before .before .before .before .before .before .if2 .left) (c .before .before .before .before .before .before .before .before .before .tag-b .ensures) (c .before .before .before .before .before .before .before .before .past-words2 .ensures .0) (c .before .before .before .before .before .before .lay-record2 .ensures W s C) (c .before .before .wrap-b .ensures)
+
+pub +lay-record-spec : {M : Type 1} → statement M
++lay-record-spec = close μ-lay-record λ t. lay-record-lts.spec (claims t)
+    (lay-record-at t)
+    lay-record.Post
+    (lay-record-record-at-requires t)
+    (lay-record-put-node-requires t)
+    (lay-record-entry-of-requires t)
+    (lay-record-same-length t)
+    (lay-record-returns t)
+    (lay-record-first-count-requires t)
+    (lay-record-tag-a-requires t)
+    (lay-record-past-words-requires t)
+    (lay-record-add-at t)
+    (lay-record-lay-record-requires t)
+    (lay-record-wrap-a-requires t)
+    (lay-record-same-length-2 t)
+    (lay-record-returns-2 t)
+    (lay-record-tag-b-requires t)
+    (lay-record-past-words-requires-2 t)
+    (lay-record-add-at-2 t)
+    (lay-record-lay-record-requires-2 t)
+    (lay-record-wrap-b-requires t)
+    (lay-record-same-length-3 t)
+    (lay-record-returns-3 t)

@@ -1,0 +1,195 @@
+-- Down to the left part, and after it, where it goes, to the right one; the number of nodes falls (Stepping.antt). Assumes nothing.
+use borrow.Author.Needs.{needs}
+use borrow.Author.Tests.{not-true, not-false}
+use native.Mathlib.Omega.{arith}
+use Rattle.words.proofs.Standing.{gone-at, leaf-at}
+use Rattle.words.proofs.Reading.{sizeAt, holds-room, left-room}
+use Rattle.steps.proofs.Stepping.{can-holds, whatever, gone-left, leaf-can, leaf-steps, split, left-can, left-falls, parts-inside, right-at, right-holds, right-can, right-falls, made-room, made-stepped, stays-stepped, goes-room, goes-stepped}
+use Prim.Native.Nat.{ℕ, _<_}
+use borrow.Fn.Kinds.{In}
+use borrow.Fn.PlainCycle.{Measures, is, falls, and}
+use Rattle.steps.proofs.step_rest.Reads as step-rest
+use Rattle.steps.proofs.step_rest.Kinds as step-rest-kinds
+use Rattle.steps.proofs.+step_rest.Lts-step_rest as step-rest-lts
+use Rattle.ends.proofs.goes_right.Reads as goes-right-reads
+use Rattle.steps.proofs.end_right.Reads as end-right-reads
+use Rattle.steps.proofs.final_after.Reads as final-after-reads
+use Rattle.steps.proofs.past_words.Reads as past-words-reads
+use Rattle.steps.proofs.step_record.Reads as step-record-reads
+use Rattle.words.proofs.join.Reads as join-reads
+use Rattle.words.proofs.record_at.Reads as record-at-reads
+use Rattle.words.proofs.size_at.Reads as size-at-reads
+use Rattle.words.proofs.tag_at.Reads as tag-at-reads
+use Rattle.steps.proofs.+step_rest.{statement}
+use Rattle.steps.proofs.+step_rest.Tie.{close}
+
+abbrev μ-step-rest : Measures 5 step-rest-kinds.ps ℕ
+μ-step-rest κs a = sizeAt (a .1 .1 .1 .1 .1 .1 .1 .0 .now) (a .1 .1 .1 .1 .1 .1 .1 .1 .0)
+
+abbrev step-rest-at : ℕ → In 5 step-rest-kinds.ps
+step-rest-at t = and 5 step-rest-kinds.ps (is 5 step-rest-kinds.ps μ-step-rest t) step-rest.Pre
+
+abbrev step-rest-below : ℕ → In 5 step-rest-kinds.ps
+step-rest-below t =
+    and 5 step-rest-kinds.ps (falls 5 step-rest-kinds.ps _<_ μ-step-rest t) step-rest.Pre
+
+abbrev claims : ℕ → step-rest-lts.Claims
+claims t = (
+  tag-at-reads.Asked,
+  tag-at-reads.Learnt,
+  record-at-reads.Asked,
+  record-at-reads.Learnt,
+  step-record-reads.Asked,
+  step-record-reads.Learnt,
+  size-at-reads.Asked,
+  size-at-reads.Learnt,
+  step-rest-below t,
+  step-rest.Post,
+  join-reads.Asked,
+  join-reads.Learnt,
+  goes-right-reads.Asked,
+  goes-right-reads.Learnt,
+  final-after-reads.Asked,
+  final-after-reads.Learnt,
+  past-words-reads.Asked,
+  past-words-reads.Learnt,
+  end-right-reads.Asked,
+  end-right-reads.Learnt,
+)
+
+step-rest-tag-at-requires : (t : ℕ) → step-rest-lts.Need-tag-at-requires (claims t) (step-rest-at t) step-rest.Post
+step-rest-tag-at-requires t c κs = holds-room (can-holds (c .before .before .before .before .before .before .pre .1 .1))
+
+step-rest-same-length : (t : ℕ) → step-rest-lts.Need-same-length (claims t) (step-rest-at t) step-rest.Post
+step-rest-same-length t c = search needs
+
+step-rest-returns : (t : ℕ) → step-rest-lts.Need-returns (claims t) (step-rest-at t) step-rest.Post
+step-rest-returns t c = gone-left (c .before .before .before .before .before .before .before .before .pre .1 .1) (gone-at _ _ _ (c .before .tag-at .ensures) ((c .before .before .before .before .before .before .before .before .pre .1 .1) .rest) ((c .before .before .before .before .before .before .before .before .pre .1 .1) .at) (c .if1 .taken))
+
+step-rest-record-at-requires : (t : ℕ) → step-rest-lts.Need-record-at-requires (claims t) (step-rest-at t) step-rest.Post
+step-rest-record-at-requires t c κs = holds-room (can-holds (c .before .before .before .before .before .before .before .before .before .before .pre .1 .1))
+
+step-rest-step-record-requires : (t : ℕ) → step-rest-lts.Need-step-record-requires (claims t) (step-rest-at t) step-rest.Post
+step-rest-step-record-requires t c κs = (c .before .before .before .before .before .before .before .before .before .before .before .before .pre .1 .0, leaf-can (c .before .before .before .before .before .before .before .before .before .before .before .before .pre .1 .1) (leaf-at _ _ _ (c .before .before .before .before .before .tag-at .ensures) ((c .before .before .before .before .before .before .before .before .before .before .before .before .pre .1 .1) .rest) ((c .before .before .before .before .before .before .before .before .before .before .before .before .pre .1 .1) .at) (c .before .before .before .if2 .taken)) (c .before .record-at .ensures))
+
+step-rest-same-length-2 : (t : ℕ) → step-rest-lts.Need-same-length-2 (claims t) (step-rest-at t) step-rest.Post
+step-rest-same-length-2 t c = search needs
+
+step-rest-returns-2 : (t : ℕ) → step-rest-lts.Need-returns-2 (claims t) (step-rest-at t) step-rest.Post
+step-rest-returns-2 t c = leaf-steps (c .before .before .before .before .before .before .before .before .before .before .before .before .before .before .before .pre .1 .1) (leaf-at _ _ _ (c .before .before .before .before .before .before .before .before .tag-at .ensures) ((c .before .before .before .before .before .before .before .before .before .before .before .before .before .before .before .pre .1 .1) .rest) ((c .before .before .before .before .before .before .before .before .before .before .before .before .before .before .before .pre .1 .1) .at) (c .before .before .before .before .before .before .if2 .taken)) (c .before .before .before .before .record-at .ensures) (c .before .before .step-record .ensures)
+
+step-rest-add-left : (t : ℕ) → step-rest-lts.Need-add-left (claims t) (step-rest-at t) step-rest.Post
+step-rest-add-left t c = let h = left-room (can-holds (c .before .before .before .before .before .before .before .before .before .pre .1 .1)) (c .before .before .tag-at .ensures) (c .before .if1 .left) (c .if2 .left) in omega arith
+
+step-rest-size-at-requires : (t : ℕ) → step-rest-lts.Need-size-at-requires (claims t) (step-rest-at t) step-rest.Post
+step-rest-size-at-requires t c κs = left-room (can-holds (c .before .before .before .before .before .before .before .before .before .before .pre .1 .1)) (c .before .before .before .tag-at .ensures) (c .before .before .if1 .left) (c .before .if2 .left)
+
+step-rest-mul-right : (t : ℕ) → step-rest-lts.Need-mul-right (claims t) (step-rest-at t) step-rest.Post
+step-rest-mul-right t c = let X = split (c .before .before .before .before .before .before .before .before .before .before .before .pre .1 .1) (c .before .before .before .before .tag-at .ensures) (c .before .before .before .if1 .left) (c .before .before .if2 .left) (c .size-at .ensures) in omega (arith, parts-inside X, X .inside, X .small)
+
+step-rest-add-right : (t : ℕ) → step-rest-lts.Need-add-right (claims t) (step-rest-at t) step-rest.Post
+step-rest-add-right t c = let X = split (c .before .before .before .before .before .before .before .before .before .before .before .pre .1 .1) (c .before .before .before .before .tag-at .ensures) (c .before .before .before .if1 .left) (c .before .before .if2 .left) (c .size-at .ensures) in omega (arith, parts-inside X, X .inside, X .small)
+
+step-rest-add-step-rest : (t : ℕ) → step-rest-lts.Need-add-step-rest (claims t) (step-rest-at t) step-rest.Post
+step-rest-add-step-rest t c = let X = split (c .before .before .before .before .before .before .before .before .before .before .before .before .pre .1 .1) (c .before .before .before .before .before .tag-at .ensures) (c .before .before .before .before .if1 .left) (c .before .before .before .if2 .left) (c .before .size-at .ensures) in omega (arith, X .inside, X .small)
+
+step-rest-step-rest-requires : (t : ℕ) → step-rest-lts.Need-step-rest-requires (claims t) (step-rest-at t) step-rest.Post
+step-rest-step-rest-requires t c κs = let X = split (c .before .before .before .before .before .before .before .before .before .before .before .before .pre .1 .1) (c .before .before .before .before .before .tag-at .ensures) (c .before .before .before .before .if1 .left) (c .before .before .before .if2 .left) (c .before .size-at .ensures) in (left-falls X (c .before .before .before .before .before .before .before .before .before .before .before .before .pre .0), (c .before .before .before .before .before .before .before .before .before .before .before .before .pre .1 .0, left-can X))
+
+step-rest-enum-known-t : (t : ℕ) → step-rest-lts.Need-enum-known-t (claims t) (step-rest-at t) step-rest.Post
+step-rest-enum-known-t t c = search needs
+
+step-rest-size-at-requires-2 : (t : ℕ) → step-rest-lts.Need-size-at-requires-2 (claims t) (step-rest-at t) step-rest.Post
+step-rest-size-at-requires-2 t c κs = let X = split (c .before .before .before .before .before .before .before .before .before .before .before .before .before .before .before .before .before .before .before .pre .1 .1) (c .before .before .before .before .before .before .before .before .before .before .before .before .tag-at .ensures) (c .before .before .before .before .before .before .before .before .before .before .before .if1 .left) (c .before .before .before .before .before .before .before .before .before .before .if2 .left) (c .before .before .before .before .before .before .before .before .size-at .ensures) in let F = c .before .before .before .before .before .before .step-rest .ensures _ _ (X .tabled) (X .parts .l) (X .parts .l-at) in holds-room (right-holds X (F .kept))
+
+step-rest-join-requires : (t : ℕ) → step-rest-lts.Need-join-requires (claims t) (step-rest-at t) step-rest.Post
+step-rest-join-requires t c κs = let X = split (c .before .before .before .before .before .before .before .before .before .before .before .before .before .before .before .before .before .before .before .before .before .pre .1 .1) (c .before .before .before .before .before .before .before .before .before .before .before .before .before .before .tag-at .ensures) (c .before .before .before .before .before .before .before .before .before .before .before .before .before .if1 .left) (c .before .before .before .before .before .before .before .before .before .before .before .before .if2 .left) (c .before .before .before .before .before .before .before .before .before .before .size-at .ensures) in let F = c .before .before .before .before .before .before .before .before .step-rest .ensures _ _ (X .tabled) (X .parts .l) (X .parts .l-at) in let R = made-room X (X .tabled) F (c .before .before .before .before .t .given .1) (c .before .size-at2 .ensures) in (R .0, (X .parts .three, R .1))
+
+step-rest-add-t42 : (t : ℕ) → step-rest-lts.Need-add-t42 (claims t) (step-rest-at t) step-rest.Post
+step-rest-add-t42 t c = let X = split (c .before .before .before .before .before .before .before .before .before .before .before .before .before .before .before .before .before .before .before .before .before .before .before .before .pre .1 .1) (c .before .before .before .before .before .before .before .before .before .before .before .before .before .before .before .before .before .tag-at .ensures) (c .before .before .before .before .before .before .before .before .before .before .before .before .before .before .before .before .if1 .left) (c .before .before .before .before .before .before .before .before .before .before .before .before .before .before .before .if2 .left) (c .before .before .before .before .before .before .before .before .before .before .before .before .before .size-at .ensures) in let F = c .before .before .before .before .before .before .before .before .before .before .before .step-rest .ensures _ _ (X .tabled) (X .parts .l) (X .parts .l-at) in let R = made-room X (X .tabled) F (c .before .before .before .before .before .before .before .t .given .1) (c .before .before .before .before .size-at2 .ensures) in omega (arith, R .0 .inside, R .0 .small)
+
+step-rest-add-t43 : (t : ℕ) → step-rest-lts.Need-add-t43 (claims t) (step-rest-at t) step-rest.Post
+step-rest-add-t43 t c = let X = split (c .before .before .before .before .before .before .before .before .before .before .before .before .before .before .before .before .before .before .before .before .before .before .before .before .pre .1 .1) (c .before .before .before .before .before .before .before .before .before .before .before .before .before .before .before .before .before .tag-at .ensures) (c .before .before .before .before .before .before .before .before .before .before .before .before .before .before .before .before .if1 .left) (c .before .before .before .before .before .before .before .before .before .before .before .before .before .before .before .if2 .left) (c .before .before .before .before .before .before .before .before .before .before .before .before .before .size-at .ensures) in let F = c .before .before .before .before .before .before .before .before .before .before .before .step-rest .ensures _ _ (X .tabled) (X .parts .l) (X .parts .l-at) in let R = made-room X (X .tabled) F (c .before .before .before .before .before .before .before .t .given .1) (c .before .before .before .before .size-at2 .ensures) in omega (arith, R .0 .inside, R .0 .small)
+
+step-rest-same-length-3 : (t : ℕ) → step-rest-lts.Need-same-length-3 (claims t) (step-rest-at t) step-rest.Post
+step-rest-same-length-3 t c = search needs
+
+step-rest-returns-3 : (t : ℕ) → step-rest-lts.Need-returns-3 (claims t) (step-rest-at t) step-rest.Post
+step-rest-returns-3 t c = let X = split (c .before .before .before .before .before .before .before .before .before .before .before .before .before .before .before .before .before .before .before .before .before .before .before .before .pre .1 .1) (c .before .before .before .before .before .before .before .before .before .before .before .before .before .before .before .before .before .tag-at .ensures) (c .before .before .before .before .before .before .before .before .before .before .before .before .before .before .before .before .if1 .left) (c .before .before .before .before .before .before .before .before .before .before .before .before .before .before .before .if2 .left) (c .before .before .before .before .before .before .before .before .before .before .before .before .before .size-at .ensures) in whatever (c .before .before .before .before .before .before .before .before .before .before .before .before .before .before .before .before .before .before .before .before .before .before .before .before .pre .1 .1) (λ W s T. let F = c .before .before .before .before .before .before .before .before .before .before .before .step-rest .ensures W s T (X .parts .l) (X .parts .l-at) in made-stepped X T F (c .before .before .before .before .before .before .before .t .given .1) (c .before .before .before .before .size-at2 .ensures) (c .before .before .join .ensures))
+
+step-rest-enum-known-t-2 : (t : ℕ) → step-rest-lts.Need-enum-known-t-2 (claims t) (step-rest-at t) step-rest.Post
+step-rest-enum-known-t-2 t c = search needs
+
+step-rest-goes-right-requires : (t : ℕ) → step-rest-lts.Need-goes-right-requires (claims t) (step-rest-at t) step-rest.Post
+step-rest-goes-right-requires t c κs = search needs
+
+step-rest-final-after-requires : (t : ℕ) → step-rest-lts.Need-final-after-requires (claims t) (step-rest-at t) step-rest.Post
+step-rest-final-after-requires t c κs = let X = split (c .before .before .before .before .before .before .before .before .before .before .before .before .before .before .before .before .before .before .before .before .before .pre .1 .1) (c .before .before .before .before .before .before .before .before .before .before .before .before .before .before .tag-at .ensures) (c .before .before .before .before .before .before .before .before .before .before .before .before .before .if1 .left) (c .before .before .before .before .before .before .before .before .before .before .before .before .if2 .left) (c .before .before .before .before .before .before .before .before .before .before .size-at .ensures) in let F = c .before .before .before .before .before .before .before .before .step-rest .ensures _ _ (X .tabled) (X .parts .l) (X .parts .l-at) in right-holds X (F .kept)
+
+step-rest-same-length-4 : (t : ℕ) → step-rest-lts.Need-same-length-4 (claims t) (step-rest-at t) step-rest.Post
+step-rest-same-length-4 t c = search needs
+
+step-rest-returns-4 : (t : ℕ) → step-rest-lts.Need-returns-4 (claims t) (step-rest-at t) step-rest.Post
+step-rest-returns-4 t c = let X = split (c .before .before .before .before .before .before .before .before .before .before .before .before .before .before .before .before .before .before .before .before .before .before .pre .1 .1) (c .before .before .before .before .before .before .before .before .before .before .before .before .before .before .before .tag-at .ensures) (c .before .before .before .before .before .before .before .before .before .before .before .before .before .before .if1 .left) (c .before .before .before .before .before .before .before .before .before .before .before .before .before .if2 .left) (c .before .before .before .before .before .before .before .before .before .before .before .size-at .ensures) in whatever (c .before .before .before .before .before .before .before .before .before .before .before .before .before .before .before .before .before .before .before .before .before .before .pre .1 .1) (λ W s T. let F = c .before .before .before .before .before .before .before .before .before .step-rest .ensures W s T (X .parts .l) (X .parts .l-at) in stays-stepped X T F (c .before .before .before .before .before .t2 .given .1) (c .before .before .before .goes-right .ensures) (not-true _ (c .before .before .if3 .taken)) (c .final-after .ensures))
+
+step-rest-mul-past-words : (t : ℕ) → step-rest-lts.Need-mul-past-words (claims t) (step-rest-at t) step-rest.Post
+step-rest-mul-past-words t c = let X = split (c .before .before .before .before .before .before .before .before .before .before .before .before .before .before .before .before .before .before .before .before .pre .1 .1) (c .before .before .before .before .before .before .before .before .before .before .before .before .before .tag-at .ensures) (c .before .before .before .before .before .before .before .before .before .before .before .before .if1 .left) (c .before .before .before .before .before .before .before .before .before .before .before .if2 .left) (c .before .before .before .before .before .before .before .before .before .size-at .ensures) in omega (arith, parts-inside X, X .inside, X .small)
+
+step-rest-add-past-words : (t : ℕ) → step-rest-lts.Need-add-past-words (claims t) (step-rest-at t) step-rest.Post
+step-rest-add-past-words t c = let X = split (c .before .before .before .before .before .before .before .before .before .before .before .before .before .before .before .before .before .before .before .before .pre .1 .1) (c .before .before .before .before .before .before .before .before .before .before .before .before .before .tag-at .ensures) (c .before .before .before .before .before .before .before .before .before .before .before .before .if1 .left) (c .before .before .before .before .before .before .before .before .before .before .before .if2 .left) (c .before .before .before .before .before .before .before .before .before .size-at .ensures) in omega (arith, parts-inside X, X .inside, X .small)
+
+step-rest-past-words-requires : (t : ℕ) → step-rest-lts.Need-past-words-requires (claims t) (step-rest-at t) step-rest.Post
+step-rest-past-words-requires t c κs = search needs
+
+step-rest-add-at : (t : ℕ) → step-rest-lts.Need-add-at (claims t) (step-rest-at t) step-rest.Post
+step-rest-add-at t c = let X = split (c .before .before .before .before .before .before .before .before .before .before .before .before .before .before .before .before .before .before .before .before .before .pre .1 .1) (c .before .before .before .before .before .before .before .before .before .before .before .before .before .before .tag-at .ensures) (c .before .before .before .before .before .before .before .before .before .before .before .before .before .if1 .left) (c .before .before .before .before .before .before .before .before .before .before .before .before .if2 .left) (c .before .before .before .before .before .before .before .before .before .before .size-at .ensures) in omega (arith, X .inside, X .small, X .parts .left-is, c .past-words .ensures .1)
+
+step-rest-step-rest-requires-2 : (t : ℕ) → step-rest-lts.Need-step-rest-requires-2 (claims t) (step-rest-at t) step-rest.Post
+step-rest-step-rest-requires-2 t c κs = let X = split (c .before .before .before .before .before .before .before .before .before .before .before .before .before .before .before .before .before .before .before .before .before .before .pre .1 .1) (c .before .before .before .before .before .before .before .before .before .before .before .before .before .before .before .tag-at .ensures) (c .before .before .before .before .before .before .before .before .before .before .before .before .before .before .if1 .left) (c .before .before .before .before .before .before .before .before .before .before .before .before .before .if2 .left) (c .before .before .before .before .before .before .before .before .before .before .before .size-at .ensures) in let F = c .before .before .before .before .before .before .before .before .before .step-rest .ensures _ _ (X .tabled) (X .parts .l) (X .parts .l-at) in (right-falls X (F .kept) (c .before .before .before .before .before .before .before .before .before .before .before .before .before .before .before .before .before .before .before .before .before .before .pre .0), (c .before .before .before .before .before .before .before .before .before .before .before .before .before .before .before .before .before .before .before .before .before .before .pre .1 .0, right-can X (F .kept) (c .before .past-words .ensures .1)))
+
+step-rest-end-right-requires : (t : ℕ) → step-rest-lts.Need-end-right-requires (claims t) (step-rest-at t) step-rest.Post
+step-rest-end-right-requires t c κs = let X = split (c .before .before .before .before .before .before .before .before .before .before .before .before .before .before .before .before .before .before .before .before .before .before .before .before .before .before .pre .1 .1) (c .before .before .before .before .before .before .before .before .before .before .before .before .before .before .before .before .before .before .before .tag-at .ensures) (c .before .before .before .before .before .before .before .before .before .before .before .before .before .before .before .before .before .before .if1 .left) (c .before .before .before .before .before .before .before .before .before .before .before .before .before .before .before .before .before .if2 .left) (c .before .before .before .before .before .before .before .before .before .before .before .before .before .before .before .size-at .ensures) in let F = c .before .before .before .before .before .before .before .before .before .before .before .before .before .step-rest .ensures _ _ (X .tabled) (X .parts .l) (X .parts .l-at) in (goes-room X (X .tabled) F (c .before .before .before .before .before .before .before .before .before .t2 .given .1) (c .before .before .before .before .before .before .before .goes-right .ensures) (not-false _ (c .before .before .before .before .before .before .if3 .left)) (c .before .before .before .before .before .past-words .ensures .0) (c .before .before .before .step-rest2 .ensures _ _ (X .tabled) (X .parts .r) (right-at X (F .kept))), (X .parts .three, omega (arith, parts-inside X)))
+
+step-rest-same-length-5 : (t : ℕ) → step-rest-lts.Need-same-length-5 (claims t) (step-rest-at t) step-rest.Post
+step-rest-same-length-5 t c = search needs
+
+step-rest-returns-5 : (t : ℕ) → step-rest-lts.Need-returns-5 (claims t) (step-rest-at t) step-rest.Post
+step-rest-returns-5 t c = let X = split (c .before .before .before .before .before .before .before .before .before .before .before .before .before .before .before .before .before .before .before .before .before .before .before .before .before .before .before .before .before .pre .1 .1) (c .before .before .before .before .before .before .before .before .before .before .before .before .before .before .before .before .before .before .before .before .before .before .tag-at .ensures) (c .before .before .before .before .before .before .before .before .before .before .before .before .before .before .before .before .before .before .before .before .before .if1 .left) (c .before .before .before .before .before .before .before .before .before .before .before .before .before .before .before .before .before .before .before .before .if2 .left) (c .before .before .before .before .before .before .before .before .before .before .before .before .before .before .before .before .before .before .size-at .ensures) in whatever (c .before .before .before .before .before .before .before .before .before .before .before .before .before .before .before .before .before .before .before .before .before .before .before .before .before .before .before .before .before .pre .1 .1) (λ W s T. let F = c .before .before .before .before .before .before .before .before .before .before .before .before .before .before .before .before .step-rest .ensures W s T (X .parts .l) (X .parts .l-at) in goes-stepped X T F (c .before .before .before .before .before .before .before .before .before .before .before .before .t2 .given .1) (c .before .before .before .before .before .before .before .before .before .before .goes-right .ensures) (not-false _ (c .before .before .before .before .before .before .before .before .before .if3 .left)) (c .before .before .before .before .before .before .before .before .past-words .ensures .0) (c .before .before .before .before .before .before .step-rest2 .ensures W s T (X .parts .r) (right-at X (F .kept))) (c .before .before .end-right .ensures))
+
+pub +step-rest-spec : {M : Type 1} → statement M
++step-rest-spec = close μ-step-rest λ t. step-rest-lts.spec (claims t)
+    (step-rest-at t)
+    step-rest.Post
+    (step-rest-tag-at-requires t)
+    (step-rest-same-length t)
+    (step-rest-returns t)
+    (step-rest-record-at-requires t)
+    (step-rest-step-record-requires t)
+    (step-rest-same-length-2 t)
+    (step-rest-returns-2 t)
+    (step-rest-add-left t)
+    (step-rest-size-at-requires t)
+    (step-rest-mul-right t)
+    (step-rest-add-right t)
+    (step-rest-add-step-rest t)
+    (step-rest-step-rest-requires t)
+    (step-rest-enum-known-t t)
+    (step-rest-size-at-requires-2 t)
+    (step-rest-join-requires t)
+    (step-rest-add-t42 t)
+    (step-rest-add-t43 t)
+    (step-rest-same-length-3 t)
+    (step-rest-returns-3 t)
+    (step-rest-enum-known-t-2 t)
+    (step-rest-goes-right-requires t)
+    (step-rest-final-after-requires t)
+    (step-rest-same-length-4 t)
+    (step-rest-returns-4 t)
+    (step-rest-mul-past-words t)
+    (step-rest-add-past-words t)
+    (step-rest-past-words-requires t)
+    (step-rest-add-at t)
+    (step-rest-step-rest-requires-2 t)
+    (step-rest-end-right-requires t)
+    (step-rest-same-length-5 t)
+    (step-rest-returns-5 t)

@@ -1,0 +1,367 @@
+// The k-th transition of a remaining program: straight down by counts to what performs it, and on the way back up the constructs around
+// what it leaves.
+ghost use mathlib.Core.Path.{_≡_};
+ghost use mathlib.Core.Bool.{_&&_};
+ghost use Prim.Native.Nat.{_+_, _*_, _≤_, _<_};
+ghost use lib.Dec.{eqb};
+ghost use lib.ListN.{length};
+ghost use Rattle.held.specs.Rest.{Rest};
+ghost use Rattle.held.specs.Kinds.{tagA, loops, tagB};
+ghost use Rattle.held.specs.Leaves.{ownMove, siblingA, wrapA, wrapB};
+ghost use Rattle.words.specs.Words.{At, Holds, Room};
+ghost use Rattle.ends.specs.Ends.{finalIn};
+ghost use Rattle.steps.specs.Laid.{codeOf, view, CanLay, LaysRecord, past, Wrapped};
+ghost use Rattle.steps.specs.Stepped.{CanStepRecord, StepsRecord, CanStep, StepsRest, EndsRight, RoomFor};
+use records::Program;
+
+// The kind of the construct that what part a leaves stands in; 0 where it stands alone.
+fn tag_a(kind: usize) -> u32
+    ensures { λ r. ⌜ r ≡ tagA kind ⌝ }
+{
+    match kind {
+        3 => 3,
+        5 => 3,
+        7 => 3,
+        8 => 8,
+        9 => 9,
+        10 => 8,
+        11 => 3,
+        _ => 0,
+    }
+}
+
+// The same for what part b leaves.
+fn tag_b(kind: usize) -> u32
+    ensures { λ r. ⌜ r ≡ tagB kind ⌝ }
+{
+    match kind {
+        8 => 8,
+        9 => 9,
+        _ => 0,
+    }
+}
+
+fn is_loop(kind: usize) -> bool
+    ensures { λ r. ⌜ r ≡ loops kind ⌝ }
+{
+    match kind {
+        5 => true,
+        7 => true,
+        10 => true,
+        11 => true,
+        _ => false,
+    }
+}
+
+// The record beside what part a leaves: the record itself for a loop, else its part b.
+fn sibling(r: Program, i: usize) -> usize
+    ensures { λ q. ⌜ q ≡ siblingA r i ⌝ }
+{
+    if is_loop(r.kind) { i } else { r.b }
+}
+
+// The code of a record's own move.
+fn entry_of(r: Program) -> u32
+    requires { ⌜ r .a < 65536 ⌝ }
+    ensures { λ e. ⌜ e ≡ codeOf (ownMove r) ⌝ }
+{
+    let a = r.a;
+    if r.kind == 1 { a as u32 } else { 65536 }
+}
+
+// How far what a part leaves stands after its construct.
+fn past_words(alone: bool, words: usize) -> usize
+    ensures { λ r. ⌜ (r ≡ past alone words) × (r ≤ words) ⌝ }
+{
+    if alone { 0 } else { words }
+}
+
+// Puts what part a of record i left, n nodes, into its construct: the new number of nodes.
+fn wrap_a(work: &mut [u32], to: usize, r: Program, i: usize, n: usize) -> usize
+    requires { ⌜ Room (now work) to (n + 2) ⌝ }
+    requires { ⌜ (i < 65536) × (r .b < 65536) ⌝ }
+    ensures { λ m. ⌜ Wrapped (wrapA (tagA (r .kind)) (siblingA r i)) (to + past (eqb (tagA (r .kind)) 0) 3) to n m (now (work .entry)) (now (work .exit)) ⌝ }
+{
+    let tag = tag_a(r.kind);
+    if tag == 0 {
+        return n;
+    }
+    words::close_leaf(work, to, tag, n, sibling(r, i));
+    n + 2
+}
+
+// The same for part b, which part a stands left of.
+fn wrap_b(work: &mut [u32], to: usize, r: Program, n: usize) -> usize
+    requires { ⌜ Room (now work) to (n + 2) ⌝ }
+    requires { ⌜ r .a < 65536 ⌝ }
+    ensures { λ m. ⌜ Wrapped (wrapB (tagB (r .kind)) (r .a)) (to + past (eqb (tagB (r .kind)) 0) 6) to n m (now (work .entry)) (now (work .exit)) ⌝ }
+{
+    let tag = tag_b(r.kind);
+    if tag == 0 {
+        return n;
+    }
+    words::open_leaf(work, to, tag, n, r.a);
+    n + 2
+}
+
+// What a transition left: the code of its move, and the number of nodes.
+pub struct Laid {
+    pub entry: u32,
+    pub size: usize,
+}
+
+// Lays out the k-th transition of record i at `to`: its own, or one of part a, or of part b, by how many part a has.
+fn lay_record(
+    programs: &[u8],
+    n: usize,
+    interrupts: bool,
+    held: &[bool],
+    running: bool,
+    counts: &[u32],
+    work: &mut [u32],
+    i: usize,
+    to: usize,
+    k: usize,
+) -> Laid
+    requires { ⌜ (8 * n ≤ length (now programs)) × (1 ≤ n) × (n ≤ 256) ⌝ }
+    requires { ⌜ CanLay (view (now programs) n interrupts (now held) running (now counts)) (now work) i to k ⌝ }
+    ensures { λ r. ⌜ LaysRecord (view (now (programs .entry)) n interrupts (now (held .entry)) running (now (counts .entry))) i k to (now (work .entry)) (now (work .exit)) (r .entry) (r .size) ⌝ }
+{
+    let r = leaves::record_at(programs, n, interrupts, i);
+    if r.kind < 3 {
+        words::put_node(work, to, 0, 0, 1);
+        return Laid {
+            entry: entry_of(r),
+            size: 1,
+        };
+    }
+    let first = leaves::first_count(r, held, running, counts);
+    if k < first {
+        let at = to + past_words(tag_a(r.kind) == 0, 3);
+        let x = lay_record(
+            programs,
+            n,
+            interrupts,
+            held,
+            running,
+            counts,
+            work,
+            r.a,
+            at,
+            k,
+        );
+        let size = wrap_a(work, to, r, i, x.size);
+        return Laid {
+            entry: x.entry,
+            size,
+        };
+    }
+    let at = to + past_words(tag_b(r.kind) == 0, 6);
+    let x = lay_record(
+        programs,
+        n,
+        interrupts,
+        held,
+        running,
+        counts,
+        work,
+        r.b,
+        at,
+        k - first,
+    );
+    let size = wrap_b(work, to, r, x.size);
+    Laid {
+        entry: x.entry,
+        size,
+    }
+}
+
+// A transition that was made, with the code of its move and the number of nodes; or none, with what is left of k and whether it is final.
+pub enum Turn {
+    Made { entry: u32, size: usize },
+    Left { k: usize, done: bool },
+}
+
+fn wide(x: u32) -> usize
+    ensures { λ r. ⌜ r ≡ x ⌝ }
+{
+    x as usize
+}
+
+// The k-th transition of record i.
+fn step_record(
+    programs: &[u8],
+    n: usize,
+    interrupts: bool,
+    held: &[bool],
+    running: bool,
+    finals: &[bool],
+    counts: &[u32],
+    work: &mut [u32],
+    i: usize,
+    to: usize,
+    k: usize,
+) -> Turn
+    requires { ⌜ (8 * n ≤ length (now programs)) × (1 ≤ n) × (n ≤ 256) ⌝ }
+    requires { ⌜ CanStepRecord (view (now programs) n interrupts (now held) running (now counts)) (now finals) (now work) i to ⌝ }
+    ensures { λ r. ⌜ StepsRecord (view (now (programs .entry)) n interrupts (now (held .entry)) running (now (counts .entry))) (now (finals .entry)) i k to (now (work .entry)) (now (work .exit)) r ⌝ }
+{
+    let count = wide(leaves::count_in(counts, i));
+    if k < count {
+        let x = lay_record(
+            programs,
+            n,
+            interrupts,
+            held,
+            running,
+            counts,
+            work,
+            i,
+            to,
+            k,
+        );
+        return Turn::Made {
+            entry: x.entry,
+            size: x.size,
+        };
+    }
+    Turn::Left {
+        k: k - count,
+        done: leaves::final_in(finals, i),
+    }
+}
+
+// Whether a left part that is final or not, and the right part at `at`, are both final.
+fn final_after(done: bool, finals: &[bool], work: &[u32], at: usize) -> bool
+    requires { ⌜ Holds (now work) at ⌝ }
+    ensures { λ r. ⌜ ((g : Rest) → At g (now (work .entry)) at → r ≡ (done && finalIn (now (finals .entry)) g)) ⌝ }
+{
+    if done {
+        return ends::final_rest(finals, work, at);
+    }
+    false
+}
+
+// Puts the left part, n nodes at `from`, beside what the right one left, but in a sequence.
+fn end_right(
+    work: &mut [u32],
+    from: usize,
+    to: usize,
+    tag: u32,
+    n: usize,
+    done: bool,
+    t: Turn,
+) -> Turn
+    requires { ⌜ RoomFor (now work) to (1 + n) t ⌝ }
+    requires { ⌜ (3 ≤ tag) × (from + 3 * n ≤ to) ⌝ }
+    ensures { λ r. ⌜ EndsRight tag from to n done (now (work .entry)) (now (work .exit)) t r ⌝ }
+{
+    match t {
+        Turn::Made { entry, size } => {
+            if tag == 3 {
+                return Turn::Made { entry, size };
+            }
+            words::head(work, from, to, tag, n, size);
+            return Turn::Made {
+                entry,
+                size: 1 + n + size,
+            };
+        }
+        Turn::Left { k, done: ended } => {
+            return Turn::Left {
+                k,
+                done: done & ended,
+            };
+        }
+    }
+}
+
+// The k-th transition of the remaining program at `from`, laid out at `to`: one pass, which also tells how many there are and whether
+// it is final where there is none. A part is copied only once the transition is made.
+pub fn step_rest(
+    programs: &[u8],
+    n: usize,
+    interrupts: bool,
+    held: &[bool],
+    running: bool,
+    finals: &[bool],
+    counts: &[u32],
+    work: &mut [u32],
+    from: usize,
+    to: usize,
+    k: usize,
+) -> Turn
+    requires { ⌜ (8 * n ≤ length (now programs)) × (1 ≤ n) × (n ≤ 256) ⌝ }
+    requires { ⌜ CanStep (view (now programs) n interrupts (now held) running (now counts)) (now finals) (now work) from to ⌝ }
+    ensures { λ r. ⌜ StepsRest (view (now (programs .entry)) n interrupts (now (held .entry)) running (now (counts .entry))) (now (finals .entry)) from k to (now (work .entry)) (now (work .exit)) r ⌝ }
+{
+    let tag = words::tag_at(work, from);
+    if tag == 0 {
+        return Turn::Left { k, done: true };
+    }
+    if tag == 1 {
+        let i = words::record_at(work, from);
+        return step_record(
+            programs,
+            n,
+            interrupts,
+            held,
+            running,
+            finals,
+            counts,
+            work,
+            i,
+            to,
+            k,
+        );
+    }
+    let left = from + 3;
+    let size_left = words::size_at(work, left);
+    let right = left + 3 * size_left;
+    let t = step_rest(
+        programs,
+        n,
+        interrupts,
+        held,
+        running,
+        finals,
+        counts,
+        work,
+        left,
+        to + 3,
+        k,
+    );
+    match t {
+        Turn::Made { entry, size } => {
+            let m = words::size_at(work, right);
+            words::join(work, right, to, tag, size, m);
+            return Turn::Made {
+                entry,
+                size: 1 + size + m,
+            };
+        }
+        Turn::Left { k: j, done } => {
+            if !ends::goes_right(tag, done, j == k) {
+                return Turn::Left {
+                    k: j,
+                    done: final_after(done, finals, work, right),
+                };
+            }
+            let at = to + past_words(tag == 3, 3 + 3 * size_left);
+            let u = step_rest(
+                programs,
+                n,
+                interrupts,
+                held,
+                running,
+                finals,
+                counts,
+                work,
+                right,
+                at,
+                j,
+            );
+            return end_right(work, left, to, tag, size_left, done, u);
+        }
+    }
+}

@@ -1,0 +1,4 @@
+pub mod Written
+pub mod Standing
+pub mod Moved
+pub mod Reading

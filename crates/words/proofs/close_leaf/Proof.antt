@@ -1,0 +1,42 @@
+-- The record is written after the nodes that stand there, the construct before them. Assumes nothing.
+use Rattle.words.proofs.Moved.{closed-of}
+use borrow.Author.Needs.{needs}
+use Rattle.words.proofs.close_leaf.Statement.{statement}
+use Rattle.words.proofs.close_leaf.Tie as tie
+
+add-put-node : tie.Need-add-put-node
+add-put-node c = search needs
+
+mul-put-node : tie.Need-mul-put-node
+mul-put-node c = search needs
+
+add-put-node-2 : tie.Need-add-put-node-2
+add-put-node-2 c = search needs
+
+put-node-requires : tie.Need-put-node-requires
+put-node-requires c κs = search needs
+
+add-put-node-3 : tie.Need-add-put-node-3
+add-put-node-3 c = search needs
+
+put-node-requires-2 : tie.Need-put-node-requires-2
+put-node-requires-2 c κs = search needs
+
+same-length : tie.Need-same-length
+same-length c = search needs
+
+returns : tie.Need-returns
+returns c = closed-of _ _ _ _ _ _ _ (c .before .before .before .before .before .before .put-node .ensures) (c .before .before .put-node2 .ensures) (c .before .before .before .before .before .before .before .before .before .pre .1 .0) (c .before .before .before .before .before .before .before .before .before .pre .0 .inside)
+
+pub close-leaf-spec : {M : Type 1} → statement M
+close-leaf-spec =
+    tie.close
+    (tie.spec
+    add-put-node
+    mul-put-node
+    add-put-node-2
+    put-node-requires
+    add-put-node-3
+    put-node-requires-2
+    same-length
+    returns)

@@ -1,0 +1,50 @@
+-- The copy is written after the nodes that stand there, the construct before them. Assumes nothing.
+use Rattle.words.proofs.Moved.{joined-of}
+use borrow.Author.Needs.{needs}
+use Rattle.words.proofs.join.Statement.{statement}
+use Rattle.words.proofs.join.Tie as tie
+
+add-copy-words : tie.Need-add-copy-words
+add-copy-words c = search needs
+
+mul-copy-words : tie.Need-mul-copy-words
+mul-copy-words c = search needs
+
+add-copy-words-2 : tie.Need-add-copy-words-2
+add-copy-words-2 c = search needs
+
+mul-copy-words-2 : tie.Need-mul-copy-words-2
+mul-copy-words-2 c = search needs
+
+copy-words-requires : tie.Need-copy-words-requires
+copy-words-requires c κs = search needs
+
+add-put-node : tie.Need-add-put-node
+add-put-node c = search needs
+
+add-put-node-2 : tie.Need-add-put-node-2
+add-put-node-2 c = search needs
+
+put-node-requires : tie.Need-put-node-requires
+put-node-requires c κs = search needs
+
+same-length : tie.Need-same-length
+same-length c = search needs
+
+returns : tie.Need-returns
+returns c = joined-of _ _ _ _ _ _ _ _ (c .before .before .before .before .before .before .copy-words .ensures) (c .before .before .put-node .ensures) (c .before .before .before .before .before .before .before .before .before .pre .1 .0) (c .before .before .before .before .before .before .before .before .before .pre .0 .inside)
+
+pub join-spec : {M : Type 1} → statement M
+join-spec =
+    tie.close
+    (tie.spec
+    add-copy-words
+    mul-copy-words
+    add-copy-words-2
+    mul-copy-words-2
+    copy-words-requires
+    add-put-node
+    add-put-node-2
+    put-node-requires
+    same-length
+    returns)

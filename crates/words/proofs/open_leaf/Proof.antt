@@ -1,0 +1,34 @@
+-- The record is written before the nodes that stand there, the construct before both. Assumes nothing.
+use Rattle.words.proofs.Moved.{opened-of}
+use borrow.Author.Needs.{needs}
+use Rattle.words.proofs.open_leaf.Statement.{statement}
+use Rattle.words.proofs.open_leaf.Tie as tie
+
+add-put-node : tie.Need-add-put-node
+add-put-node c = search needs
+
+put-node-requires : tie.Need-put-node-requires
+put-node-requires c κs = search needs
+
+add-put-node-2 : tie.Need-add-put-node-2
+add-put-node-2 c = search needs
+
+put-node-requires-2 : tie.Need-put-node-requires-2
+put-node-requires-2 c κs = search needs
+
+same-length : tie.Need-same-length
+same-length c = search needs
+
+returns : tie.Need-returns
+returns c = opened-of _ _ _ _ _ _ _ (c .before .before .before .before .before .before .put-node .ensures) (c .before .before .put-node2 .ensures) (c .before .before .before .before .before .before .before .before .before .pre .1 .0) (c .before .before .before .before .before .before .before .before .before .pre .0 .inside)
+
+pub open-leaf-spec : {M : Type 1} → statement M
+open-leaf-spec =
+    tie.close
+    (tie.spec
+    add-put-node
+    put-node-requires
+    add-put-node-2
+    put-node-requires-2
+    same-length
+    returns)

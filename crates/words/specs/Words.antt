@@ -1,0 +1,71 @@
+-- The remaining program in a frame's words (document 01, "Work area": three words a node). A node's words are its tag, its record and its
+-- number of nodes; its left part stands right after it, its right part after that. All three words are pinned, so that equal remaining
+-- programs are equal word for word. Assumes nothing.
+use mathlib.Core.Path.{_≡_}
+use mathlib.Core.List.{List}
+use Prim.Native.Nat.{ℕ, _+_, _*_, _^_, _≤_, _<_}
+use lib.ListN.{length, getD}
+use Rattle.held.specs.Rest.{Rest, gone, leaf, node, nodes}
+
+-- the node at i, which stands for n nodes, all of them inside
+pub record Node (w : List ℕ) (i tag number n : ℕ) : Type 0 where
+  pub tag-is : getD w i 0 ≡ tag
+  pub record-is : getD w (i + 1) 0 ≡ number
+  pub size-is : getD w (i + 2) 0 ≡ n
+  pub inside : i + 3 * n ≤ length w
+
+-- the words from i on are the remaining program: tag 0 nothing, 1 a record, else a construct by its kind
+unfoldable pub At : Rest → List ℕ → ℕ → Type 0
+At gone w i = Node w i 0 0 1
+At (leaf p) w i = Node w i 1 p 1
+At (node tag l r) w i = Node w i tag 0 (nodes (node tag l r)) × (3 ≤ tag) × At l w (i + 3) × At r w (i + 3 + 3 * nodes l)
+
+-- some remaining program stands there
+pub record Holds (w : List ℕ) (i : ℕ) : Type 0 where
+  pub rest : Rest
+  pub at : At rest w i
+
+-- the words below n are as they were
+pub record Kept (n : ℕ) (w w′ : List ℕ) : Type 0 where
+  pub len : length w′ ≡ length w
+  pub below : (k : ℕ) → k < n → getD w′ k 0 ≡ getD w k 0
+
+-- n words from `from` on stand at `to` too
+pub record Copied («from» to n : ℕ) (w w′ : List ℕ) : Type 0 where
+  pub kept : Kept to w w′
+  pub copied : (k : ℕ) → k < n → getD w′ (to + k) 0 ≡ getD w («from» + k) 0
+  pub above : (k : ℕ) → to + n ≤ k → getD w′ k 0 ≡ getD w k 0
+
+-- the node at i was written, and nothing else
+pub record Put (i tag number n : ℕ) (w w′ : List ℕ) : Type 0 where
+  pub len : length w′ ≡ length w
+  pub tag-is : getD w′ i 0 ≡ tag
+  pub record-is : getD w′ (i + 1) 0 ≡ number
+  pub size-is : getD w′ (i + 2) 0 ≡ n
+  pub below : (k : ℕ) → k < i → getD w′ k 0 ≡ getD w k 0
+  pub above : (k : ℕ) → i + 3 ≤ k → getD w′ k 0 ≡ getD w k 0
+
+-- there is room for n nodes from i on, and their numbers fit a word
+pub record Room (w : List ℕ) (i n : ℕ) : Type 0 where
+  pub inside : i + 3 * n ≤ length w
+  pub small : length w < 2 ^ 32
+
+-- a construct was put around the n nodes that stand after it, left of record q
+pub record Closed (to tag n q : ℕ) (w w′ : List ℕ) : Type 0 where
+  pub kept : Kept to w w′
+  pub closed : (g : Rest) → At g w (to + 3) → nodes g ≡ n → At (node tag g (leaf q)) w′ to
+
+-- a construct was put around the n nodes that stand six words on, right of record q
+pub record Opened (to tag n q : ℕ) (w w′ : List ℕ) : Type 0 where
+  pub kept : Kept to w w′
+  pub opened : (g : Rest) → At g w (to + 6) → nodes g ≡ n → At (node tag (leaf q) g) w′ to
+
+-- a construct was put around the n nodes that stand after it, left of a copy of the m nodes at `from`
+pub record Joined («from» to tag n m : ℕ) (w w′ : List ℕ) : Type 0 where
+  pub kept : Kept to w w′
+  pub joined : (l r : Rest) → At l w (to + 3) → nodes l ≡ n → At r w «from» → nodes r ≡ m → At (node tag l r) w′ to
+
+-- a construct was put around a copy of the n nodes at `from`, left of the m nodes that stand after where the copy ends
+pub record Headed («from» to tag n m : ℕ) (w w′ : List ℕ) : Type 0 where
+  pub kept : Kept to w w′
+  pub headed : (l r : Rest) → At l w «from» → nodes l ≡ n → At r w (to + 3 + 3 * n) → nodes r ≡ m → At (node tag l r) w′ to

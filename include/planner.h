@@ -1,0 +1,104 @@
+/*
+ * The verified planner, for C and every language that calls C (x86-64 System V).
+ *
+ *     rt staticlib planner_c        writes target/staticlib/libplanner_c.a
+ *     cc -Iinclude program.c target/staticlib/libplanner_c.a
+ *
+ * "Document 01" is the paper that fixes sheets, programs, plans and numbers.
+ *
+ * Buffers. Every buffer is the caller's: it is lent for the time of one call, nothing is retained, allocated or shared
+ * between calls, and calls on different buffers may run at the same time.
+ *  - A slice is a pointer to its first element, then the number of its elements. The pointer is never null and is
+ *    aligned for its type: an empty slice, too, has some aligned address that is not null, as its own end.
+ *  - Sheets and histories are read only, and are never written. Nobody else writes them during the call.
+ *  - Work, trace and the single results are written. No two of them overlap, nor does one overlap a sheet or a history.
+ *    They may hold anything before the call.
+ *
+ * Answers. A call returns a number and a place; the other results are those named at the function.
+ *  - 0: accepted, found, answered. The place is 0.
+ *  - 1 to 14: as below. Every other result is 0. The place is the lowest faulty record for 4 to 8, else 0.
+ * Causes are checked in rising order, and the first that holds gives the number. Each single result is written in
+ * every case.
+ *
+ *   the sheet's author (each call checks all nine)
+ *    1  under 18 bytes, or the last two bytes are wrong
+ *    2  a count, or the bound D, outside its limits
+ *    3  distance not the sum, or more than the bytes before the trailer
+ *    4  a fluent record breaks its rule
+ *    5  a formula record breaks its rule or has an unknown kind
+ *    6  an effect record breaks its rule
+ *    7  an action record breaks its rule
+ *    8  a program record breaks its rule or has an unknown kind
+ *    9  height above 16
+ *   the caller
+ *   10  trace shorter than D (planner_plan)
+ *   11  work shorter than required (planner_plan, planner_replay)
+ *   12  the fluent is not below F (planner_look_up)
+ *   the quay itself (planner_plan)
+ *   13  no run of at most D transitions ends final, and no run has D + 1: there is no plan at all
+ *   14  none ends final, but some run has D + 1: there is no plan within the bound
+ *
+ * What is left in work and trace:
+ *
+ *   number                  work                                          trace
+ *   0 from planner_plan     the required words are 0, the rest untouched  the first n entries are the plan, the rest untouched
+ *   0 from planner_replay   the required words are 0, the rest untouched  -
+ *   1 to 11                 untouched                                     untouched
+ *   13, 14                  the required words are 0, the rest untouched  untouched
+ */
+#ifndef PLANNER_H
+#define PLANNER_H
+
+#include <stddef.h>
+#include <stdint.h>
+
+#ifdef __cplusplus
+extern "C" {
+#endif
+
+/* Entries of a history that are no action numbers. */
+#define PLANNER_START 65534
+#define PLANNER_STOP 65535
+
+/*
+ * Checks a sheet. Number 0: it is accepted, and planning and replay require *words words of work.
+ * Numbers 1 to 9.
+ */
+uint32_t planner_check(const uint8_t *sheet, size_t sheet_len, size_t *words, size_t *place);
+
+/*
+ * Plans. Number 0: the first *n entries of trace are the history of a run of *t transitions, at most D, that ends final.
+ * An entry is an action's number, PLANNER_START or PLANNER_STOP. Work has as many words as planner_check says, or more;
+ * trace has D entries or more.
+ * Numbers 1 to 11, 13 and 14.
+ */
+uint32_t planner_plan(const uint8_t *sheet, size_t sheet_len, uint32_t *work, size_t work_len, uint16_t *trace,
+                      size_t trace_len, size_t *n, size_t *t, size_t *place);
+
+/*
+ * Replays a history. Number 0: *yes is 1 where some run of at most D transitions with exactly this history ends final,
+ * else 0; an entry that the sheet does not know means no. Work is as for planner_plan.
+ * Numbers 1 to 9 and 11.
+ */
+uint32_t planner_replay(const uint8_t *sheet, size_t sheet_len, const uint16_t *history, size_t history_len,
+                        uint32_t *work, size_t work_len, uint32_t *yes, size_t *place);
+
+/*
+ * Looks up one fluent, numbered from 0. Number 0: its domain has *size values, and it begins as *initial.
+ * Numbers 1 to 9 and 12.
+ */
+uint32_t planner_look_up(const uint8_t *sheet, size_t sheet_len, size_t fluent, size_t *size, size_t *initial,
+                         size_t *place);
+
+/*
+ * The notes are the first bytes of the sheet itself, from its start: returns how many. *number is what the other
+ * functions return; beside a number other than 0 the notes are empty.
+ * Numbers 1 to 9.
+ */
+size_t planner_notes(const uint8_t *sheet, size_t sheet_len, uint32_t *number, size_t *place);
+
+#ifdef __cplusplus
+}
+#endif
+
+#endif

@@ -1,0 +1,374 @@
+//! The verified library against the model, on random sheets and on the examples.
+//!
+//! `SEED` and `COUNT` (sheets) may be set. Compared for each sheet: every answer of every call, the whole work area and
+//! trace with what lies around them, and that sheet and history are as before. Areas hold garbage; they are long enough,
+//! longer, one short, both short, empty. A plan is judged by the model's layers, and is also the first in listed order.
+//! The first disagreement ends the program with status 1 and the sheet in hex.
+
+use library::Answer;
+use model::examples::examples;
+use model::planner::{self, depth_first, judge, verdict, Plan};
+use model::program;
+use model::random::{accepted, damaged, large, near_miss, run, searchable, unknown, Random};
+use model::sheet::{self, Refusal, Sheet};
+use std::fmt::Debug;
+use std::hint::black_box;
+use std::ops::Range;
+use std::path::Path;
+use std::process::ExitCode;
+use std::{env, fs};
+
+/// Sheets, unless COUNT says otherwise: about two minutes.
+const COUNT: usize = 60_000;
+/// Of a sheet that is planned, the most runs of at most D + 1 transitions.
+const MOST_RUNS: usize = 3_000;
+
+/// What differs, in words.
+type Outcome = Result<(), String>;
+
+fn same<T: PartialEq + Debug>(what: &str, model: T, library: T) -> Outcome {
+    if model == library {
+        return Ok(());
+    }
+    Err(format!("{what}: the model says {model:?}, the library {library:?}"))
+}
+
+/// The model's answer in the library's form: beside a number every other result is 0.
+fn answer<const N: usize>(answer: Result<[usize; N], Refusal>) -> Answer<N> {
+    match answer {
+        Ok(results) => Answer { number: 0, place: 0, results },
+        Err(Refusal { number, place }) => Answer { number: number.into(), place, results: [0; N] },
+    }
+}
+
+/// A part that is lent, with garbage on either side, and what all of it must be.
+struct Area<T> {
+    is: Vec<T>,
+    must_be: Vec<T>,
+    lent: Range<usize>,
+}
+
+impl<T: Copy + PartialEq + Debug> Area<T> {
+    fn new(random: &mut Random, content: &[T], garbage: fn(&mut Random) -> T) -> Self {
+        let mut is: Vec<T> = (0..random.between(1, 8)).map(|_| garbage(random)).collect();
+        let lent = is.len()..is.len() + content.len();
+        is.extend(content);
+        is.extend((0..random.between(1, 8)).map(|_| garbage(random)));
+        Area { must_be: is.clone(), is, lent }
+    }
+
+    fn lend(&mut self) -> &mut [T] {
+        &mut self.is[self.lent.clone()]
+    }
+
+    fn read(&self) -> &[T] {
+        &self.is[self.lent.clone()]
+    }
+
+    fn must_begin_with(&mut self, content: &[T]) {
+        self.must_be[self.lent.clone()][..content.len()].copy_from_slice(content);
+    }
+
+    fn compare(&self, what: &str) -> Outcome {
+        match black_box(&self.is).iter().zip(&self.must_be).position(|(is, must_be)| is != must_be) {
+            None => Ok(()),
+            Some(at) => {
+                let place = at as isize - self.lent.start as isize;
+                Err(format!("{what} at {place} is {:?} and must be {:?}", self.is[at], self.must_be[at]))
+            }
+        }
+    }
+}
+
+fn garbage_byte(random: &mut Random) -> u8 {
+    random.between(1, 255) as u8
+}
+
+fn garbage_entry(random: &mut Random) -> u16 {
+    random.between(1, 65535) as u16
+}
+
+fn garbage_word(random: &mut Random) -> u32 {
+    random.between(1, u32::MAX as usize) as u32
+}
+
+fn history_area(random: &mut Random, history: &[u16]) -> Area<u16> {
+    Area::new(random, history, garbage_entry)
+}
+
+/// A trace or work area of garbage.
+fn lent_area<T: Copy + PartialEq + Debug>(
+    random: &mut Random,
+    length: usize,
+    garbage: fn(&mut Random) -> T,
+) -> Area<T> {
+    let pattern: Vec<T> = (0..13).map(|_| garbage(random)).collect();
+    let content: Vec<T> = pattern.into_iter().cycle().take(length).collect();
+    Area::new(random, &content, garbage)
+}
+
+#[derive(Default)]
+struct Counts {
+    sheets: usize,
+    plans: usize,
+    nothing: usize,
+    more: usize,
+    large: usize,
+    damaged: usize,
+    yes: usize,
+    no: usize,
+    examples: usize,
+}
+
+/// Words and entries of which one at least is too short for planning: by one, both, or empty.
+fn short_lengths(sheet: &Sheet) -> Vec<[usize; 2]> {
+    let (words, entries) = (sheet.work(), sheet.bound);
+    let mut lengths = vec![[words - 1, entries], [words - 1, entries + 3], [0, entries]];
+    if entries > 0 {
+        lengths.extend([[words, entries - 1], [words - 1, entries - 1], [words + 3, 0], [0, 0]]);
+    }
+    lengths
+}
+
+struct Compare {
+    random: Random,
+    counts: Counts,
+}
+
+/// One sheet as it is lent, and what the model makes of it.
+struct Given {
+    bytes: Area<u8>,
+    sheet: Result<Sheet, Refusal>,
+}
+
+impl Compare {
+    fn given(&mut self, bytes: &[u8]) -> Given {
+        Given { bytes: Area::new(&mut self.random, bytes, garbage_byte), sheet: sheet::check(bytes) }
+    }
+
+    /// The calls that lend nothing for writing.
+    fn reading(&mut self, given: &Given) -> Outcome {
+        let bytes = given.bytes.read();
+        let sheet = given.sheet.as_ref().map_err(|refusal| *refusal);
+        same("check", answer(sheet.map(|sheet| [sheet.work()])), library::check(bytes))?;
+        same("notes", answer(sheet.map(|sheet| [sheet.notes.end])), library::notes(bytes))?;
+        for fluent in (0..34).chain([255, 256, 65536, 1 << 32, usize::MAX]) {
+            let found = sheet::look_up(bytes, fluent).map(|fluent| [fluent.size.into(), fluent.initial.into()]);
+            same(&format!("look-up of {fluent}"), answer(found), library::look_up(bytes, fluent))?;
+        }
+        given.bytes.compare("the sheet after reading")
+    }
+
+    /// Planning with so many words and entries, where it must find this.
+    fn plan(&mut self, given: &Given, found: &Result<Plan, Refusal>, words: usize, entries: usize) -> Outcome {
+        let mut work = lent_area(&mut self.random, words, garbage_word);
+        let mut trace = lent_area(&mut self.random, entries, garbage_entry);
+        let got = library::plan(given.bytes.read(), work.lend(), trace.lend());
+
+        let lent = given.sheet.as_ref().map_err(|refusal| *refusal).and_then(|sheet| {
+            planner::lent(sheet, Some(entries), words)?;
+            Ok(sheet)
+        });
+        if let Ok(sheet) = lent {
+            self.judge(sheet, got, trace.read())?;
+            work.must_begin_with(&vec![0; sheet.work()]);
+            if let Ok(plan) = found {
+                trace.must_begin_with(&plan.history);
+            }
+        }
+        let expected = match found {
+            Ok(plan) => Ok([plan.history.len(), plan.transitions]),
+            Err(refusal) => Err(*refusal),
+        };
+        let expected = lent.and(expected);
+        let call = format!("plan with {words} words and {entries} entries");
+        same(&call, answer(expected), got)?;
+        work.compare(&format!("{call}: work"))?;
+        trace.compare(&format!("{call}: trace"))?;
+        given.bytes.compare(&format!("{call}: the sheet"))
+    }
+
+    /// The verdict by the model's layers; and a plan, whichever it is, is the history of a run of t transitions, at
+    /// most D, that ends final.
+    fn judge(&self, sheet: &Sheet, got: Answer<2>, trace: &[u16]) -> Outcome {
+        let number = verdict(sheet).map_or_else(|refusal| refusal.number.into(), |()| 0);
+        same("verdict", number, got.number)?;
+        let [n, t] = got.results;
+        let is_plan = |history: &[u16]| t <= sheet.bound && judge(sheet, history, t);
+        if number == 0 && !trace.get(..n).is_some_and(is_plan) {
+            return Err(format!("{n} moves and {t} transitions are no plan, with the trace {trace:?}"));
+        }
+        Ok(())
+    }
+
+    fn replay(&mut self, given: &Given, history: &[u16], words: usize) -> Outcome {
+        let history = history_area(&mut self.random, history);
+        let mut work = lent_area(&mut self.random, words, garbage_word);
+        let got = library::replay(given.bytes.read(), history.read(), work.lend());
+
+        let expected = given.sheet.as_ref().map_err(|refusal| *refusal).and_then(|sheet| {
+            planner::lent(sheet, None, words)?;
+            work.must_begin_with(&vec![0; sheet.work()]);
+            Ok([usize::from(planner::replay(sheet, history.read()))])
+        });
+        let call = format!("replay of {:?} with {words} words", history.read());
+        same(&call, answer(expected), got)?;
+        match expected {
+            Ok([1]) => self.counts.yes += 1,
+            Ok(_) => self.counts.no += 1,
+            Err(_) => {}
+        }
+        work.compare(&format!("{call}: work"))?;
+        history.compare(&format!("{call}: the history"))?;
+        given.bytes.compare(&format!("{call}: the sheet"))
+    }
+
+    /// Areas of which one at least is too short, so that no search is made.
+    fn short(&mut self, given: &Given, [words, entries]: [usize; 2]) -> Outcome {
+        self.plan(given, &Err(Refusal::number(11)), words, entries)
+    }
+
+    /// A sheet whose search ends soon.
+    fn searched(&mut self, bytes: &[u8], sheet: &Sheet) -> Outcome {
+        let given = self.given(bytes);
+        self.reading(&given)?;
+        for lengths in short_lengths(sheet) {
+            self.short(&given, lengths)?;
+        }
+
+        let found = depth_first(sheet);
+        let (words, entries) = (sheet.work(), sheet.bound);
+        let longer = [words, entries].map(|length| length + self.random.between(1, 40));
+        self.plan(&given, &found, words, entries)?;
+        self.plan(&given, &found, longer[0], longer[1])?;
+        match &found {
+            Ok(_) => self.counts.plans += 1,
+            Err(refusal) if refusal.number == 13 => self.counts.nothing += 1,
+            Err(_) => self.counts.more += 1,
+        }
+
+        let (reached, _) = run(&mut self.random, sheet);
+        let mut histories = vec![vec![], near_miss(&mut self.random, sheet, &reached)];
+        if let Some(history) = accepted(&mut self.random, sheet) {
+            histories.push(near_miss(&mut self.random, sheet, &history));
+            histories.push(unknown(&mut self.random, sheet, &history));
+            histories.push(history);
+        }
+        histories.push(unknown(&mut self.random, sheet, &reached));
+        histories.push([&reached[..], &[0; 70]].concat());
+        histories.push(reached);
+        histories.extend(found.ok().map(|plan| plan.history));
+        for (number, history) in histories.iter().enumerate() {
+            self.replay(&given, history, if number % 2 == 0 { words } else { longer[0] })?;
+        }
+        self.replay(&given, &histories[0], words - 1)?;
+        self.replay(&given, &histories[1], 0)
+    }
+
+    /// A sheet with large tables; it is planned only if its search ends soon.
+    fn large(&mut self, bytes: &[u8]) -> Outcome {
+        self.counts.large += 1;
+        let sheet = sheet::check(bytes).map_err(|refusal| format!("the model refuses a large sheet: {refusal:?}"))?;
+        if planner::runs(&sheet, MOST_RUNS).is_some() {
+            return self.searched(bytes, &sheet);
+        }
+        let given = self.given(bytes);
+        self.reading(&given)?;
+        let lengths = self.random.pick(&short_lengths(&sheet));
+        self.short(&given, lengths)
+    }
+
+    /// A sheet that every call must turn away like this, whatever areas are lent.
+    fn damaged(&mut self, bytes: &[u8], refusal: Refusal) -> Outcome {
+        self.counts.damaged += 1;
+        let given = self.given(bytes);
+        same("damage", Err(refusal), given.sheet.as_ref().map(|_| ()).map_err(|refusal| *refusal))?;
+        self.reading(&given)?;
+        let none = Err(refusal);
+        let [words, entries] = [400, 70].map(|most| self.random.below(most));
+        self.plan(&given, &none, words, entries)?;
+        self.plan(&given, &none, 0, 0)?;
+        self.replay(&given, &[0], words)?;
+        self.replay(&given, &[], 0)
+    }
+
+    /// What the program prints for an example by the library, against the file in examples/.
+    fn example(&mut self, name: &str, bytes: &[u8]) -> Outcome {
+        let (mut work, mut trace) = ([0; program::WORK], [0; program::TRACE]);
+        let got = library::plan(bytes, &mut work, &mut trace);
+        let [n, t] = got.results;
+        let plan = match got.number {
+            0 => Ok(Plan { history: trace[..n].to_vec(), transitions: t }),
+            number => Err(Refusal { number: number as u8, place: got.place }),
+        };
+        let file = Path::new(env!("CARGO_MANIFEST_DIR")).join("../../examples").join(name).with_extension("expected");
+        let expected = fs::read_to_string(&file).map_err(|error| format!("{}: {error}", file.display()))?;
+        same(name, expected, program::lines(&plan))?;
+        let sheet = sheet::check(bytes).map_err(|refusal| format!("{name}: the model refuses it: {refusal:?}"))?;
+        self.searched(bytes, &sheet)
+    }
+
+    /// Random sheets, then the examples; a disagreement comes with its sheet.
+    fn all(&mut self, count: usize) -> Result<(), (String, Vec<u8>)> {
+        for number in 0..count {
+            let (bytes, outcome) = match number % 10 {
+                0 => {
+                    let bytes = large(&mut self.random).bytes();
+                    let outcome = self.large(&bytes);
+                    (bytes, outcome)
+                }
+                faults @ (1 | 2) => {
+                    let numbers: Vec<u8> = (0..faults).map(|_| self.random.between(1, 9) as u8).collect();
+                    let (bytes, refusal) = damaged(&mut self.random, &numbers);
+                    let outcome = self.damaged(&bytes, refusal);
+                    (bytes, outcome)
+                }
+                _ => {
+                    let (bytes, sheet) = searchable(&mut self.random, MOST_RUNS);
+                    let outcome = self.searched(&bytes, &sheet);
+                    (bytes, outcome)
+                }
+            };
+            outcome.map_err(|what| (what, bytes))?;
+            self.counts.sheets += 1;
+        }
+        for example in examples() {
+            self.example(example.name, &example.sheet).map_err(|what| (what, example.sheet))?;
+            self.counts.examples += 1;
+        }
+        Ok(())
+    }
+}
+
+/// In the form that `xxd -r` reads back.
+fn print_hex(bytes: &[u8]) {
+    for (line, sixteen) in bytes.chunks(16).enumerate() {
+        let hex: Vec<String> = sixteen.iter().map(|byte| format!("{byte:02x}")).collect();
+        eprintln!("{:08x}: {}", line * 16, hex.join(" "));
+    }
+}
+
+/// A number from the environment.
+fn setting(name: &str, default: usize) -> usize {
+    match env::var(name) {
+        Ok(text) => text.parse().unwrap_or_else(|_| panic!("{name} is no number: {text}")),
+        Err(_) => default,
+    }
+}
+
+fn main() -> ExitCode {
+    let seed = setting("SEED", 1);
+    let mut compare = Compare { random: Random::new(seed as u64), counts: Counts::default() };
+    let outcome = compare.all(setting("COUNT", COUNT));
+    let Counts { sheets, plans, nothing, more, large, damaged, yes, no, examples } = compare.counts;
+    println!("seed {seed}: {sheets} sheets and {examples} examples agree");
+    println!("  planned: {plans} plans, {nothing} times 13, {more} times 14");
+    println!("  with large tables: {large}; damaged: {damaged}");
+    println!("  histories: {yes} yes, {no} no");
+    if let Err((what, sheet)) = outcome {
+        eprintln!("disagreement after {sheets} sheets: {what}");
+        print_hex(&sheet);
+        return ExitCode::FAILURE;
+    }
+    ExitCode::SUCCESS
+}

@@ -1,0 +1,117 @@
+//! The verified planner behind safe functions: one for each function of include/planner.h.
+//!
+//! An answer is handed on as the library gives it, number, place and results, so that a comparison sees all of it.
+
+/// Number and place of document 01, and the other results; those a call leaves unwritten keep [`UNWRITTEN`].
+#[derive(Clone, Copy, Debug, PartialEq, Eq)]
+pub struct Answer<const N: usize> {
+    pub number: u32,
+    pub place: usize,
+    pub results: [usize; N],
+}
+
+/// What the places for results hold before a call.
+pub const UNWRITTEN: usize = 0xa5a5_a5a5;
+
+mod c {
+    unsafe extern "C" {
+        pub fn planner_check(sheet: *const u8, sheet_len: usize, words: *mut usize, place: *mut usize) -> u32;
+        pub fn planner_plan(
+            sheet: *const u8,
+            sheet_len: usize,
+            work: *mut u32,
+            work_len: usize,
+            trace: *mut u16,
+            trace_len: usize,
+            n: *mut usize,
+            t: *mut usize,
+            place: *mut usize,
+        ) -> u32;
+        pub fn planner_replay(
+            sheet: *const u8,
+            sheet_len: usize,
+            history: *const u16,
+            history_len: usize,
+            work: *mut u32,
+            work_len: usize,
+            yes: *mut u32,
+            place: *mut usize,
+        ) -> u32;
+        pub fn planner_look_up(
+            sheet: *const u8,
+            sheet_len: usize,
+            fluent: usize,
+            size: *mut usize,
+            initial: *mut usize,
+            place: *mut usize,
+        ) -> u32;
+        pub fn planner_notes(sheet: *const u8, sheet_len: usize, number: *mut u32, place: *mut usize) -> usize;
+    }
+}
+
+// Why the calls below are safe: a Rust slice's pointer is never null and is aligned, and borrows keep the lent areas
+// apart and alive for the time of the call, after which the library keeps none of them.
+
+/// Result: the words of work that planning and replay require.
+pub fn check(sheet: &[u8]) -> Answer<1> {
+    let [mut words, mut place] = [UNWRITTEN; 2];
+    // SAFETY: above.
+    let number = unsafe { c::planner_check(sheet.as_ptr(), sheet.len(), &mut words, &mut place) };
+    Answer { number, place, results: [words] }
+}
+
+/// Results: n and t.
+pub fn plan(sheet: &[u8], work: &mut [u32], trace: &mut [u16]) -> Answer<2> {
+    let [mut n, mut t, mut place] = [UNWRITTEN; 3];
+    // SAFETY: above.
+    let number = unsafe {
+        c::planner_plan(
+            sheet.as_ptr(),
+            sheet.len(),
+            work.as_mut_ptr(),
+            work.len(),
+            trace.as_mut_ptr(),
+            trace.len(),
+            &mut n,
+            &mut t,
+            &mut place,
+        )
+    };
+    Answer { number, place, results: [n, t] }
+}
+
+/// Result: 1 for yes, 0 for no.
+pub fn replay(sheet: &[u8], history: &[u16], work: &mut [u32]) -> Answer<1> {
+    let (mut yes, mut place) = (UNWRITTEN as u32, UNWRITTEN);
+    // SAFETY: above.
+    let number = unsafe {
+        c::planner_replay(
+            sheet.as_ptr(),
+            sheet.len(),
+            history.as_ptr(),
+            history.len(),
+            work.as_mut_ptr(),
+            work.len(),
+            &mut yes,
+            &mut place,
+        )
+    };
+    Answer { number, place, results: [yes as usize] }
+}
+
+/// Results: domain size and initial value.
+pub fn look_up(sheet: &[u8], fluent: usize) -> Answer<2> {
+    let [mut size, mut initial, mut place] = [UNWRITTEN; 3];
+    // SAFETY: above.
+    let number =
+        unsafe { c::planner_look_up(sheet.as_ptr(), sheet.len(), fluent, &mut size, &mut initial, &mut place) };
+    Answer { number, place, results: [size, initial] }
+}
+
+/// Result: the number of bytes from the sheet's start that are its notes.
+pub fn notes(sheet: &[u8]) -> Answer<1> {
+    let (mut number, mut place) = (UNWRITTEN as u32, UNWRITTEN);
+    // SAFETY: above.
+    let length = unsafe { c::planner_notes(sheet.as_ptr(), sheet.len(), &mut number, &mut place) };
+    Answer { number, place, results: [length] }
+}

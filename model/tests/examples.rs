@@ -1,0 +1,48 @@
+//! The examples: the builder's sheets, and what the program prints for them.
+
+use model::examples::examples;
+use model::program::printed;
+use model::sheet::check;
+use std::collections::BTreeSet;
+use std::path::{Path, PathBuf};
+use std::process::Command;
+use std::{env, fs};
+
+fn expected() -> PathBuf {
+    Path::new(env!("CARGO_MANIFEST_DIR")).join("../examples")
+}
+
+/// The names of the files with this ending.
+fn names(folder: &Path, ending: &str) -> BTreeSet<String> {
+    let files = fs::read_dir(folder).expect("the folder").map(|file| file.expect("a file").path());
+    let ended = files.filter(|file| file.extension().is_some_and(|e| e == ending));
+    ended.map(|file| file.file_stem().expect("a name").to_string_lossy().into_owned()).collect()
+}
+
+#[test]
+fn every_sheet_gives_what_its_file_says() {
+    let folder = Path::new(env!("CARGO_TARGET_TMPDIR")).join("examples");
+    let built = Command::new(env!("CARGO_BIN_EXE_build_examples")).arg(&folder).status();
+    assert!(built.expect("the builder runs").success());
+    assert_eq!(names(&folder, "sheet"), names(&expected(), "expected"));
+    for name in names(&folder, "sheet") {
+        let sheet = fs::read(folder.join(&name).with_extension("sheet")).expect("a sheet");
+        let says = fs::read_to_string(expected().join(&name).with_extension("expected")).expect("a text");
+        assert_eq!(printed(&sheet), says, "{name}");
+    }
+}
+
+#[test]
+fn case_3_has_document_01s_bytes() {
+    let sheet = examples().swap_remove(0).sheet;
+    let notes = check(&sheet).expect("the sheet is accepted").notes;
+    let records = [
+        &[3, 1, 3, 0][..],
+        &[2, 1, 0, 0, 0, 0, 2, 0, 0, 0, 0, 0, 6, 0, 0, 0, 1, 0, 0, 0, 0, 0, 0, 0],
+        &[3, 0, 0, 0, 3, 0, 1, 2],
+        &[0, 0, 0, 0, 1, 0, 2, 0, 1, 0, 1, 0],
+        &[1, 0, 0, 0, 0, 0, 0, 0, 5, 0, 0, 0, 0, 0, 0, 0, 1, 0, 1, 0, 0, 0, 0, 0, 3, 0, 1, 0, 2, 0, 0, 0],
+        &[2, 0, 4, 0, 2, 0, 2, 0, 4, 0, 2, 0, 0x50, 0, 0, 0, 0x42, 0x51],
+    ];
+    assert_eq!(sheet[notes.end..], records.concat());
+}
