@@ -1,3 +1,6 @@
+-- The three functions of the search meet their contracts together, the transitions left falling. `try_step`: the step made is the k-th
+-- transition, and what is reported from where it leads is the report on it (Trying). `try_all`: after k transitions a flag and the later
+-- ones say the verdict on all (Tried). `explore`: final, at the bound, or the verdict on the transitions (Exploring). Assumes nothing.
 use denote.Ref.{now}
 use mathlib.Core.Bool.{Bool, _&&_}
 use mathlib.Core.List.{List}
@@ -38,6 +41,21 @@ use Rattle.search.proofs.+explore+try_all+try_step.Lts-try_all as try-a
 use Rattle.search.proofs.try_step.Reads as try-step
 use Rattle.search.proofs.try_step.Kinds as try-step-kinds
 use Rattle.search.proofs.+explore+try_all+try_step.Lts-try_step as try-step-lts
+use Rattle.ends.proofs.count_rest.Reads as count-rest-reads
+use Rattle.ends.proofs.has_step.Reads as has-step-reads
+use Rattle.search.proofs.cut_after.Reads as cut-after-reads
+use Rattle.search.proofs.entries_of.Reads as entries-of-reads
+use Rattle.search.proofs.found.Reads as found-reads
+use Rattle.search.proofs.is_over.Reads as is-over-reads
+use Rattle.search.proofs.lets_pass.Reads as lets-pass-reads
+use Rattle.search.proofs.made_after.Reads as made-after-reads
+use Rattle.search.proofs.note.Reads as note-reads
+use Rattle.search.proofs.state_after.Reads as state-after-reads
+use Rattle.search.proofs.tally_of.Reads as tally-of-reads
+use Rattle.search.proofs.truths_of.Reads as truths-of-reads
+use Rattle.state.proofs.read_state.Reads as read-state-reads
+use Rattle.state.proofs.write_state.Reads as write-state-reads
+use Rattle.steps.proofs.step_rest.Reads as step-rest-reads
 use Rattle.search.proofs.+explore+try_all+try_step.{statement}
 use Rattle.search.proofs.+explore+try_all+try_step.Tie.{close}
 

@@ -1,80 +1,55 @@
 //! That `compare` catches wrong models: breaks a copy of the model, one construct at a time, and counts the sheets until
-//! the comparison with the library ends in a disagreement, for three seeds each.
+//! the comparison with the library ends in a disagreement, for three seeds each. Most edits add runs, since the library
+//! searches sheets that have few runs by the broken model's count.
 
 use std::path::{Path, PathBuf};
 use std::process::{exit, Command};
 use std::{env, fs, io};
 
-/// What is broken, and a text that occurs once in src/meaning.rs with what takes its place.
-struct Edit {
-    what: &'static str,
-    old: &'static str,
-    new: &'static str,
-}
+/// What is broken, a text that occurs once in src/meaning.rs, and what takes its place.
+struct Edit(&'static str, &'static str, &'static str);
 
+#[rustfmt::skip]
 const EDITS: [Edit; 13] = [
-    Edit {
-        what: "effects: the last holding one counts",
-        old: "effects.iter().find(",
-        new: "effects.iter().rev().find(",
-    },
-    Edit {
-        what: "formulas: less than takes in the value itself",
-        old: "Formula::Less(x, a) => value(x) < a",
-        new: "Formula::Less(x, a) => value(x) <= a",
-    },
-    Edit {
-        what: "1 act: performed without its precondition",
-        old: "Act(a) if self.possible(*a) =>",
-        new: "Act(a) if self.possible(*a) || true =>",
-    },
-    Edit {
-        what: "2 test: final where it holds",
-        old: "Act(_) | Start | Stop | Test(_) => false",
-        new: "Test(f) => self.holds(*f), Act(_) | Start | Stop => false",
-    },
-    Edit {
-        what: "3 sequence: b steps before a is final",
-        old: "if self.is_final(a) {",
-        new: "if self.is_final(a) || true {",
-    },
-    Edit {
-        what: "4 choice: final if both are",
-        old: "Choice(a, b) => self.is_final(a) || self.is_final(b)",
-        new: "Choice(a, b) => self.is_final(a) && self.is_final(b)",
-    },
-    Edit { what: "5 star: final only with its body", old: "Star(_) => true", new: "Star(a) => self.is_final(a)" },
-    Edit {
-        what: "6 if: the condition is a transition of its own",
-        old: "If(c, a, b) => self.each(if self.holds(*c) { a } else { b }, found)",
-        new: "If(c, a, b) => found(Transition { entry: None, to: Configuration { \
-              program: if self.holds(*c) { a.clone() } else { b.clone() }, state: self.state } })",
-    },
-    Edit {
-        what: "7 while: final only if the condition fails",
-        old: "While(c, a) => !self.holds(*c) || self.is_final(a)",
-        new: "While(c, _) => !self.holds(*c)",
-    },
-    Edit {
-        what: "8 together: final if either is",
-        old: "Together(a, b) => self.is_final(a) && self.is_final(b)",
-        new: "Together(a, b) => self.is_final(a) || self.is_final(b)",
-    },
-    Edit {
-        what: "9 over: b steps where a is final",
-        old: "if !a_has_a_step {",
-        new: "if !a_has_a_step || self.is_final(a) {",
-    },
-    Edit {
-        what: "10 iteration: one copy after the other",
-        old: "Iteration(a) => self.each(a, &mut |step| found(step.inside(|rest| Together(rest, this()))))",
-        new: "Iteration(a) => self.each(a, &mut |step| found(step.inside(|rest| Sequence(rest, this()))))",
-    },
-    Edit {
-        what: "11 interrupt: final where its condition fails",
-        old: "!self.state.interrupts || (self.holds(*c) && self.is_final(a))",
-        new: "!self.state.interrupts || !self.holds(*c) || self.is_final(a)",
-    },
+    Edit("effects: the last holding one counts",
+        "effects.iter().find(",
+        "effects.iter().rev().find("),
+    Edit("formulas: less than takes in the value itself",
+        "Formula::Less(x, a) => value(x) < a",
+        "Formula::Less(x, a) => value(x) <= a"),
+    Edit("1 act: performed without its precondition",
+        "Act(a) if self.possible(*a) =>",
+        "Act(a) =>"),
+    Edit("2 test: final where it holds",
+        "Act(_) | Start | Stop | Test(_) => false",
+        "Test(f) => self.holds(*f), Act(_) | Start | Stop => false"),
+    Edit("3 sequence: b steps before a is final",
+        "if self.is_final(a) {",
+        "if true {"),
+    Edit("4 choice: always final",
+        "Choice(a, b) => self.is_final(a) || self.is_final(b)",
+        "Choice(..) => true"),
+    Edit("5 star: rounds interleave",
+        "Star(a) => self.each(a, &mut |step| found(step.inside(|rest| Sequence(rest, this()))))",
+        "Star(a) => self.each(a, &mut |step| found(step.inside(|rest| Together(rest, this()))))"),
+    Edit("6 if: either branch",
+        "If(c, a, b) => self.each(if self.holds(*c) { a } else { b }, found)",
+        "If(_, a, b) => { self.each(a, found)?; self.each(b, found) }"),
+    Edit("7 while: steps where the condition fails",
+        "While(c, a) if self.holds(*c) => {",
+        "While(_, a) => {"),
+    Edit("8 together: final if either is",
+        "Together(a, b) => self.is_final(a) && self.is_final(b)",
+        "Together(a, b) => self.is_final(a) || self.is_final(b)"),
+    Edit("9 over: b steps where a is final",
+        "if !a_has_a_step {",
+        "if !a_has_a_step || self.is_final(a) {"),
+    Edit("10 iteration: one copy after the other",
+        "Iteration(a) => self.each(a, &mut |step| found(step.inside(|rest| Together(rest, this()))))",
+        "Iteration(a) => self.each(a, &mut |step| found(step.inside(|rest| Sequence(rest, this()))))"),
+    Edit("11 interrupt: final where its condition fails",
+        "!self.state.interrupts || (self.holds(*c) && self.is_final(a))",
+        "!self.state.interrupts || !self.holds(*c) || self.is_final(a)"),
 ];
 
 fn copy(from: &Path, to: &Path) -> io::Result<()> {
@@ -90,7 +65,7 @@ fn copy(from: &Path, to: &Path) -> io::Result<()> {
 }
 
 /// The copy with one edit made, and the comparison built over it.
-fn build(repository: &Path, copied: &Path, archive: &Path, edit: &Edit) -> io::Result<PathBuf> {
+fn build(repository: &Path, copied: &Path, archive: &Path, Edit(what, old, new): &Edit) -> io::Result<PathBuf> {
     let (model, broken) = (repository.join("model"), copied.join("model"));
     for part in ["Cargo.toml", "Cargo.lock", "src", "library"] {
         fs::create_dir_all(&broken)?;
@@ -100,10 +75,10 @@ fn build(repository: &Path, copied: &Path, archive: &Path, edit: &Edit) -> io::R
 
     let file = broken.join("src/meaning.rs");
     let text = fs::read_to_string(&file)?;
-    if text.matches(edit.old).count() != 1 {
-        return Err(io::Error::other(format!("not once in src/meaning.rs: {}", edit.old)));
+    if text.matches(*old).count() != 1 {
+        return Err(io::Error::other(format!("not once in src/meaning.rs: {old}")));
     }
-    fs::write(&file, text.replace(edit.old, edit.new))?;
+    fs::write(&file, text.replace(*old, new))?;
 
     let target = copied.join("target");
     let built = Command::new(env::var_os("CARGO").unwrap_or("cargo".into()))
@@ -114,7 +89,7 @@ fn build(repository: &Path, copied: &Path, archive: &Path, edit: &Edit) -> io::R
         .env("RUSTFLAGS", "--allow warnings")
         .status()?;
     if !built.success() {
-        return Err(io::Error::other(format!("no build with: {}", edit.what)));
+        return Err(io::Error::other(format!("no build with: {what}")));
     }
     Ok(target.join("release/compare"))
 }
@@ -148,7 +123,7 @@ fn run() -> io::Result<bool> {
             all &= sheets.is_some();
             counts += &sheets.map_or("   never".to_string(), |sheets| format!("{sheets:8}"));
         }
-        println!("{:50}{counts}", edit.what);
+        println!("{:50}{counts}", edit.0);
     }
     Ok(all)
 }
