@@ -123,7 +123,7 @@ pub struct Moment<'a> {
 impl<'a> Moment<'a> {
     pub fn new(sheet: &'a Sheet, state: State) -> Self {
         let value = |x: usize| usize::from(state.values[x]);
-        let mut truths: Vec<bool> = vec![];
+        let mut truths: Vec<bool> = Vec::with_capacity(sheet.formulas.len());
         for formula in &sheet.formulas {
             truths.push(match *formula {
                 Formula::True => true,

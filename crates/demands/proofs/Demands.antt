@@ -60,11 +60,11 @@ yes-true false = (λ e. let z : false ≡ true = cc in no z, λ t. absurd t)
     no z = subst (λ (b : Bool). T b → ⊥) z (λ t. t) tt
 
 module _ (s : List ℕ) (accepted : Accepts s) where
-  plan-is : planOf s ≡ answer (verdictOf s)
+  pub plan-is : planOf s ≡ answer (verdictOf s)
   unfolding planOf
   plan-is = ap (plannedFrom s) (accepted .1)
 
-  replay-is : (h : List ℕ) → replayOf s h ≡ replied (acceptsOf s h)
+  pub replay-is : (h : List ℕ) → replayOf s h ≡ replied (acceptsOf s h)
   unfolding replayOf
   replay-is h = ap (replayedFrom s h) (accepted .1)
 

@@ -86,7 +86,7 @@ module _ (s : List ℕ) (w : ℕ) (accepted : checkOf s ≡ checked.Accepted w) 
     unfolding replayWork
     replay-cleared = ap (λ (c : Stage). workAt c work) stage-replay
 
-    reply-is : (h : List ℕ) → replyOf s h (length work) ≡ reply (replayOf s h)
+    pub reply-is : (h : List ℕ) → replyOf s h (length work) ≡ reply (replayOf s h)
     unfolding replyOf
     reply-is h = ap (λ (c : Stage). replayAt s h c) stage-replay
 
@@ -109,11 +109,11 @@ module _ (s : List ℕ) (w : ℕ) (accepted : checkOf s ≡ checked.Accepted w) 
       unfolding planWork
       plan-cleared = ap (λ (c : Stage). workAt c work) stage-plan
 
-      answer-is : answerOf s (length work) (length trace) ≡ planAnswer (planOf s)
+      pub answer-is : answerOf s (length work) (length trace) ≡ planAnswer (planOf s)
       unfolding answerOf
       answer-is = ap (planAt s) stage-plan
 
-      trace-is : traceOf s (length work) trace ≡ traced (planOf s) trace
+      pub trace-is : traceOf s (length work) trace ≡ traced (planOf s) trace
       unfolding traceOf
       trace-is = ap (λ (c : Stage). traceAt s c trace) stage-plan
 

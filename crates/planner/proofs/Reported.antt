@@ -7,22 +7,26 @@ use mathlib.Core.Bool.{Bool, true, false}
 use mathlib.Core.List.{List, [], _∷_, _++_}
 use mathlib.Core.Option.{Option, none, some}
 use mathlib.Core.Path.{_≡_, refl, sym, _∙_, ap, ap₂, subst}
-use lib.ListN.{length, drop, set, replicate}
+use lib.ListN.{length, take, drop, set, replicate}
+use lib.Seq.{length-take-le}
 use Rattle.runs.specs.Runs.{add, Run}
 use Rattle.runs.specs.Search.{Verdict, plan, nothing, more, isPlan}
-use Rattle.sheet.specs.Check.{Accepts}
-use Rattle.demands.specs.Decoded.{worldOf, boundOf}
+use Rattle.sheet.specs.Check.{Accepts, checkOf}
+use Rattle.sheet.specs.declared.Checked.the-variants.{Accepted}
+use Rattle.demands.specs.Decoded.{worldOf, boundOf, firstOf}
 use Rattle.demands.specs.Held.{heldRecords, heldFirst}
 use Rattle.demands.specs.Planning as meant
 use Rattle.demands.specs.Planning.{answer, verdictOf, acceptsOf, RunOf}
 use Rattle.demands.proofs.Held.{verdict-held, accepts-held}
+use Rattle.demands.proofs.Demands.{plan-is, replay-is, plan-transitions}
 use Rattle.held.specs.Leaves.{movesHeld, finalHeld}
 use Rattle.search.specs.Outcome.{lay, Says, Reported, isFound}
 use Rattle.search.specs.Frames.{outcomeOf}
 use Rattle.search.proofs.Outcomes.{outcome-free, outcome-closed}
 use Rattle.search.specs.declared.Outcome.{Outcome}
 use Rattle.search.specs.declared.Outcome.the-variants.{Found}
-use Rattle.planner.specs.Answers.{planAnswer, traced, reply}
+use Rattle.planner.specs.Answers.{planAnswer, traced, reply, answerOf, traceOf, replyOf}
+use Rattle.planner.proofs.Demands.{answer-is, trace-is, reply-is}
 use Rattle.planner.specs.Reports.{plannedAs, repliedAs}
 
 -- a history has no more entries than the run has transitions
@@ -72,10 +76,44 @@ pub closed-reply :
     → Reported 0 0 trace trace′ o (outcomeOf s false (boundOf s) (heldFirst s, h))
     → isFound o ≡ acceptsOf s h
 closed-reply s accepted h trace trace′ o R =
-    found-plan 0 0 trace trace′ o _ (R .says)
+    found-plan 0 0 trace trace′ o (outcomeOf s false (boundOf s) (heldFirst s, h)) (R .says)
     ∙ outcome-closed (movesHeld (worldOf s) (heldRecords s)) (finalHeld (worldOf s) (heldRecords s)) (boundOf s) (heldFirst s) h
     ∙ accepts-held s accepted h
 
 pub replied-as : (b : Bool) → repliedAs b ≡ reply (meant.replied b)
 replied-as true = refl
 replied-as false = refl
+
+-- on an accepted sheet, with areas long enough: what the free search reports is planning's answer and trace
+module _ (s : List ℕ) (w : ℕ) (accepted : checkOf s ≡ Accepted w) (work trace : List ℕ) (enough : w ≤ length work) (long : boundOf s ≤ length trace) where
+  short : (h : List ℕ) (t : ℕ) → verdictOf s ≡ plan h t → length h ≤ length trace
+  short h t e =
+      let r = plan-transitions s (w, accepted) h t (plan-is s (w, accepted) ∙ ap answer e) in
+      omega (arith, r .0, run-length (meant.Goes (worldOf s)) t (firstOf s) h (r .1 .0) (r .1 .1))
+
+  pub planning :
+      (trace′ : List ℕ) (o : Outcome)
+      → Reported 0 0 trace trace′ o (outcomeOf s true (boundOf s) (heldFirst s, []))
+      → (plannedAs o ≡ answerOf s (length work) (length trace)) × (trace′ ≡ traceOf s (length work) trace)
+  planning trace′ o R =
+      let says = subst (Says 0 0 trace trace′ o) (free-verdict s (w, accepted)) (R .says) in
+      let P = planned-says trace trace′ o (verdictOf s) short says in
+      let e = plan-is s (w, accepted) in (
+        P .0 ∙ sym (ap planAnswer e) ∙ sym (answer-is s w accepted work enough trace long),
+        P .1 ∙ sym (ap (λ (a : meant.Planned). traced a trace) e) ∙ sym (trace-is s w accepted work enough trace long),
+      )
+
+-- and what the closed search reports is replay's
+pub replaying :
+    (s : List ℕ) (w : ℕ) (accepted : checkOf s ≡ Accepted w) (work : List ℕ) (enough : w ≤ length work) (h trace trace′ : List ℕ) (o : Outcome)
+    → Reported 0 0 trace trace′ o (outcomeOf s false (boundOf s) (heldFirst s, h))
+    → repliedAs (isFound o) ≡ replyOf s h (length work)
+replaying s w accepted work enough h trace trace′ o R =
+    ap repliedAs (closed-reply s (w, accepted) h trace trace′ o R)
+    ∙ replied-as (acceptsOf s h)
+    ∙ sym (ap reply (replay-is s (w, accepted) h))
+    ∙ sym (reply-is s w accepted work enough h)
+
+-- the required words cleared, those beyond untouched
+pub cleared : (w : ℕ) (work part : List ℕ) → part ≡ replicate (length (take w work)) 0 → w ≤ length work → part ++ drop w work ≡ replicate w 0 ++ drop w work
+cleared w work part e l = ap (λ (p : List ℕ). p ++ drop w work) (e ∙ ap (λ (n : ℕ). replicate n 0) (length-take-le w work l))

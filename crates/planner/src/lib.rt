@@ -53,7 +53,7 @@ pub fn look_up(s: &[u8], x: usize) -> Looked
     lookup::look_up(s, x)
 }
 
-fn planned(o: Outcome) -> Planned
+fn answer_of(o: Outcome) -> Planned
     ensures { λ r. ⌜ r ≡ plannedAs o ⌝ }
 {
     match o {
@@ -69,7 +69,7 @@ fn planned(o: Outcome) -> Planned
     }
 }
 
-fn replied(o: Outcome) -> Replayed
+fn reply_of(o: Outcome) -> Replayed
     ensures { λ r. ⌜ r ≡ repliedAs (isFound o) ⌝ }
 {
     match o {
@@ -100,7 +100,7 @@ fn plan_accepted(s: &[u8], words: usize, work: &mut [u32], trace: &mut [u16]) ->
         };
     }
     let none = [0u16; 1];
-    planned(search::run(s, l, true, &none[..0], &mut work[..words], trace))
+    answer_of(search::run(s, l, true, &none[..0], &mut work[..words], trace))
 }
 
 // Plans: a history of moves that some run of at most D transitions makes and that ends final, or why there is none.
@@ -129,7 +129,7 @@ fn replay_accepted(s: &[u8], words: usize, history: &[u16], work: &mut [u32]) ->
         };
     }
     let mut trace = [0u16; 64];
-    replied(search::run(s, l, false, history, &mut work[..words], &mut trace))
+    reply_of(search::run(s, l, false, history, &mut work[..words], &mut trace))
 }
 
 // Replays a history: whether some run of at most D transitions makes exactly these moves and ends final.

@@ -2,6 +2,9 @@
 //!
 //! An answer is handed on as the library gives it, number, place and results, so that a comparison sees all of it.
 
+use model::planner::Plan;
+use model::sheet::Refusal;
+
 /// Number and place of document 01, and the other results; those a call leaves unwritten keep [`UNWRITTEN`].
 #[derive(Clone, Copy, Debug, PartialEq, Eq)]
 pub struct Answer<const N: usize> {
@@ -12,6 +15,17 @@ pub struct Answer<const N: usize> {
 
 /// What the places for results hold before a call.
 pub const UNWRITTEN: usize = 0xa5a5_a5a5;
+
+impl Answer<2> {
+    /// Planning's answer in the model's form, with the trace that it left.
+    pub fn plan(&self, trace: &[u16]) -> Result<Plan, Refusal> {
+        let [n, t] = self.results;
+        match self.number {
+            0 => Ok(Plan { history: trace[..n].to_vec(), transitions: t }),
+            number => Err(Refusal { number: number.try_into().expect("1 to 14"), place: self.place }),
+        }
+    }
+}
 
 mod c {
     unsafe extern "C" {

@@ -295,12 +295,7 @@ impl Compare {
     /// What the program prints for an example by the library, against the file in examples/.
     fn example(&mut self, name: &str, bytes: &[u8]) -> Outcome {
         let (mut work, mut trace) = ([0; program::WORK], [0; program::TRACE]);
-        let got = library::plan(bytes, &mut work, &mut trace);
-        let [n, t] = got.results;
-        let plan = match got.number {
-            0 => Ok(Plan { history: trace[..n].to_vec(), transitions: t }),
-            number => Err(Refusal { number: number as u8, place: got.place }),
-        };
+        let plan = library::plan(bytes, &mut work, &mut trace).plan(&trace);
         let file = Path::new(env!("CARGO_MANIFEST_DIR")).join("../../examples").join(name).with_extension("expected");
         let expected = fs::read_to_string(&file).map_err(|error| format!("{}: {error}", file.display()))?;
         same(name, expected, program::lines(&plan))?;

@@ -1,5 +1,5 @@
 //! That `compare` catches wrong models: breaks a copy of the model, one construct at a time, and counts the sheets until
-//! the comparison with the library ends in a disagreement, for three seeds each. Most edits add runs, since the library
+//! the comparison with the library ends in a disagreement, for three seeds each. The edits add runs, since the library
 //! searches sheets that have few runs by the broken model's count.
 
 use std::path::{Path, PathBuf};
@@ -44,9 +44,9 @@ const EDITS: [Edit; 13] = [
     Edit("9 over: b steps where a is final",
         "if !a_has_a_step {",
         "if !a_has_a_step || self.is_final(a) {"),
-    Edit("10 iteration: one copy after the other",
+    Edit("10 iteration: a copy may be given up",
         "Iteration(a) => self.each(a, &mut |step| found(step.inside(|rest| Together(rest, this()))))",
-        "Iteration(a) => self.each(a, &mut |step| found(step.inside(|rest| Sequence(rest, this()))))"),
+        "Iteration(a) => self.each(a, &mut |step| found(step.inside(|rest| Together(Rc::new(Star(rest)), this()))))"),
     Edit("11 interrupt: final where its condition fails",
         "!self.state.interrupts || (self.holds(*c) && self.is_final(a))",
         "!self.state.interrupts || !self.holds(*c) || self.is_final(a)"),

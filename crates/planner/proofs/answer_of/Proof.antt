@@ -1,0 +1,28 @@
+-- Each outcome is its answer. Assumes nothing.
+use mathlib.Core.Path.{sym, ap}
+use Rattle.planner.specs.Reports.{plannedAs}
+use borrow.Author.Needs.{needs}
+use Rattle.planner.proofs.answer_of.Statement.{statement}
+use Rattle.planner.proofs.answer_of.Tie as tie
+
+enum-known-o : tie.Need-enum-known-o
+enum-known-o c = search needs
+
+enum-told : tie.Need-enum-told
+enum-told c = search needs
+
+enum-told-2 : tie.Need-enum-told-2
+enum-told-2 c = search needs
+
+returns : tie.Need-returns
+returns c = sym (ap plannedAs (c .before .o .given .1))
+
+returns-2 : tie.Need-returns-2
+returns-2 c = search needs
+
+returns-3 : tie.Need-returns-3
+returns-3 c = search needs
+
+pub answer-of-spec : {M : Type 1} → statement M
+answer-of-spec =
+    tie.close (tie.spec enum-known-o enum-told enum-told-2 returns returns-2 returns-3)

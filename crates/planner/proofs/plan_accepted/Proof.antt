@@ -1,0 +1,97 @@
+-- The stages in rising order; then what the free search reports is planning's answer and trace, and it cleared the work. Assumes nothing.
+use denote.Ref.{now}
+use Prim.Native.Nat.{ℕ}
+use native.Mathlib.Omega.{arith}
+use mathlib.Core.Path.{sym, _∙_, ap}
+use lib.Seq.{length-take-le}
+use Rattle.sheet.specs.declared.Layout.{Layout}
+use Rattle.sheet.proofs.Accepted.{ruled}
+use Rattle.planner.proofs.Demands.{ten, eleven, plan-cleared}
+use Rattle.planner.proofs.Reported.{planning, cleared}
+use borrow.Author.Needs.{needs}
+use Rattle.planner.proofs.plan_accepted.Statement.{statement}
+use Rattle.planner.proofs.plan_accepted.Tie as tie
+
+layout-of-requires : tie.Need-layout-of-requires
+layout-of-requires c κs = search needs
+
+returns : tie.Need-returns
+returns c =
+    let s = now (c .before .before .before .before .before .before .args .s) in
+    let w = c .before .before .before .before .before .before .args .words in
+    let work = now (c .before .before .before .before .before .before .args .work) in
+    let trace = now (c .before .before .before .before .before .before .args .trace) in
+    let p = c .before .before .before .before .before .before .pre in
+    let e = ap (λ (l : Layout). l .d) (c .before .before .layout-of .ensures .0) in
+    let r = ten s w p work trace (omega (arith, e, c .if1 .taken)) in
+    (sym (r .0), (sym (r .1), sym (r .2)))
+
+returns-2 : tie.Need-returns-2
+returns-2 c =
+    let s = now (c .before .before .before .before .before .before .before .args .s) in
+    let w = c .before .before .before .before .before .before .before .args .words in
+    let work = now (c .before .before .before .before .before .before .before .args .work) in
+    let trace = now (c .before .before .before .before .before .before .before .args .trace) in
+    let p = c .before .before .before .before .before .before .before .pre in
+    let e = ap (λ (l : Layout). l .d) (c .before .before .before .layout-of .ensures .0) in
+    let r = eleven s w p work (c .if2 .taken) trace (omega (arith, e, c .before .if1 .left)) in
+    (sym (r .0), (sym (r .1), sym (r .2)))
+
+array-share-prefix-none : tie.Need-array-share-prefix-none
+array-share-prefix-none c = search needs
+
+slice-aggregate-run : tie.Need-slice-aggregate-run
+slice-aggregate-run c = search needs
+
+slice-relend-prefix-run : tie.Need-slice-relend-prefix-run
+slice-relend-prefix-run c = search needs
+
+slice-aggregate-run-2 : tie.Need-slice-aggregate-run-2
+slice-aggregate-run-2 c = sym (length-take-le (c .before .before .before .before .before .before .before .before .before .args .words) (now (c .before .before .before .before .before .before .before .before .before .args .work)) (c .before .before .if2 .left))
+
+run-requires : tie.Need-run-requires
+run-requires c κs =
+    let s = now (c .before .before .before .before .before .before .before .before .before .before .args .s) in
+    let w = c .before .before .before .before .before .before .before .before .before .before .args .words in
+    let work = now (c .before .before .before .before .before .before .before .before .before .before .args .work) in
+    let trace = now (c .before .before .before .before .before .before .before .before .before .before .args .trace) in
+    let p = c .before .before .before .before .before .before .before .before .before .before .pre in
+    let e = ap (λ (l : Layout). l .d) (c .before .before .before .before .before .before .layout-of .ensures .0) in
+    (((w, p), c .before .before .before .before .before .before .layout-of .ensures .0), (length-take-le w work (c .before .before .before .if2 .left) ∙ ruled s (w, p) .figure, omega (arith, e, c .before .before .before .before .if1 .left)))
+
+answer-of-requires : tie.Need-answer-of-requires
+answer-of-requires c κs = search needs
+
+same-length : tie.Need-same-length
+same-length c = search needs
+
+same-length-2 : tie.Need-same-length-2
+same-length-2 c = search needs
+
+returns-3 : tie.Need-returns-3
+returns-3 c =
+    let s = now (c .before .before .before .before .before .before .before .before .before .before .before .before .before .before .before .before .args .s) in
+    let w = c .before .before .before .before .before .before .before .before .before .before .before .before .before .before .before .before .args .words in
+    let work = now (c .before .before .before .before .before .before .before .before .before .before .before .before .before .before .before .before .args .work) in
+    let trace = now (c .before .before .before .before .before .before .before .before .before .before .before .before .before .before .before .before .args .trace) in
+    let p = c .before .before .before .before .before .before .before .before .before .before .before .before .before .before .before .before .pre in
+    let e = ap (λ (l : Layout). l .d) (c .before .before .before .before .before .before .before .before .before .before .before .before .layout-of .ensures .0) in
+    let r = planning s w p work trace (c .before .before .before .before .before .before .before .before .before .if2 .left) (omega (arith, e, c .before .before .before .before .before .before .before .before .before .before .if1 .left)) (c .before .before .before .before .before .run .last .1 .1 .1 .1 .1 .0) (c .before .before .before .before .before .run .result) (c .before .before .before .before .before .run .ensures .0) in
+    (c .answer-of .ensures ∙ r .0, (r .1, cleared w work _ (c .before .before .before .before .before .run .ensures .1) (c .before .before .before .before .before .before .before .before .before .if2 .left) ∙ sym (plan-cleared s w p work (c .before .before .before .before .before .before .before .before .before .if2 .left) trace (omega (arith, e, c .before .before .before .before .before .before .before .before .before .before .if1 .left)))))
+
+pub plan-accepted-spec : {M : Type 1} → statement M
+plan-accepted-spec =
+    tie.close
+    (tie.spec
+    layout-of-requires
+    returns
+    returns-2
+    array-share-prefix-none
+    slice-aggregate-run
+    slice-relend-prefix-run
+    slice-aggregate-run-2
+    run-requires
+    answer-of-requires
+    same-length
+    same-length-2
+    returns-3)

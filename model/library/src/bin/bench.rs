@@ -1,0 +1,208 @@
+//! Planning by the verified library against the model's own depth-first search, on the same sheets in the same run:
+//! `cargo run --release --package library --bin bench`. Both take a sheet's bytes, check them and plan. They follow the
+//! same transitions in the same order; nearly every family ends in 14, so that all of the search is made.
+
+use library::Answer;
+use model::planner::{explore, Plan};
+use model::sheet::{check, Formula, Program, Refusal};
+use model::source::*;
+use model::write::Records;
+use std::hint::black_box;
+use std::time::{Duration, Instant};
+
+/// The time that one sheet gets.
+const TIME: Duration = Duration::from_millis(600);
+
+/// A family of sheets by growing size.
+struct Family {
+    name: &'static str,
+    sheets: Vec<(String, Vec<u8>)>,
+}
+
+fn families() -> Vec<Family> {
+    let family = |name, sheets| Family { name, sheets };
+    let row = |size: String, sheet| (size, sheet);
+    vec![
+        family(
+            "regrouping a full quay",
+            [(2, 13), (3, 8), (4, 6), (5, 5), (6, 5), (7, 4)]
+                .map(|(ships, bound)| row(format!("{ships} ships"), regrouping(ships, ships + 1, bound)))
+                .into(),
+        ),
+        family(
+            "branching, acts of their own",
+            [(4, 7), (16, 4), (64, 2), (256, 2)]
+                .map(|(acts, bound)| row(format!("{acts} acts"), branching(acts, 64, bound)))
+                .into(),
+        ),
+        family(
+            "branching, one act shared",
+            [(4, 7), (16, 4), (64, 2), (256, 2)]
+                .map(|(acts, bound)| row(format!("{acts} acts"), branching(acts, 1, bound)))
+                .into(),
+        ),
+        family(
+            "concurrent iteration",
+            [6, 7, 8, 9, 10].map(|bound| row(format!("bound {bound}"), concurrent_iteration(bound))).into(),
+        ),
+        family(
+            "interrupts",
+            [(2, 14), (3, 9), (4, 7), (6, 6), (8, 5)]
+                .map(|(count, bound)| row(format!("{count} interrupts"), interrupts(count, bound)))
+                .into(),
+        ),
+        family(
+            "shared formulas",
+            [8, 64, 512].map(|count| row(format!("{count} formulas"), shared_formulas(count, 6))).into(),
+        ),
+        family(
+            "long effect ranges",
+            [16, 128, 512].map(|count| row(format!("{count} effects"), long_effects(count, 9))).into(),
+        ),
+    ]
+}
+
+/// Ships on all sections but few are shifted to free ones, towards an order that does not exist.
+fn regrouping(ships: usize, sections: usize, bound: u16) -> Vec<u8> {
+    let mut source = Source::new("regrouping", bound);
+    let places: Vec<Fluent> =
+        (0..ships).map(|ship| source.fluent(&format!("ship {ship}"), sections as u8, ship as u8)).collect();
+    let mut shifts = vec![];
+    for (ship, place) in places.iter().enumerate() {
+        for section in 0..sections {
+            let free = all(places.iter().map(|other| !other.is(section)));
+            shifts.push(source.action(&format!("ship {ship} to {section}"), free, [place.gets(section)]));
+        }
+    }
+    let goal = all(places.iter().map(|place| place.is(0)));
+    source.sheet(&sequence([star(choice(shifts)), test(goal)]))
+}
+
+/// A star of a choice between so many acts, of which so many differ.
+fn branching(acts: usize, different: usize, bound: u16) -> Vec<u8> {
+    let mut source = Source::new("branching", bound);
+    let value = source.fluent("value", 16, 0);
+    let actions: Vec<_> =
+        (0..acts.min(different)).map(|i| source.action("set it", TRUE, [value.gets(i % 16)])).collect();
+    let choices = choice(actions.iter().cycle().take(acts).cloned());
+    source.sheet(&sequence([star(choices), test(FALSE)]))
+}
+
+/// The iteration of two acts in sequence: every copy that was begun can go on.
+fn concurrent_iteration(bound: u16) -> Vec<u8> {
+    let mut source = Source::new("concurrent iteration", bound);
+    let value = source.fluent("value", 2, 0);
+    let begin = source.action("begin", TRUE, [value.gets(1)]);
+    let end = source.action("end", TRUE, [value.gets(0)]);
+    source.sheet(&sequence([iteration(sequence([begin, end])), test(FALSE)]))
+}
+
+/// Interrupts side by side, each with enough to do for every round.
+fn interrupts(count: usize, bound: u16) -> Vec<u8> {
+    let mut source = Source::new("interrupts", bound);
+    let mut all = vec![];
+    for number in 0..count {
+        let done = source.fluent(&format!("done by {number}"), 16, 0);
+        let go_on = source.action(&format!("go on with {number}"), TRUE, done.goes_up());
+        all.push(interrupt(done.below(15), go_on));
+    }
+    source.sheet(&together(all))
+}
+
+/// Formula n is the conjunction of n - 1 with itself; the last is the precondition of four actions.
+fn shared_formulas(count: usize, bound: u16) -> Vec<u8> {
+    let mut records = Records { bound, ..Records::default() };
+    records.fluent(4, 0);
+    records.formula(Formula::False);
+    records.formula(Formula::True);
+    for number in 2..count {
+        records.formula(Formula::And(number - 1, number - 1));
+    }
+    for value in 0..4 {
+        records.effect(1, 0, value);
+        records.action(count - 1, usize::from(value), 1);
+    }
+    let acts: Vec<usize> = (0..4).map(|action| records.program(Program::Act(action))).collect();
+    let one = records.program(Program::Choice(acts[0], acts[1]));
+    let other = records.program(Program::Choice(acts[2], acts[3]));
+    let any = records.program(Program::Choice(one, other));
+    let star = records.program(Program::Star(any));
+    let never = records.program(Program::Test(0));
+    records.program(Program::Sequence(star, never));
+    records.bytes()
+}
+
+/// Two actions with a long range of effects over all fluents, none of which holds.
+fn long_effects(count: usize, bound: u16) -> Vec<u8> {
+    let mut source = Source::new("long effect ranges", bound);
+    let fluents: Vec<Fluent> = (0..32).map(|number| source.fluent(&format!("fluent {number}"), 2, 0)).collect();
+    let effects = |count| fluents.iter().cycle().take(count).map(|fluent| fluent.gets(1).when(FALSE));
+    let long = source.action("the long range", TRUE, effects(count));
+    source.sheet(&sequence([star(choice([long.clone(), long])), test(FALSE)]))
+}
+
+/// An answer with its least time.
+struct Measured<T> {
+    answer: T,
+    time: Duration,
+}
+
+/// Calls the two in turn until the time is up. What one call of the library takes does not contain the filling of its
+/// areas with garbage.
+fn measure(bytes: &[u8], words: usize, bound: usize) -> (Measured<Answer<2>>, Vec<u16>, Measured<Explored>) {
+    let (mut work, mut trace) = (vec![0; words], vec![0; bound]);
+    let mut library = || {
+        work.fill(0xa5a5_a5a5);
+        trace.fill(0xa5a5);
+        timed(|| library::plan(black_box(bytes), &mut work, &mut trace))
+    };
+    let model = || timed(|| explore(&check(black_box(bytes)).expect("the sheet is accepted")));
+    let begun = Instant::now();
+    let (mut by_library, mut by_model) = (library(), model());
+    while begun.elapsed() < TIME {
+        by_library.time = by_library.time.min(library().time);
+        by_model.time = by_model.time.min(model().time);
+    }
+    (by_library, trace, by_model)
+}
+
+fn timed<T>(call: impl FnOnce() -> T) -> Measured<T> {
+    let begun = Instant::now();
+    let answer = black_box(call());
+    Measured { answer, time: begun.elapsed() }
+}
+
+/// The model's answer, and the transitions that it followed.
+type Explored = (Result<Plan, Refusal>, usize);
+
+fn main() {
+    println!("Work and trace hold garbage before each call of the library. Filling them with it is not in the time; what the");
+    println!("library itself writes, the zeros it leaves among that, is. The least time of as many calls as fit into");
+    println!(
+        "{} ms counts. Growth is the library's time for one transition, the family's first row being 1.",
+        TIME.as_millis()
+    );
+    for Family { name, sheets } in families() {
+        println!();
+        println!(
+            "{name:30} {:>7} {:>12} {:>11} {:>9} {:>6} {:>14} {:>14} {:>7}",
+            "verdict", "transitions", "library ms", "model ms", "ratio", "M/s library", "ns/transition", "growth"
+        );
+        let mut first = None;
+        for (size, bytes) in sheets {
+            let sheet = check(&bytes).expect("the sheet is accepted");
+            let (library, trace, model) = measure(&bytes, sheet.work(), sheet.bound);
+            let (expected, followed) = model.answer;
+            assert_eq!(library.answer.plan(&trace), expected, "{name}, {size}");
+            let verdict = expected.map_or_else(|refusal| refusal.number.to_string(), |_| "plan".to_string());
+            let [ms, model_ms] = [library.time, model.time].map(|time| time.as_secs_f64() * 1e3);
+            let one = ms * 1e6 / followed as f64;
+            let growth = one / *first.get_or_insert(one);
+            println!(
+                "  {size:28} {verdict:>7} {followed:>12} {ms:>11.3} {model_ms:>9.3} {:>6.2} {:>14.2} {one:>14.1} {growth:>7.2}",
+                ms / model_ms,
+                1e3 / one,
+            );
+        }
+    }
+}
