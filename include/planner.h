@@ -41,8 +41,9 @@
  * What is left in work and trace:
  *
  *   number                  work                                          trace
- *   0 from planner_plan     the required words are 0, the rest untouched  the first n entries are the plan, the rest untouched
- *   0 from planner_replay   the required words are 0, the rest untouched  -
+ *   0 from planner_plan     the required words are 0, the rest untouched  the first n entries are the plan,
+ *                                                                         the rest untouched
+ *   0 from planner_replay   the required words are 0, the rest untouched  (none is lent)
  *   1 to 11                 untouched                                     untouched
  *   13, 14                  the required words are 0, the rest untouched  untouched
  */
@@ -67,9 +68,9 @@ extern "C" {
 uint32_t planner_check(const uint8_t *sheet, size_t sheet_len, size_t *words, size_t *place);
 
 /*
- * Plans. Number 0: the first *n entries of trace are the history of a run of *t transitions, at most D, that ends final.
- * An entry is an action's number, PLANNER_START or PLANNER_STOP. Work has as many words as planner_check says, or more;
- * trace has D entries or more.
+ * Plans. Number 0: the first *n entries of trace are the history of a run of *t transitions, at most D, that ends
+ * final. An entry is an action's number, PLANNER_START or PLANNER_STOP. Work needs as many words as planner_check says,
+ * trace D entries; both may be longer.
  * Numbers 1 to 11, 13 and 14.
  */
 uint32_t planner_plan(const uint8_t *sheet, size_t sheet_len, uint32_t *work, size_t work_len, uint16_t *trace,

@@ -5,8 +5,8 @@
 //! is decoded into plain records, a program is a tree, and a verdict is read off the sets of configurations that
 //! can be reached in exactly 0, 1, 2, .. transitions.
 //!
-//! Nothing here links to the verified library. A program or test that compares the two takes its sheets and
-//! histories from [`random`], its own answers from [`sheet`] and [`planner`], and brings the link itself.
+//! Nothing here links to the verified library: the package `library` does, and takes its sheets and histories from
+//! [`random`] and [`examples`] and the model's answers from [`sheet`] and [`planner`].
 
 pub mod examples;
 pub mod meaning;

@@ -28,10 +28,6 @@ impl Fluent {
         Condition::Leaf(sheet::Formula::Less(self.number, value.min(self.size.into())))
     }
 
-    pub fn equals(self, other: Fluent) -> Condition {
-        Condition::Leaf(sheet::Formula::Equal(self.number, other.number))
-    }
-
     /// The effect that gives it this value.
     pub fn gets(self, value: usize) -> Effect {
         Effect { condition: TRUE, fluent: self, value }
@@ -105,16 +101,14 @@ impl Effect {
     }
 }
 
-/// A program as a tree.
+/// A program as a tree, of the kinds that the examples and the benchmark use.
 #[derive(Clone)]
 pub enum Program {
-    Nil,
     Act(usize),
     Test(Condition),
     Sequence(Rc<Program>, Rc<Program>),
     Choice(Rc<Program>, Rc<Program>),
     Star(Rc<Program>),
-    If(Condition, Rc<Program>, Rc<Program>),
     While(Condition, Rc<Program>),
     Together(Rc<Program>, Rc<Program>),
     Over(Rc<Program>, Rc<Program>),
@@ -143,10 +137,6 @@ pub fn together(programs: impl IntoIterator<Item = Program>) -> Program {
 
 pub fn star(program: Program) -> Program {
     Program::Star(Rc::new(program))
-}
-
-pub fn if_else(condition: Condition, then: Program, other: Program) -> Program {
-    Program::If(condition, Rc::new(then), Rc::new(other))
 }
 
 pub fn repeat_while(condition: Condition, program: Program) -> Program {
@@ -232,13 +222,11 @@ impl Source {
     /// The number of the program record, after those that it links to.
     fn program(&mut self, program: &Program) -> usize {
         let record = match program {
-            Program::Nil => sheet::Program::Nil,
             Program::Act(a) => sheet::Program::Act(*a),
             Program::Test(c) => sheet::Program::Test(self.formula(c)),
             Program::Sequence(a, b) => sheet::Program::Sequence(self.program(a), self.program(b)),
             Program::Choice(a, b) => sheet::Program::Choice(self.program(a), self.program(b)),
             Program::Star(a) => sheet::Program::Star(self.program(a)),
-            Program::If(c, a, b) => sheet::Program::If(self.formula(c), self.program(a), self.program(b)),
             Program::While(c, a) => sheet::Program::While(self.formula(c), self.program(a)),
             Program::Together(a, b) => sheet::Program::Together(self.program(a), self.program(b)),
             Program::Over(a, b) => sheet::Program::Over(self.program(a), self.program(b)),

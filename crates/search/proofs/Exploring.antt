@@ -77,10 +77,10 @@ module _ (s : List ℕ) (free : Bool) (st : State) (g : Rest) (moves : List ℕ)
   pub at-bound : (left : ℕ) (b : Bool) → x ≡ false → left ≡ 0 → b ≡ not (isNone (restSteps (worldOf s) st (heldRecords s) g)) → Reported n d trace trace (told b) (outcomeOf s free left ((g, st), moves))
   at-bound left b y z h =
       let v : outcomeOf s free left ((g, st), moves) ≡ flagged b =
-              ap (λ (k : ℕ). outcomeOf s free k ((g, st), moves)) z
-              ∙ ap (λ (b : Bool). unless b (anyStep (movesHeld (worldOf s) (heldRecords s) (g, st)))) (sym e ∙ y)
-              ∙ any-flag (λ (x : Move). (x .0, (x .1, after (worldOf s) (x .0) st))) (restSteps (worldOf s) st (heldRecords s) g)
-              ∙ ap flagged (sym h) in
+      ap (λ (k : ℕ). outcomeOf s free k ((g, st), moves)) z
+      ∙ ap (λ (b : Bool). unless b (anyStep (movesHeld (worldOf s) (heldRecords s) (g, st)))) (sym e ∙ y)
+      ∙ any-flag (λ (x : Move). (x .0, (x .1, after (worldOf s) (x .0) st))) (restSteps (worldOf s) st (heldRecords s) g)
+      ∙ ap flagged (sym h) in
       record { says = subst (Says n d trace trace (told b)) (sym v) (says-flag n d trace b) }
 
   -- before it
@@ -88,6 +88,6 @@ module _ (s : List ℕ) (free : Bool) (st : State) (g : Rest) (moves : List ℕ)
   further left trace′ r y l Y =
       let k : left ≡ suc (left - 1) = omega arith in
       let v : outcomeOf s free left ((g, st), moves) ≡ branchesOf s free left (g, st) moves =
-              ap (λ (k : ℕ). outcomeOf s free k ((g, st), moves)) k
-              ∙ ap (λ (b : Bool). unless b (branchesOf s free left (g, st) moves)) (sym e ∙ y) in
+      ap (λ (k : ℕ). outcomeOf s free k ((g, st), moves)) k
+      ∙ ap (λ (b : Bool). unless b (branchesOf s free left (g, st) moves)) (sym e ∙ y) in
       subst (Reported n d trace trace′ r) (sym v) Y

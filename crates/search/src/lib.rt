@@ -232,7 +232,19 @@ fn try_step(
     let a = l.programs;
     let b = l.end;
     let to = q.at + t.frame;
-    let turn = steps::step_rest(&s[a..b], l.p, t.interrupts, held, st.running, finals, counts, work, q.at + 64, to + 64, k);
+    let turn = steps::step_rest(
+        &s[a..b],
+        l.p,
+        t.interrupts,
+        held,
+        st.running,
+        finals,
+        counts,
+        work,
+        q.at + 64,
+        to + 64,
+        k,
+    );
     let Turn::Made { entry, size: _ } = turn else {
         return Outcome::Nothing;
     };
@@ -289,7 +301,14 @@ fn try_all(
 }
 
 // Searches from the configuration at q, depth first.
-fn explore(s: &[u8], moves: &[u16], work: &mut [u32], trace: &mut [u16], t: Task, q: Place) -> Outcome
+fn explore(
+    s: &[u8],
+    moves: &[u16],
+    work: &mut [u32],
+    trace: &mut [u16],
+    t: Task,
+    q: Place,
+) -> Outcome
     requires { ⌜ Tasked (now s) t ⌝ }
     requires { ⌜ ((c : Config) × Stands (now work) (q .at) c × Ready (now s) (now work) t q (c .0)) ⌝ }
     requires { ⌜ Counts (now moves) (now trace) q ⌝ }
@@ -353,7 +372,14 @@ fn put_first(s: &[u8], t: Task, work: &mut [u32])
 }
 
 // Searches from a sheet's first configuration, along the moves given first: the work area is as long as required.
-pub fn run(s: &[u8], l: Layout, free: bool, moves: &[u16], work: &mut [u32], trace: &mut [u16]) -> Outcome
+pub fn run(
+    s: &[u8],
+    l: Layout,
+    free: bool,
+    moves: &[u16],
+    work: &mut [u32],
+    trace: &mut [u16],
+) -> Outcome
     requires { ⌜ Accepts (now s) × (l ≡ layoutOf (now s)) ⌝ }
     requires { ⌜ (length (now work) ≡ workWords (levelsOf (now s)) (boundOf (now s))) × (boundOf (now s) ≤ length (now trace)) ⌝ }
     ensures { λ r. ⌜ Reported 0 0 (now (trace .entry)) (now (trace .exit)) r (outcomeOf (now (s .entry)) free (boundOf (now (s .entry))) (heldFirst (now (s .entry)), now (moves .entry))) ⌝ }

@@ -171,10 +171,9 @@ explore-returns t c =
     let trace = now (c .before .before .before .before .before .before .before .before .before .before .before .before .before .before .before .before .args .trace) in
     let st = c .before .before .before .before .before .before .before .before .before .before .read-state .result in
     let S = c .before .before .before .before .before .before .before .tally-of .ensures st refl (c .before .before .before .before .before .before .before .before .before .truths-of .ensures) in
-    let e = c .before .is-over .ensures g (R .at) ∙ ap (λ (b : Bool). isNil moves && b) (final-known S R) in
-    (
+    let e = c .before .is-over .ensures g (R .at) ∙ ap (λ (b : Bool). isNil moves && b) (final-known S R) in (
       λ u H. for-any R st (λ (v : Config). Reported (q .n) (q .d) trace trace (Found (q .n) (q .d)) (outcomeOf s free (q .left) (v, moves)))
-      (over s free st g moves (q .n) (q .d) trace _ e (q .left) (c .if1 .taken)) u H (c .before .before .before .before .before .before .before .before .before .before .read-state .ensures (u .1) (H .state)),
+          (over s free st g moves (q .n) (q .d) trace _ e (q .left) (c .if1 .taken)) u H (c .before .before .before .before .before .before .before .before .before .before .read-state .ensures (u .1) (H .state)),
       kept-refl _ _,
     )
 
@@ -206,11 +205,10 @@ explore-returns-2 t c =
     let st = c .before .before .before .before .before .before .before .before .before .before .before .before .before .before .before .before .before .before .read-state .result in
     let S = c .before .before .before .before .before .before .before .before .before .before .before .before .before .before .before .tally-of .ensures st refl (c .before .before .before .before .before .before .before .before .before .before .before .before .before .before .before .before .before .truths-of .ensures) in
     let e = c .before .before .before .before .before .before .before .before .before .is-over .ensures g (R .at) ∙ ap (λ (b : Bool). isNil moves && b) (final-known S R) in
-    let b = c .before .has-step .ensures g (R .at) ∙ has-known S R in
-    (
+    let b = c .before .has-step .ensures g (R .at) ∙ has-known S R in (
       λ u H. for-any R st (λ (v : Config). Reported (q .n) (q .d) trace trace More (outcomeOf s free (q .left) (v, moves)))
-      (subst (λ (o : Outcome). Reported (q .n) (q .d) trace trace o (outcomeOf s free (q .left) ((g, st), moves))) (ap told (c .if3 .taken))
-      (at-bound s free st g moves (q .n) (q .d) trace _ e (q .left) _ (c .before .before .before .before .before .before .before .before .if1 .left) (c .before .before .before .before .before .before .if2 .taken) b)) u H (c .before .before .before .before .before .before .before .before .before .before .before .before .before .before .before .before .before .before .read-state .ensures (u .1) (H .state)),
+          (subst (λ (o : Outcome). Reported (q .n) (q .d) trace trace o (outcomeOf s free (q .left) ((g, st), moves))) (ap told (c .if3 .taken))
+          (at-bound s free st g moves (q .n) (q .d) trace _ e (q .left) _ (c .before .before .before .before .before .before .before .before .if1 .left) (c .before .before .before .before .before .before .if2 .taken) b)) u H (c .before .before .before .before .before .before .before .before .before .before .before .before .before .before .before .before .before .before .read-state .ensures (u .1) (H .state)),
       kept-refl _ _,
     )
 
@@ -230,11 +228,10 @@ explore-returns-3 t c =
     let st = c .before .before .before .before .before .before .before .before .before .before .before .before .before .before .before .before .before .before .read-state .result in
     let S = c .before .before .before .before .before .before .before .before .before .before .before .before .before .before .before .tally-of .ensures st refl (c .before .before .before .before .before .before .before .before .before .before .before .before .before .before .before .before .before .truths-of .ensures) in
     let e = c .before .before .before .before .before .before .before .before .before .is-over .ensures g (R .at) ∙ ap (λ (b : Bool). isNil moves && b) (final-known S R) in
-    let b = c .before .has-step .ensures g (R .at) ∙ has-known S R in
-    (
+    let b = c .before .has-step .ensures g (R .at) ∙ has-known S R in (
       λ u H. for-any R st (λ (v : Config). Reported (q .n) (q .d) trace trace Nothing (outcomeOf s free (q .left) (v, moves)))
-      (subst (λ (o : Outcome). Reported (q .n) (q .d) trace trace o (outcomeOf s free (q .left) ((g, st), moves))) (ap told (c .if3 .left))
-      (at-bound s free st g moves (q .n) (q .d) trace _ e (q .left) _ (c .before .before .before .before .before .before .before .before .if1 .left) (c .before .before .before .before .before .before .if2 .taken) b)) u H (c .before .before .before .before .before .before .before .before .before .before .before .before .before .before .before .before .before .before .read-state .ensures (u .1) (H .state)),
+          (subst (λ (o : Outcome). Reported (q .n) (q .d) trace trace o (outcomeOf s free (q .left) ((g, st), moves))) (ap told (c .if3 .left))
+          (at-bound s free st g moves (q .n) (q .d) trace _ e (q .left) _ (c .before .before .before .before .before .before .before .before .if1 .left) (c .before .before .before .before .before .before .if2 .taken) b)) u H (c .before .before .before .before .before .before .before .before .before .before .before .before .before .before .before .before .before .before .read-state .ensures (u .1) (H .state)),
       kept-refl _ _,
     )
 
@@ -274,10 +271,9 @@ explore-returns-4 t c =
     let trace = now (c .before .before .before .before .before .before .before .before .before .before .before .before .before .before .before .before .before .before .before .before .before .before .before .before .before .before .before .before .args .trace) in
     let st = c .before .before .before .before .before .before .before .before .before .before .before .before .before .before .before .before .before .before .before .before .before .before .read-state .result in
     let S = c .before .before .before .before .before .before .before .before .before .before .before .before .before .before .before .before .before .before .before .tally-of .ensures st refl (c .before .before .before .before .before .before .before .before .before .before .before .before .before .before .before .before .before .before .before .before .before .truths-of .ensures) in
-    let e = c .before .before .before .before .before .before .before .before .before .before .before .before .before .is-over .ensures g (R .at) ∙ ap (λ (b : Bool). isNil moves && b) (final-known S R) in
-    (
+    let e = c .before .before .before .before .before .before .before .before .before .before .before .before .before .is-over .ensures g (R .at) ∙ ap (λ (b : Bool). isNil moves && b) (final-known S R) in (
       λ u H. for-any R st (λ (v : Config). Reported (q .n) (q .d) trace (c .before .before .before .before .try-all .last .1 .1 .1 .1 .1 .1 .0) (c .before .before .before .before .try-all .result) (outcomeOf s free (q .left) (v, moves)))
-      (further s free st g moves (q .n) (q .d) trace _ e (q .left) _ _ (c .before .before .before .before .before .before .before .before .before .before .before .before .if1 .left) (omega arith) (c .before .before .before .before .try-all .ensures .0 g (R .at))) u H (c .before .before .before .before .before .before .before .before .before .before .before .before .before .before .before .before .before .before .before .before .before .before .read-state .ensures (u .1) (H .state)),
+          (further s free st g moves (q .n) (q .d) trace _ e (q .left) _ _ (c .before .before .before .before .before .before .before .before .before .before .before .before .if1 .left) (omega arith) (c .before .before .before .before .try-all .ensures .0 g (R .at))) u H (c .before .before .before .before .before .before .before .before .before .before .before .before .before .before .before .before .before .before .before .before .before .before .read-state .ensures (u .1) (H .state)),
       c .before .before .before .before .try-all .ensures .1,
     )
 
@@ -348,10 +344,9 @@ try-all-returns t c =
     let R′ = ready-kept R _ (I .0) in
     let B = c .before .before .before .before .before .before .try-step .ensures .0 g (R′ .at) in
     let H = I .2 g (R .at) in
-    let Z = tried-found f free moves xs (c .before .before .before .before .before .before .before .before .before .before .loop .k) (c .before .before .before .before .before .before .before .before .before .before .loop .cut) H (B .taken) (B .nth) (q .n) (q .d) (c .before .before .before .before .before .before .before .before .before .before .loop .trace) _ (c .before .before .before .before .before .before .try-step .result) (B .reported) (sym (c .before .found .ensures) ∙ c .if1 .taken) in
-    (
+    let Z = tried-found f free moves xs (c .before .before .before .before .before .before .before .before .before .before .loop .k) (c .before .before .before .before .before .before .before .before .before .before .loop .cut) H (B .taken) (B .nth) (q .n) (q .d) (c .before .before .before .before .before .before .before .before .before .before .loop .trace) _ (c .before .before .before .before .before .before .try-step .result) (B .reported) (sym (c .before .found .ensures) ∙ c .if1 .taken) in (
       for-rest R (λ (g : Rest). Reported (q .n) (q .d) (now (c .before .before .before .before .before .before .before .before .before .before .before .before .before .before .before .before .before .before .before .before .before .args .trace)) (c .before .before .before .before .before .before .try-step .last .1 .1 .1 .1 .1 .1 .0) (c .before .before .before .before .before .before .try-step .result) (branchesOf s free (q .left) (g, st) moves))
-      (subst (λ (l : List ℕ). Reported (q .n) (q .d) l (c .before .before .before .before .before .before .try-step .last .1 .1 .1 .1 .1 .1 .0) (c .before .before .before .before .before .before .try-step .result) (branchesOf s free (q .left) (g, st) moves)) (I .1) Z),
+          (subst (λ (l : List ℕ). Reported (q .n) (q .d) l (c .before .before .before .before .before .before .try-step .last .1 .1 .1 .1 .1 .1 .0) (c .before .before .before .before .before .before .try-step .result) (branchesOf s free (q .left) (g, st) moves)) (I .1) Z),
       kept-trans _ _ _ _ _ (I .0) (c .before .before .before .before .before .before .try-step .ensures .1) (omega arith),
     )
 
@@ -383,12 +378,11 @@ try-all-loop-again t c =
     let R′ = ready-kept R _ (I .0) in
     let B = c .before .before .before .before .before .before .before .try-step .ensures .0 g (R′ .at) in
     let H = I .2 g (R .at) in
-    let Z = tried-more f free moves xs (c .before .before .before .before .before .before .before .before .before .before .before .loop .k) (c .before .before .before .before .before .before .before .before .before .before .before .loop .cut) H (B .taken) (B .nth) (q .n) (q .d) (c .before .before .before .before .before .before .before .before .before .before .before .loop .trace) _ (c .before .before .before .before .before .before .before .try-step .result) (B .reported) (sym (c .before .before .found .ensures) ∙ c .before .if1 .left) in
-    (
+    let Z = tried-more f free moves xs (c .before .before .before .before .before .before .before .before .before .before .before .loop .k) (c .before .before .before .before .before .before .before .before .before .before .before .loop .cut) H (B .taken) (B .nth) (q .n) (q .d) (c .before .before .before .before .before .before .before .before .before .before .before .loop .trace) _ (c .before .before .before .before .before .before .before .try-step .result) (B .reported) (sym (c .before .before .found .ensures) ∙ c .before .if1 .left) in (
       kept-trans _ _ _ _ _ (I .0) (c .before .before .before .before .before .before .before .try-step .ensures .1) (omega arith),
       Z .0 ∙ I .1,
       for-rest R (λ (g : Rest). Tried f free moves (movesHeld (worldOf s) (heldRecords s) (g, st)) (c .before .before .before .before .before .before .before .before .before .before .before .loop .k + 1) (c .cut-after .result))
-      (subst (Tried f free moves xs (c .before .before .before .before .before .before .before .before .before .before .before .loop .k + 1)) (sym (c .cut-after .ensures)) (Z .1)),
+          (subst (Tried f free moves xs (c .before .before .before .before .before .before .before .before .before .before .before .loop .k + 1)) (sym (c .cut-after .ensures)) (Z .1)),
     )
 
 try-all-same-length-3 : (t : ℕ) → try-all-lts.Need-same-length-3 (try-all-claims t) (try-all-at t) try-all.Post try-all-Inv-loop try-all-μ-loop
@@ -414,10 +408,9 @@ try-all-returns-2 t c =
     let xs = movesHeld (worldOf s) (heldRecords s) (g, st) in
     let I = c .before .before .loop .inv in
     let count = c .before .before .before .count-rest .ensures g (R .at) ∙ count-known S R in
-    let Z = tried-all f free moves xs (c .before .before .loop .k) (c .before .before .loop .cut) (I .2 g (R .at)) (omega (arith, c .before .loop-test .left, count, moves-length s st g)) ∙ ap flagged (c .if2 .taken) in
-    (
+    let Z = tried-all f free moves xs (c .before .before .loop .k) (c .before .before .loop .cut) (I .2 g (R .at)) (omega (arith, c .before .loop-test .left, count, moves-length s st g)) ∙ ap flagged (c .if2 .taken) in (
       for-rest R (λ (g : Rest). Reported (q .n) (q .d) (now (c .before .before .before .before .before .before .before .before .before .before .before .before .before .args .trace)) (c .before .before .loop .trace) More (branchesOf s free (q .left) (g, st) moves))
-      (record { says = subst (Says (q .n) (q .d) (now (c .before .before .before .before .before .before .before .before .before .before .before .before .before .args .trace)) (c .before .before .loop .trace) More) (sym Z) (refl, I .1) }),
+          (record { says = subst (Says (q .n) (q .d) (now (c .before .before .before .before .before .before .before .before .before .before .before .before .before .args .trace)) (c .before .before .loop .trace) More) (sym Z) (refl, I .1) }),
       I .0,
     )
 
@@ -444,10 +437,9 @@ try-all-returns-3 t c =
     let xs = movesHeld (worldOf s) (heldRecords s) (g, st) in
     let I = c .before .before .loop .inv in
     let count = c .before .before .before .count-rest .ensures g (R .at) ∙ count-known S R in
-    let Z = tried-all f free moves xs (c .before .before .loop .k) (c .before .before .loop .cut) (I .2 g (R .at)) (omega (arith, c .before .loop-test .left, count, moves-length s st g)) ∙ ap flagged (c .if2 .left) in
-    (
+    let Z = tried-all f free moves xs (c .before .before .loop .k) (c .before .before .loop .cut) (I .2 g (R .at)) (omega (arith, c .before .loop-test .left, count, moves-length s st g)) ∙ ap flagged (c .if2 .left) in (
       for-rest R (λ (g : Rest). Reported (q .n) (q .d) (now (c .before .before .before .before .before .before .before .before .before .before .before .before .before .args .trace)) (c .before .before .loop .trace) Nothing (branchesOf s free (q .left) (g, st) moves))
-      (record { says = subst (Says (q .n) (q .d) (now (c .before .before .before .before .before .before .before .before .before .before .before .before .before .args .trace)) (c .before .before .loop .trace) Nothing) (sym Z) (refl, I .1) }),
+          (record { says = subst (Says (q .n) (q .d) (now (c .before .before .before .before .before .before .before .before .before .before .before .before .before .args .trace)) (c .before .before .loop .trace) Nothing) (sym Z) (refl, I .1) }),
       I .0,
     )
 
@@ -719,8 +711,7 @@ try-step-returns-3 t c =
     let free = c .before .before .before .before .before .before .before .before .before .before .before .before .before .before .before .before .before .before .before .before .before .before .before .before .before .before .before .before .before .before .before .before .before .before .before .before .before .before .before .before .before .before .args .t .free in
     let moves = now (c .before .before .before .before .before .before .before .before .before .before .before .before .before .before .before .before .before .before .before .before .before .before .before .before .before .before .before .before .before .before .before .before .before .before .before .before .before .before .before .before .before .before .args .moves) in
     let pass = sym (c .before .before .before .before .before .before .before .before .before .before .before .before .before .before .before .before .before .before .before .before .before .before .lets-pass .ensures m known (X .code)) ∙ not-false _ (c .before .before .before .before .before .before .before .before .before .before .before .before .before .before .before .before .before .before .before .before .before .if1 .left) in
-    let Z = forth T S R L X free moves (now (c .before .before .before .before .before .before .before .before .before .before .before .before .before .before .before .before .before .before .before .before .before .before .before .before .before .before .before .before .before .before .before .before .before .before .before .before .before .before .before .before .before .before .args .trace)) (c .before .before .before .before .before .before .before .before .explore .last .1 .1 .1 .0) (c .before .before .before .before .before .before .before .before .explore .result) (c .before .before .before .before .before .before .before .before .before .before .before .before .before .before .made-after .result) (q .n + c .before .before .before .before .before .before .before .before .before .before .before .before .before .entries-of .result) (q .d + 1) pass (c .before .before .before .before .before .before .before .before .before .before .before .before .before .before .made-after .ensures .1 m known (X .code)) (ap (λ (k : ℕ). q .n + k) (c .before .before .before .before .before .before .before .before .before .before .before .before .before .entries-of .ensures .1 m known (X .code))) refl (c .before .before .before .before .before .before .before .before .explore .ensures .0 (leads X) (stands-next T S R L X P)) in
-    (
+    let Z = forth T S R L X free moves (now (c .before .before .before .before .before .before .before .before .before .before .before .before .before .before .before .before .before .before .before .before .before .before .before .before .before .before .before .before .before .before .before .before .before .before .before .before .before .before .before .before .before .before .args .trace)) (c .before .before .before .before .before .before .before .before .explore .last .1 .1 .1 .0) (c .before .before .before .before .before .before .before .before .explore .result) (c .before .before .before .before .before .before .before .before .before .before .before .before .before .before .made-after .result) (q .n + c .before .before .before .before .before .before .before .before .before .before .before .before .before .entries-of .result) (q .d + 1) pass (c .before .before .before .before .before .before .before .before .before .before .before .before .before .before .made-after .ensures .1 m known (X .code)) (ap (λ (k : ℕ). q .n + k) (c .before .before .before .before .before .before .before .before .before .before .before .before .before .entries-of .ensures .1 m known (X .code))) refl (c .before .before .before .before .before .before .before .before .explore .ensures .0 (leads X) (stands-next T S R L X P)) in (
       branched-any R (subst (λ (l : List ℕ). Branched s free moves q (c .before .before .before .before .before .before .before .before .before .before .before .before .before .before .before .before .before .before .before .before .before .before .before .before .before .before .before .before .before .before .before .before .before .before .before .before .before .before .before .before .before .before .args .st) (x .0) (c .before .before .before .before .before .before .before .before .before .before .before .before .before .before .before .before .before .before .before .before .before .before .before .before .before .before .before .before .before .before .before .before .before .before .before .before .before .before .before .before .before .before .args .k) (now (c .before .before .before .before .before .before .before .before .before .before .before .before .before .before .before .before .before .before .before .before .before .before .before .before .before .before .before .before .before .before .before .before .before .before .before .before .before .before .before .before .before .before .args .trace)) l (c .before .before .before .before .before .before .before .before .explore .result)) (sym (c .before .before .note .ensures m known (X .code))) Z),
       kept-trans _ _ _ _ _ (kept-before T S R L X P) (c .before .before .before .before .before .before .before .before .explore .ensures .1) (omega arith),
     )

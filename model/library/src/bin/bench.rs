@@ -1,6 +1,6 @@
 //! Planning by the verified library against the model's own depth-first search, on the same sheets in the same run:
 //! `cargo run --release --package library --bin bench`. Both take a sheet's bytes, check them and plan. They follow the
-//! same transitions in the same order; nearly every family ends in 14, so that all of the search is made.
+//! same transitions in the same order, and every sheet ends in 14, so that all of the search is made.
 
 use library::Answer;
 use model::planner::{explore, Plan};
@@ -19,50 +19,46 @@ struct Family {
     sheets: Vec<(String, Vec<u8>)>,
 }
 
+/// Of each sheet the bound is such that some thousand transitions are followed.
 fn families() -> Vec<Family> {
-    let family = |name, sheets| Family { name, sheets };
-    let row = |size: String, sheet| (size, sheet);
+    let acts = [(4, 7), (16, 4), (64, 2), (256, 2)];
     vec![
-        family(
-            "regrouping a full quay",
-            [(2, 13), (3, 8), (4, 6), (5, 5), (6, 5), (7, 4)]
-                .map(|(ships, bound)| row(format!("{ships} ships"), regrouping(ships, ships + 1, bound)))
+        Family {
+            name: "regrouping a full quay",
+            sheets: [(2, 13), (3, 8), (4, 6), (5, 5), (6, 5), (7, 4)]
+                .map(|(ships, bound)| (format!("{ships} ships"), regrouping(ships, ships + 1, bound)))
                 .into(),
-        ),
-        family(
-            "branching, acts of their own",
-            [(4, 7), (16, 4), (64, 2), (256, 2)]
-                .map(|(acts, bound)| row(format!("{acts} acts"), branching(acts, 64, bound)))
+        },
+        Family {
+            name: "branching, acts of their own",
+            sheets: acts.map(|(acts, bound)| (format!("{acts} acts"), branching(acts, 64, bound))).into(),
+        },
+        Family {
+            name: "branching, one act shared",
+            sheets: acts.map(|(acts, bound)| (format!("{acts} acts"), branching(acts, 1, bound))).into(),
+        },
+        Family {
+            name: "concurrent iteration",
+            sheets: [6, 7, 8, 9, 10].map(|bound| (format!("bound {bound}"), concurrent_iteration(bound))).into(),
+        },
+        Family {
+            name: "interrupts",
+            sheets: [(2, 14), (3, 9), (4, 7), (6, 6), (8, 5)]
+                .map(|(count, bound)| (format!("{count} interrupts"), interrupts(count, bound)))
                 .into(),
-        ),
-        family(
-            "branching, one act shared",
-            [(4, 7), (16, 4), (64, 2), (256, 2)]
-                .map(|(acts, bound)| row(format!("{acts} acts"), branching(acts, 1, bound)))
-                .into(),
-        ),
-        family(
-            "concurrent iteration",
-            [6, 7, 8, 9, 10].map(|bound| row(format!("bound {bound}"), concurrent_iteration(bound))).into(),
-        ),
-        family(
-            "interrupts",
-            [(2, 14), (3, 9), (4, 7), (6, 6), (8, 5)]
-                .map(|(count, bound)| row(format!("{count} interrupts"), interrupts(count, bound)))
-                .into(),
-        ),
-        family(
-            "shared formulas",
-            [8, 64, 512].map(|count| row(format!("{count} formulas"), shared_formulas(count, 6))).into(),
-        ),
-        family(
-            "long effect ranges",
-            [16, 128, 512].map(|count| row(format!("{count} effects"), long_effects(count, 9))).into(),
-        ),
+        },
+        Family {
+            name: "shared formulas",
+            sheets: [8, 64, 512].map(|count| (format!("{count} formulas"), shared_formulas(count, 6))).into(),
+        },
+        Family {
+            name: "long effect ranges",
+            sheets: [16, 128, 512].map(|count| (format!("{count} effects"), long_effects(count, 9))).into(),
+        },
     ]
 }
 
-/// Ships on all sections but few are shifted to free ones, towards an order that does not exist.
+/// Ships on all sections but few are shifted to free ones, towards an order that no quay has.
 fn regrouping(ships: usize, sections: usize, bound: u16) -> Vec<u8> {
     let mut source = Source::new("regrouping", bound);
     let places: Vec<Fluent> =
@@ -132,12 +128,12 @@ fn shared_formulas(count: usize, bound: u16) -> Vec<u8> {
     records.bytes()
 }
 
-/// Two actions with a long range of effects over all fluents, none of which holds.
+/// An action with a long range of effects over all fluents, none of which holds, and the choice of it twice.
 fn long_effects(count: usize, bound: u16) -> Vec<u8> {
     let mut source = Source::new("long effect ranges", bound);
     let fluents: Vec<Fluent> = (0..32).map(|number| source.fluent(&format!("fluent {number}"), 2, 0)).collect();
-    let effects = |count| fluents.iter().cycle().take(count).map(|fluent| fluent.gets(1).when(FALSE));
-    let long = source.action("the long range", TRUE, effects(count));
+    let effects = fluents.iter().cycle().take(count).map(|fluent| fluent.gets(1).when(FALSE));
+    let long = source.action("the long range", TRUE, effects);
     source.sheet(&sequence([star(choice([long.clone(), long])), test(FALSE)]))
 }
 
@@ -147,8 +143,10 @@ struct Measured<T> {
     time: Duration,
 }
 
-/// Calls the two in turn until the time is up. What one call of the library takes does not contain the filling of its
-/// areas with garbage.
+/// The model's answer, and the transitions that it followed.
+type Explored = (Result<Plan, Refusal>, usize);
+
+/// Calls the two in turn until the time is up. Filling the library's areas with garbage is not timed.
 fn measure(bytes: &[u8], words: usize, bound: usize) -> (Measured<Answer<2>>, Vec<u16>, Measured<Explored>) {
     let (mut work, mut trace) = (vec![0; words], vec![0; bound]);
     let mut library = || {
@@ -172,16 +170,10 @@ fn timed<T>(call: impl FnOnce() -> T) -> Measured<T> {
     Measured { answer, time: begun.elapsed() }
 }
 
-/// The model's answer, and the transitions that it followed.
-type Explored = (Result<Plan, Refusal>, usize);
-
 fn main() {
-    println!("Work and trace hold garbage before each call of the library. Filling them with it is not in the time; what the");
-    println!("library itself writes, the zeros it leaves among that, is. The least time of as many calls as fit into");
-    println!(
-        "{} ms counts. Growth is the library's time for one transition, the family's first row being 1.",
-        TIME.as_millis()
-    );
+    println!("Buffers are not cleared before a call of the library: they hold garbage. Putting it there is not timed;");
+    println!("the zeros that the library leaves are its own work, and are timed. The least time of all calls counts.");
+    println!("Growth: the library's time for one transition, that of the family's first row being 1.");
     for Family { name, sheets } in families() {
         println!();
         println!(

@@ -92,10 +92,6 @@ fn garbage_word(random: &mut Random) -> u32 {
     random.between(1, u32::MAX as usize) as u32
 }
 
-fn history_area(random: &mut Random, history: &[u16]) -> Area<u16> {
-    Area::new(random, history, garbage_entry)
-}
-
 /// A trace or work area of garbage.
 fn lent_area<T: Copy + PartialEq + Debug>(
     random: &mut Random,
@@ -130,28 +126,33 @@ fn short_lengths(sheet: &Sheet) -> Vec<[usize; 2]> {
     lengths
 }
 
+/// One sheet as it is lent, and what the model makes of it.
+struct Given {
+    bytes: Area<u8>,
+    checked: Result<Sheet, Refusal>,
+}
+
+impl Given {
+    fn sheet(&self) -> Result<&Sheet, Refusal> {
+        self.checked.as_ref().map_err(|refusal| *refusal)
+    }
+}
+
 struct Compare {
     random: Random,
     counts: Counts,
 }
 
-/// One sheet as it is lent, and what the model makes of it.
-struct Given {
-    bytes: Area<u8>,
-    sheet: Result<Sheet, Refusal>,
-}
-
 impl Compare {
     fn given(&mut self, bytes: &[u8]) -> Given {
-        Given { bytes: Area::new(&mut self.random, bytes, garbage_byte), sheet: sheet::check(bytes) }
+        Given { bytes: Area::new(&mut self.random, bytes, garbage_byte), checked: sheet::check(bytes) }
     }
 
     /// The calls that lend nothing for writing.
     fn reading(&mut self, given: &Given) -> Outcome {
         let bytes = given.bytes.read();
-        let sheet = given.sheet.as_ref().map_err(|refusal| *refusal);
-        same("check", answer(sheet.map(|sheet| [sheet.work()])), library::check(bytes))?;
-        same("notes", answer(sheet.map(|sheet| [sheet.notes.end])), library::notes(bytes))?;
+        same("check", answer(given.sheet().map(|sheet| [sheet.work()])), library::check(bytes))?;
+        same("notes", answer(given.sheet().map(|sheet| [sheet.notes.end])), library::notes(bytes))?;
         for fluent in (0..34).chain([255, 256, 65536, 1 << 32, usize::MAX]) {
             let found = sheet::look_up(bytes, fluent).map(|fluent| [fluent.size.into(), fluent.initial.into()]);
             same(&format!("look-up of {fluent}"), answer(found), library::look_up(bytes, fluent))?;
@@ -165,7 +166,7 @@ impl Compare {
         let mut trace = lent_area(&mut self.random, entries, garbage_entry);
         let got = library::plan(given.bytes.read(), work.lend(), trace.lend());
 
-        let lent = given.sheet.as_ref().map_err(|refusal| *refusal).and_then(|sheet| {
+        let lent = given.sheet().and_then(|sheet| {
             planner::lent(sheet, Some(entries), words)?;
             Ok(sheet)
         });
@@ -202,11 +203,11 @@ impl Compare {
     }
 
     fn replay(&mut self, given: &Given, history: &[u16], words: usize) -> Outcome {
-        let history = history_area(&mut self.random, history);
+        let history = Area::new(&mut self.random, history, garbage_entry);
         let mut work = lent_area(&mut self.random, words, garbage_word);
         let got = library::replay(given.bytes.read(), history.read(), work.lend());
 
-        let expected = given.sheet.as_ref().map_err(|refusal| *refusal).and_then(|sheet| {
+        let expected = given.sheet().and_then(|sheet| {
             planner::lent(sheet, None, words)?;
             work.must_begin_with(&vec![0; sheet.work()]);
             Ok([usize::from(planner::replay(sheet, history.read()))])
@@ -282,7 +283,7 @@ impl Compare {
     fn damaged(&mut self, bytes: &[u8], refusal: Refusal) -> Outcome {
         self.counts.damaged += 1;
         let given = self.given(bytes);
-        same("damage", Err(refusal), given.sheet.as_ref().map(|_| ()).map_err(|refusal| *refusal))?;
+        same("damage", Err(refusal), given.sheet().map(|_| ()))?;
         self.reading(&given)?;
         let none = Err(refusal);
         let [words, entries] = [400, 70].map(|most| self.random.below(most));

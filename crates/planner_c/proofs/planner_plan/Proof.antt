@@ -1,0 +1,51 @@
+-- The answer's number and values, case by case. Assumes nothing.
+use mathlib.Core.Path.{sym, _∙_, ap}
+use Rattle.planner_c.specs.Numbers.{planNumber, planMoves, planTransitions, planPlace}
+use borrow.Author.Needs.{needs}
+use Rattle.planner_c.proofs.planner_plan.Statement.{statement}
+use Rattle.planner_c.proofs.planner_plan.Tie as tie
+
+plan-requires : tie.Need-plan-requires
+plan-requires c κs = search needs
+
+enum-known-moves : tie.Need-enum-known-moves
+enum-known-moves c = search needs
+
+enum-known-m : tie.Need-enum-known-m
+enum-known-m c = search needs
+
+same-length : tie.Need-same-length
+same-length c = search needs
+
+same-length-2 : tie.Need-same-length-2
+same-length-2 c = search needs
+
+returns : tie.Need-returns
+returns c =
+    let q = sym (c .before .before .before .before .before .before .before .plan .ensures .0) ∙ c .before .moves .given .1 in
+    (sym (ap planNumber q), ((sym (ap planMoves q), sym (ap planTransitions q), sym (ap planPlace q)), (c .before .before .before .before .before .before .before .plan .ensures .1 .0, c .before .before .before .before .before .before .before .plan .ensures .1 .1)))
+
+same-length-3 : tie.Need-same-length-3
+same-length-3 c = search needs
+
+same-length-4 : tie.Need-same-length-4
+same-length-4 c = search needs
+
+returns-2 : tie.Need-returns-2
+returns-2 c =
+    let q = sym (c .before .before .before .before .before .before .before .plan .ensures .0) ∙ c .before .m .given .1 in
+    (sym (ap planNumber q), ((sym (ap planMoves q), sym (ap planTransitions q), sym (ap planPlace q)), (c .before .before .before .before .before .before .before .plan .ensures .1 .0, c .before .before .before .before .before .before .before .plan .ensures .1 .1)))
+
+pub planner-plan-spec : {M : Type 1} → statement M
+planner-plan-spec =
+    tie.close
+    (tie.spec
+    plan-requires
+    enum-known-moves
+    enum-known-m
+    same-length
+    same-length-2
+    returns
+    same-length-3
+    same-length-4
+    returns-2)

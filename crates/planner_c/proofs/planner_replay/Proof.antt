@@ -1,0 +1,57 @@
+-- The answer's number and values, case by case. Assumes nothing.
+use mathlib.Core.Path.{sym, _∙_, ap}
+use Rattle.planner_c.specs.Numbers.{replyNumber, replyYes, replyPlace}
+use borrow.Author.Needs.{needs}
+use Rattle.planner_c.proofs.planner_replay.Statement.{statement}
+use Rattle.planner_c.proofs.planner_replay.Tie as tie
+
+replay-requires : tie.Need-replay-requires
+replay-requires c κs = search needs
+
+enum-told : tie.Need-enum-told
+enum-told c = search needs
+
+enum-told-2 : tie.Need-enum-told-2
+enum-told-2 c = search needs
+
+enum-known-n : tie.Need-enum-known-n
+enum-known-n c = search needs
+
+same-length : tie.Need-same-length
+same-length c = search needs
+
+returns : tie.Need-returns
+returns c =
+    let q = sym (c .before .before .before .before .replay .ensures .0) ∙ c .enum-told .given .1 in
+    (sym (ap replyNumber q), ((sym (ap replyYes q), sym (ap replyPlace q)), c .before .before .before .before .replay .ensures .1))
+
+same-length-2 : tie.Need-same-length-2
+same-length-2 c = search needs
+
+returns-2 : tie.Need-returns-2
+returns-2 c =
+    let q = sym (c .before .before .before .before .replay .ensures .0) ∙ c .enum-told2 .given .1 in
+    (sym (ap replyNumber q), ((sym (ap replyYes q), sym (ap replyPlace q)), c .before .before .before .before .replay .ensures .1))
+
+same-length-3 : tie.Need-same-length-3
+same-length-3 c = search needs
+
+returns-3 : tie.Need-returns-3
+returns-3 c =
+    let q = sym (c .before .before .before .before .before .replay .ensures .0) ∙ c .before .n .given .1 in
+    (sym (ap replyNumber q), ((sym (ap replyYes q), sym (ap replyPlace q)), c .before .before .before .before .before .replay .ensures .1))
+
+pub planner-replay-spec : {M : Type 1} → statement M
+planner-replay-spec =
+    tie.close
+    (tie.spec
+    replay-requires
+    enum-told
+    enum-told-2
+    enum-known-n
+    same-length
+    returns
+    same-length-2
+    returns-2
+    same-length-3
+    returns-3)
