@@ -161,7 +161,7 @@ fn note(trace: &mut [u16], n: usize, entry: u32, o: Outcome)
 }
 
 // The state after a transition, where `held` has what the formulas say in the state before it.
-fn state_after(s: &[u8], l: Layout, held: &[bool], entry: u32, st: State) -> State
+pub fn state_after(s: &[u8], l: Layout, held: &[bool], entry: u32, st: State) -> State
     requires { ⌜ Accepts (now s) × (l ≡ layoutOf (now s)) ⌝ }
     requires { ⌜ ((m : Option ℕ) × Known (Action (now s)) m × (entry ≡ codeOf m)) ⌝ }
     ensures { λ r. ⌜ (Held (worldOf (now (s .entry))) st (layoutOf (now (s .entry)) .q) (now (held .entry)) → (m : Option ℕ) → Known (Action (now (s .entry))) m → entry ≡ codeOf m → r ≡ after (worldOf (now (s .entry))) m st) ⌝ }
@@ -176,7 +176,7 @@ fn state_after(s: &[u8], l: Layout, held: &[bool], entry: u32, st: State) -> Sta
 }
 
 // What the formulas of a sheet say in a state.
-fn truths_of(s: &[u8], l: Layout, st: State) -> [bool; 512]
+pub fn truths_of(s: &[u8], l: Layout, st: State) -> [bool; 512]
     requires { ⌜ Accepts (now s) × (l ≡ layoutOf (now s)) ⌝ }
     ensures { λ r. ⌜ Held (worldOf (now (s .entry))) st (layoutOf (now (s .entry)) .q) r ⌝ }
 {
@@ -186,7 +186,7 @@ fn truths_of(s: &[u8], l: Layout, st: State) -> [bool; 512]
 }
 
 // Which records of a sheet are final in a state, and how many transitions each has.
-fn tally_of(s: &[u8], t: Task, held: &[bool], running: bool) -> Tally
+pub fn tally_of(s: &[u8], t: Task, held: &[bool], running: bool) -> Tally
     requires { ⌜ Tasked (now s) t ⌝ }
     ensures { λ r. ⌜ ((st : State) → running ≡ st .running → Held (worldOf (now (s .entry))) st (layoutOf (now (s .entry)) .q) (now (held .entry)) → Surveyed (now (s .entry)) st (now (held .entry)) (r .finals) (r .counts)) ⌝ }
 {
@@ -333,7 +333,7 @@ fn explore(
 }
 
 // The task of a search: there are interrupts or not, and the frames are as high as the work figure says.
-fn task_of(s: &[u8], l: Layout, free: bool) -> Task
+pub fn task_of(s: &[u8], l: Layout, free: bool) -> Task
     requires { ⌜ Accepts (now s) × (l ≡ layoutOf (now s)) ⌝ }
     ensures { λ r. ⌜ Tasked (now (s .entry)) r ⌝ }
     ensures { λ r. ⌜ (r .free ≡ free) × (r .frame ≡ frameWords (levelsOf (now (s .entry))) (boundOf (now (s .entry)))) ⌝ }
@@ -360,7 +360,7 @@ fn top_of(n: usize, interrupts: bool) -> usize
 }
 
 // Puts the first configuration into the first frame.
-fn put_first(s: &[u8], t: Task, work: &mut [u32])
+pub fn put_first(s: &[u8], t: Task, work: &mut [u32])
     requires { ⌜ Tasked (now s) t × (67 ≤ length (now work)) ⌝ }
     ensures { λ _. ⌜ Stands (now (work .exit)) 0 (heldFirst (now (s .entry))) × (length (now (work .exit)) ≡ length (now (work .entry))) ⌝ }
 {

@@ -18,7 +18,7 @@ use Rattle.golog.specs.declared.State.{State}
 use Rattle.golog.specs.World.{start, special, each, holds, given, changed, possible, perform}
 use Rattle.golog.specs.Decoded.{world}
 use Rattle.state.specs.Truths.{Held}
-use Rattle.state.specs.Performed.{possibleBy, changesBy, givenBy, changedBy, performBy, Names, Judged}
+use Rattle.state.specs.Performed.{changesBy, givenBy, changedBy, performBy, Names, Judged}
 use Rattle.state.proofs.Laid.{Laid}
 
 module _ (effects : List ℕ) (held : List Bool) (x old : ℕ) where
@@ -104,15 +104,6 @@ each-same f g h x (v ∷ l) = rw (h x v, each-same f g h (suc x) l)
 
 -- where `held` has what the first n formulas say in s
 module _ (formulas effects actions : List ℕ) (s : State) (n : ℕ) (held : List Bool) (H : Held (world formulas effects actions) s n held) where
-  -- possible is golog's, for an action whose precondition is among them
-  pub possible-is : (a : ℕ) → (a < start → actionAt actions a .precondition < n) → possibleBy actions held a ≡ possible (world formulas effects actions) a s
-  unfolding possible
-  possible-is a h = go (decLt a start)
-    where
-      go : Dec (a < start) → possibleBy actions held a ≡ (special a || holds (world formulas effects actions) (actionAt actions a .precondition) s)
-      go (yes l) = rw (H (actionAt actions a .precondition) (h l))
-      go (no l) = rw (lt-ltb 65533 a (omega arith))
-
   given-is : (x old k i : ℕ) → Judged effects n i k → givenBy effects held x old i k ≡ given (world formulas effects actions) s x old i k
   unfolding givenBy given
   given-is x old zero i h = refl

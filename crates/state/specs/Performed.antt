@@ -1,7 +1,7 @@
--- Possible and performing as golog has them (document 01, "Moves"), with what conditions say read from a list of truths in the old values,
+-- Performing as golog has it (document 01, "Moves"), with what conditions say read from a list of truths in the old values,
 -- and actions and effects from their tables. Assumes nothing.
 use Prim.Native.Nat.{ℕ, zero, suc, _+_, _*_, _≤_, _<_}
-use mathlib.Core.Bool.{Bool, false, cond, _&&_, _||_}
+use mathlib.Core.Bool.{Bool, false, cond, _&&_}
 use mathlib.Core.List.{List}
 use lib.Dec.{eqb}
 use lib.ListN.{getD, length}
@@ -9,10 +9,6 @@ use Rattle.records.specs.declared.Effect.{Effect}
 use Rattle.records.specs.Records.{effectAt, actionAt}
 use Rattle.golog.specs.declared.State.{State}
 use Rattle.golog.specs.World.{start, special, each}
-
--- "An action is possible when its precondition holds"; "Start and stop are always possible"
-abbrev pub possibleBy : (actions : List ℕ) (held : List Bool) → ℕ → Bool
-possibleBy actions held a = special a || getD held (actionAt actions a .precondition) false
 
 -- an effect names fluent x and its condition holds
 abbrev pub changesBy : Effect → (held : List Bool) → (x : ℕ) → Bool

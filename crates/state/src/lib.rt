@@ -7,13 +7,13 @@ ghost use Rattle.records.specs.Records.{formulaAt};
 ghost use Rattle.golog.specs.declared.State.{State};
 ghost use Rattle.golog.specs.World.{truthOf, start};
 ghost use Rattle.state.specs.Truths.{truthsOf};
-ghost use Rattle.state.specs.Performed.{possibleBy, changesBy, givenBy, changedBy, performBy, Names, Performable};
+ghost use Rattle.state.specs.Performed.{changesBy, givenBy, changedBy, performBy, Names, Performable};
 ghost use Rattle.state.specs.Header.{StateAt, StatePut};
 use golog::State;
 use records::Effect;
 
 // What a list of truths says of formula q, false past its end.
-pub fn holds_in(held: &[bool], q: usize) -> bool
+fn holds_in(held: &[bool], q: usize) -> bool
     ensures { λ r. ⌜ r ≡ getD (now (held .entry)) q false ⌝ }
 {
     if q < held.len() { held[q] } else { false }
@@ -63,18 +63,6 @@ pub fn truths(formulas: &[u8], n: usize, s: State) -> [bool; 512]
         i += 1;
     }
     held
-}
-
-// Whether action a is possible, where `held` has what the formulas say.
-pub fn can(actions: &[u8], held: &[bool], a: usize) -> bool
-    requires { ⌜ (a < start → 6 * a + 6 ≤ length (now actions)) ⌝ }
-    ensures { λ r. ⌜ r ≡ possibleBy (now (actions .entry)) (now (held .entry)) a ⌝ }
-{
-    if 65533 < a {
-        return true;
-    }
-    let r = records::action_at(actions, a);
-    holds_in(held, r.precondition)
 }
 
 // Whether an effect names fluent x and its condition holds.
