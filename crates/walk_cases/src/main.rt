@@ -149,7 +149,7 @@ fn start_of(s: &[u8], end: usize) -> &[u8] {
     &s[start..end]
 }
 
-// One case: the quay's tables, then the case's program records and trailer.
+// One case: the shared tables, then the case's program records and trailer.
 fn case(title: &[u8], programs: &[u8], trailer: &[u8], choices: &[u8]) {
     report::text(title);
     report::text(b"\n");
