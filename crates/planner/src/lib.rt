@@ -50,7 +50,7 @@ pub fn notes<'a>(s: &'a [u8], number: &mut u32, place: &mut usize) -> &'a [u8]
 pub fn look_up(s: &[u8], x: usize) -> Looked
     ensures { λ r. ⌜ r ≡ lookOf (now (s .entry)) x ⌝ }
 {
-    lookup::look_up(s, x)
+    view::look_up(s, x)
 }
 
 fn answer_of(o: Outcome) -> Planned

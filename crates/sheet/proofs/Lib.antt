@@ -1,3 +1,4 @@
-pub mod Laws
 pub mod Accepted
+pub mod Laws
 pub mod Lower
+pub mod Numbers

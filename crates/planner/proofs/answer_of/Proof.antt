@@ -18,10 +18,10 @@ returns : tie.Need-returns
 returns c = sym (ap plannedAs (c .before .o .given .1))
 
 returns-2 : tie.Need-returns-2
-returns-2 c = search needs
+returns-2 c = sym (ap plannedAs (c .enum-told .given .1))
 
 returns-3 : tie.Need-returns-3
-returns-3 c = search needs
+returns-3 c = sym (ap plannedAs (c .enum-told2 .given .1))
 
 pub answer-of-spec : {M : Type 1} → statement M
 answer-of-spec =
