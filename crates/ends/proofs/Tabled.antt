@@ -1,24 +1,22 @@
 -- What the tables of a state say of a remaining program is what it is: leaf by leaf the tables hold what the records are, and the parts
 -- of a construct add up as its transitions do. Assumes nothing.
-use mathlib.Core.Path.{_≡_, refl, sym, ap, ap₂, _∙_}
-use mathlib.Core.Bool.{not, _&&_}
+use mathlib.Core.Path.{_≡_, refl, sym, ap₂}
+use mathlib.Core.Bool.{_&&_}
 use mathlib.Core.List.{List·Memᴰ}
 use Prim.Native.Nat.{ℕ, _≤_, _<_}
 use native.Mathlib.Omega.{arith}
-use lib.Dec.{eqb}
 use lib.ListN.{length}
 use Rattle.records.specs.declared.Program.{Program}
 use Rattle.height.specs.Height.{rise}
 use Rattle.golog.specs.declared.State.{State}
 use Rattle.golog.specs.World.{World}
-use Rattle.golog.specs.Steps.{isNone}
 use Rattle.held.specs.Rest.{Rest, gone, leaf, node, largest, high, AllLower}
 use Rattle.held.specs.Leaves.{Move, restFinal, restSteps}
 use Rattle.held.proofs.Nodes.{step-high, step-number}
-use Rattle.held.proofs.Counts.{none-length, node-count}
+use Rattle.held.proofs.Counts.{node-count}
 use Rattle.leaves.specs.Tallies.{finalsOf, countsOf}
 use Rattle.leaves.proofs.Entries.{finals-at, counts-exact}
-use Rattle.ends.specs.Ends.{finalIn, countIn, hasIn, Within}
+use Rattle.ends.specs.Ends.{finalIn, countIn, Within}
 
 module _ {p : ℕ → Program} {m : ℕ} where
   pub within-leaf : {i : ℕ} → Within p m (leaf i) → (i < m) × (high p (leaf i) ≤ 18)
@@ -58,7 +56,3 @@ module _ (W : World) (s : State) (p : ℕ → Program) (m : ℕ) where
     count-in (leaf i) H = counts-exact W s p low m i (within-leaf H .0) (within-leaf H .1)
     count-in (node tag l r) H =
         rw (count-in l (within-left H), count-in r (within-right H), final-in l (within-left H)) (sym (node-count W s p tag l r))
-
-    -- and tell whether there is one
-    pub has-in : (g : Rest) → Within p m g → hasIn (finalsOf W s p m) (countsOf W s p m) g ≡ not (isNone (restSteps W s p g))
-    has-in g H = ap (λ (n : ℕ). not (eqb n 0)) (count-in g H) ∙ ap not (sym (none-length (restSteps W s p g)))

@@ -1,14 +1,16 @@
--- Finality and the number of transitions of a remaining program, by tables of those of its records (document 01, "Steps and endings").
--- That they are those of the meaning is in proofs/Tabled.antt. Assumes nothing.
+-- Finality and the number of transitions of a remaining program, by tables of those of its records (document 01, "Steps and endings"),
+-- and whether it may be final in some state, now or after one transition. That they are those of the meaning is in proofs/Tabled.antt
+-- and proofs/Endings.antt. Assumes nothing.
 use mathlib.Core.Path.{_≡_}
 use Prim.Native.Nat.{ℕ, _+_, _*_, _≤_, _<_}
-use mathlib.Core.Bool.{Bool, true, false, not, cond, _&&_}
+use mathlib.Core.Bool.{Bool, true, false, not, cond, _&&_, _||_}
 use mathlib.Core.List.{List}
 use lib.Dec.{eqb}
 use lib.ListN.{getD}
 use Rattle.records.specs.declared.Program.{Program}
 use Rattle.held.specs.Rest.{Rest, gone, leaf, node, nodes, largest, high}
 use Rattle.held.specs.Leaves.{goesRight}
+use Rattle.ends.specs.declared.Totals.{Totals}
 
 -- final: a construct, where both parts are
 unfoldable pub finalIn : (finals : List Bool) → Rest → Bool
@@ -23,20 +25,30 @@ countIn finals counts (leaf i) = getD counts i 0
 countIn finals counts (node tag l r) =
     countIn finals counts l + cond (goesRight tag (finalIn finals l) (eqb (countIn finals counts l) 0)) (countIn finals counts r) 0
 
--- there is one
-abbrev pub hasIn : (finals : List Bool) (counts : List ℕ) → Rest → Bool
-hasIn finals counts g = not (eqb (countIn finals counts g) 0)
+-- a transition may leave what is final in some state: one of a part, beside the other part as it is
+unfoldable pub soonIn : (finals endable : List Bool) (counts : List ℕ) → Rest → Bool
+soonIn finals endable counts gone = false
+soonIn finals endable counts (leaf i) = not (eqb (getD counts i 0) 0)
+soonIn finals endable counts (node tag l r) =
+    (soonIn finals endable counts l && finalIn endable r)
+    || (goesRight tag (finalIn finals l) (eqb (countIn finals counts l) 0) && finalIn endable l && soonIn finals endable counts r)
 
--- whether it has a transition, and where it has none, whether it is final
-pub record Foreseen (finals : List Bool) (counts : List ℕ) (g : Rest) (steps done : Bool) : Type 0 where
-  pub steps-is : steps ≡ hasIn finals counts g
-  pub done-is : steps ≡ false → done ≡ finalIn finals g
+-- the totals of a construct, from those of its parts
+abbrev pub joined : (tag : ℕ) → Totals → Totals → Totals
+joined tag l r = record {
+  done = l .done && r .done;
+  endable = l .endable && r .endable;
+  count = l .count + cond (goesRight tag (l .done) (eqb (l .count) 0)) (r .count) 0;
+  soon = (l .soon && r .endable) || (goesRight tag (l .done) (eqb (l .count) 0) && l .endable && r .soon);
+}
 
--- whether it is final, and how many transitions it has; a count fits a word, so they are few enough to add
-pub record Totalled (finals : List Bool) (counts : List ℕ) (g : Rest) (done : Bool) (count : ℕ) : Type 0 where
-  pub done-is : done ≡ finalIn finals g
-  pub count-is : count ≡ countIn finals counts g
-  pub few : count ≤ 4294967295 * nodes g
+-- the totals are those of g; a count fits a word, so they are few enough to add
+pub record Totalled (finals endable : List Bool) (counts : List ℕ) (g : Rest) (t : Totals) : Type 0 where
+  pub done-is : t .done ≡ finalIn finals g
+  pub endable-is : t .endable ≡ finalIn endable g
+  pub count-is : t .count ≡ countIn finals counts g
+  pub soon-is : t .soon ≡ soonIn finals endable counts g
+  pub few : t .count ≤ 4294967295 * nodes g
 
 -- its records are among the first m of the table p, and low enough for their counts to be exact
 pub record Within (p : ℕ → Program) (m : ℕ) (g : Rest) : Type 0 where

@@ -1,4 +1,4 @@
-// Whether a remaining program is final, whether it has a transition, and how many: each calls itself on the parts, whose sizes fall.
+// What the tables say of a remaining program: each function calls itself on the parts, whose sizes fall.
 ghost use mathlib.Core.Path.{_≡_};
 ghost use mathlib.Core.Bool.{cond};
 ghost use Prim.Native.Nat.{_+_, _*_, _^_, _≤_, _<_};
@@ -6,7 +6,7 @@ ghost use lib.ListN.{length};
 ghost use Rattle.held.specs.Rest.{Rest};
 ghost use Rattle.held.specs.Leaves.{goesRight};
 ghost use Rattle.words.specs.Words.{At, Holds};
-ghost use Rattle.ends.specs.Ends.{finalIn, countIn, hasIn, Foreseen, Totalled};
+ghost use Rattle.ends.specs.Ends.{finalIn, joined, Totalled};
 
 // Whether the remaining program at `at` is final.
 pub fn final_rest(finals: &[bool], work: &[u32], at: usize) -> bool
@@ -41,59 +41,13 @@ pub fn goes_right(tag: u32, done: bool, idle: bool) -> bool
     idle
 }
 
-// Whether there is a transition, and where there is none, whether it is final.
-pub struct Outlook {
-    pub steps: bool,
-    pub done: bool,
-}
-
-// The outlook of the remaining program at `at`. A left part with a transition settles it.
-fn foresee(finals: &[bool], counts: &[u32], work: &[u32], at: usize) -> Outlook
-    requires { ⌜ Holds (now work) at ⌝ }
-    ensures { λ r. ⌜ ((g : Rest) → At g (now (work .entry)) at → Foreseen (now (finals .entry)) (now (counts .entry)) g (r .steps) (r .done)) ⌝ }
-{
-    let tag = words::tag_at(work, at);
-    if tag == 0 {
-        return Outlook {
-            steps: false,
-            done: true,
-        };
-    }
-    if tag == 1 {
-        let i = words::record_at(work, at);
-        return Outlook {
-            steps: leaves::count_in(counts, i) != 0,
-            done: leaves::final_in(finals, i),
-        };
-    }
-    let left = words::size_at(work, at + 3);
-    let first = foresee(finals, counts, work, at + 3);
-    if first.steps {
-        return first;
-    }
-    if !goes_right(tag, first.done, true) {
-        return first;
-    }
-    let second = foresee(finals, counts, work, at + 3 + 3 * left);
-    Outlook {
-        steps: second.steps,
-        done: first.done & second.done,
-    }
-}
-
-// Whether the remaining program at `at` has a transition.
-pub fn has_step(finals: &[bool], counts: &[u32], work: &[u32], at: usize) -> bool
-    requires { ⌜ Holds (now work) at ⌝ }
-    ensures { λ r. ⌜ ((g : Rest) → At g (now (work .entry)) at → r ≡ hasIn (now (finals .entry)) (now (counts .entry)) g) ⌝ }
-{
-    let o = foresee(finals, counts, work, at);
-    o.steps
-}
-
-// Whether it is final, and how many transitions there are.
+// Whether it is final, whether it may be in some state, how many transitions there are, and whether one of them may leave what is final
+// in some state.
 pub struct Totals {
     pub done: bool,
+    pub endable: bool,
     pub count: usize,
+    pub soon: bool,
 }
 
 fn count_if(b: bool, count: usize) -> usize
@@ -108,42 +62,53 @@ fn wide(x: u32) -> usize
     x as usize
 }
 
+// The totals of a construct, from those of its parts.
+fn join_totals(tag: u32, l: Totals, r: Totals) -> Totals
+    requires { ⌜ l .count + r .count < 2 ^ 64 ⌝ }
+    ensures { λ t. ⌜ t ≡ joined tag l r ⌝ }
+{
+    let goes = goes_right(tag, l.done, l.count == 0);
+    Totals {
+        done: l.done & r.done,
+        endable: l.endable & r.endable,
+        count: l.count + count_if(goes, r.count),
+        soon: l.soon & r.endable | goes & l.endable & r.soon,
+    }
+}
+
 // The totals of the remaining program at `at`.
-fn total(finals: &[bool], counts: &[u32], work: &[u32], at: usize) -> Totals
+pub fn total_rest(
+    finals: &[bool],
+    endable: &[bool],
+    counts: &[u32],
+    work: &[u32],
+    at: usize,
+) -> Totals
     requires { ⌜ Holds (now work) at ⌝ }
     requires { ⌜ length (now work) < 2 ^ 32 ⌝ }
-    ensures { λ r. ⌜ ((g : Rest) → At g (now (work .entry)) at → Totalled (now (finals .entry)) (now (counts .entry)) g (r .done) (r .count)) ⌝ }
+    ensures { λ r. ⌜ ((g : Rest) → At g (now (work .entry)) at → Totalled (now (finals .entry)) (now (endable .entry)) (now (counts .entry)) g r) ⌝ }
 {
     let tag = words::tag_at(work, at);
     if tag == 0 {
         return Totals {
             done: true,
+            endable: true,
             count: 0,
+            soon: false,
         };
     }
     if tag == 1 {
         let i = words::record_at(work, at);
+        let count = wide(leaves::count_in(counts, i));
         return Totals {
             done: leaves::final_in(finals, i),
-            count: wide(leaves::count_in(counts, i)),
+            endable: leaves::final_in(endable, i),
+            count,
+            soon: count != 0,
         };
     }
     let left = words::size_at(work, at + 3);
-    let first = total(finals, counts, work, at + 3);
-    let second = total(finals, counts, work, at + 3 + 3 * left);
-    let goes = goes_right(tag, first.done, first.count == 0);
-    Totals {
-        done: first.done & second.done,
-        count: first.count + count_if(goes, second.count),
-    }
-}
-
-// How many transitions the remaining program at `at` has.
-pub fn count_rest(finals: &[bool], counts: &[u32], work: &[u32], at: usize) -> usize
-    requires { ⌜ Holds (now work) at ⌝ }
-    requires { ⌜ length (now work) < 2 ^ 32 ⌝ }
-    ensures { λ r. ⌜ ((g : Rest) → At g (now (work .entry)) at → r ≡ countIn (now (finals .entry)) (now (counts .entry)) g) ⌝ }
-{
-    let t = total(finals, counts, work, at);
-    t.count
+    let l = total_rest(finals, endable, counts, work, at + 3);
+    let r = total_rest(finals, endable, counts, work, at + 3 + 3 * left);
+    join_totals(tag, l, r)
 }

@@ -20,8 +20,11 @@ pub record Both (W : World) (s : State) (p : ℕ → Program) (finals : List Boo
   pub done : Filled nilLeaf (leafAt W s p) (λ (l : Leaf). l .final) 260 finals i
   pub many : Filled nilLeaf (leafAt W s p) counted 260 counts i
 
-pub none : (W : World) (s : State) (p : ℕ → Program) → Both W s p (replicate 260 true) (replicate 260 0) 0
-none W s p = record { done = start nilLeaf (leafAt W s p) (λ (l : Leaf). l .final) 260; many = start nilLeaf (leafAt W s p) counted 260 }
+pub none : (W : World) (s : State) (p : ℕ → Program) {finals : List Bool} {counts : List ℕ} → finals ≡ replicate 260 true → counts ≡ replicate 260 0 → Both W s p finals counts 0
+none W s p ef ec = record {
+  done = record { same = ef ∙ start nilLeaf (leafAt W s p) (λ (l : Leaf). l .final) 260 .same };
+  many = record { same = ec ∙ start nilLeaf (leafAt W s p) counted 260 .same };
+}
 
 module _ {W : World} {s : State} {p : ℕ → Program} {finals : List Bool} {counts : List ℕ} {i : ℕ} (B : Both W s p finals counts i)
     {held : List Bool} {can : ℕ → Bool} {running : Bool} (S : SeesRecord W s held can (p i)) (e : s .running ≡ running) where

@@ -2,3 +2,4 @@ pub mod Seen
 pub mod Rows
 pub mod Filling
 pub mod Entries
+pub mod Marking

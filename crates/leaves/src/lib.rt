@@ -1,12 +1,14 @@
-// For a state, by one pass over the program table: whether each record is final, and how many transitions it has.
+// Tables over the program records, each by one pass: for a state, whether each record is final and how many transitions it has; and for
+// every state at once, whether it may be final.
 ghost use mathlib.Core.Path.{_≡_};
 ghost use mathlib.Core.Bool.{false, true, not, cond, _&&_, _||_};
 ghost use Prim.Native.Nat.{_+_, _*_, _≤_, _<_, min};
-ghost use lib.ListN.{length, getD};
+ghost use lib.ListN.{length, getD, replicate};
 ghost use Rattle.records.specs.Records.{programAt};
 ghost use Rattle.held.specs.Kinds.{usesA};
 ghost use Rattle.held.specs.Extended.{empty, virtual, table};
 ghost use Rattle.leaves.specs.Tallies.{cap, places, possibleIn, Tallied, finalBy, countBy, firstBy};
+ghost use Rattle.leaves.specs.Endable.{endableBy, Endable};
 use records::Program;
 
 // What stands in a list of truths, false past its end.
@@ -226,12 +228,6 @@ fn count_at(
     capped(total_at(r, actions, na, held, running, finals, counts))
 }
 
-// For each record of the table that runs, whether it is final and how many transitions it has.
-pub struct Tally {
-    pub finals: [bool; 260],
-    pub counts: [u32; 260],
-}
-
 fn places_of(n: usize, interrupts: bool) -> usize
     requires { ⌜ n ≤ 256 ⌝ }
     ensures { λ r. ⌜ (r ≡ places interrupts n) × (r ≤ 260) ⌝ }
@@ -239,7 +235,8 @@ fn places_of(n: usize, interrupts: bool) -> usize
     if interrupts { n + 4 } else { n }
 }
 
-// The tables of the state that `held`, the actions and `running` say: one pass upwards, since a record names lower ones only.
+// Fills the tables of the state that `held`, the actions and `running` say, one place for each record of the table that runs: one pass
+// upwards, since a record names lower ones only.
 pub fn tallies(
     programs: &[u8],
     n: usize,
@@ -248,23 +245,57 @@ pub fn tallies(
     na: usize,
     held: &[bool],
     running: bool,
-) -> Tally
+    finals: &mut [bool],
+    counts: &mut [u32],
+)
     requires { ⌜ (8 * n ≤ length (now programs)) × (1 ≤ n) × (n ≤ 256) × (6 * na ≤ length (now actions)) ⌝ }
-    ensures { λ r. ⌜ Tallied (table interrupts (programAt (now (programs .entry))) n) (places interrupts n) (now (held .entry)) (possibleIn (now (actions .entry)) na (now (held .entry))) running (r .finals) (r .counts) ⌝ }
+    requires { ⌜ (now finals ≡ replicate 260 true) × (now counts ≡ replicate 260 0) ⌝ }
+    ensures { λ _. ⌜ Tallied (table interrupts (programAt (now (programs .entry))) n) (places interrupts n) (now (held .entry)) (possibleIn (now (actions .entry)) na (now (held .entry))) running (now (finals .exit)) (now (counts .exit)) ⌝ }
 {
     let m = places_of(n, interrupts);
-    let mut finals = [true; 260];
-    let mut counts = [0u32; 260];
     let mut i = 0;
     while i < m {
         let r = record_at(programs, n, interrupts, i);
-        let f = final_at(r, held, running, &finals);
-        let k = count_at(r, actions, na, held, running, &finals, &counts);
+        let f = final_at(r, held, running, finals);
+        let k = count_at(r, actions, na, held, running, finals, counts);
         finals[i] = f;
         counts[i] = k;
         i += 1;
     }
-    Tally { finals, counts }
+}
+
+// Whether a record may be final in some state, from those before it.
+fn endable_at(r: Program, endable: &[bool]) -> bool
+    ensures { λ f. ⌜ f ≡ endableBy r (now (endable .entry)) ⌝ }
+{
+    let kind = r.kind;
+    match kind {
+        1 => false,
+        2 => false,
+        3 => both_final(endable, r.a, r.b),
+        4 => final_in(endable, r.a) | final_in(endable, r.b),
+        6 => final_in(endable, r.a) | final_in(endable, r.b),
+        8 => both_final(endable, r.a, r.b),
+        9 => both_final(endable, r.a, r.b),
+        _ => true,
+    }
+}
+
+// Whether each record of the table that runs may be final in some state.
+pub fn endables(programs: &[u8], n: usize, interrupts: bool) -> [bool; 260]
+    requires { ⌜ (8 * n ≤ length (now programs)) × (1 ≤ n) × (n ≤ 256) ⌝ }
+    ensures { λ r. ⌜ Endable (table interrupts (programAt (now (programs .entry))) n) (places interrupts n) r ⌝ }
+{
+    let m = places_of(n, interrupts);
+    let mut endable = [true; 260];
+    let mut i = 0;
+    while i < m {
+        let r = record_at(programs, n, interrupts, i);
+        let f = endable_at(r, &endable);
+        endable[i] = f;
+        i += 1;
+    }
+    endable
 }
 
 fn uses_first(kind: usize, h: bool, running: bool) -> bool

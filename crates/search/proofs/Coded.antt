@@ -3,15 +3,13 @@
 use Prim.Native.Nat.{ℕ, _+_, _≤_, _<_}
 use native.Mathlib.Numerals.{add-one}
 use native.Mathlib.Omega.{arith}
-use mathlib.Core.Bool.{Bool, true, false}
 use mathlib.Core.List.{List, [], _∷_}
 use mathlib.Core.Option.{Option, none, some}
 use mathlib.Core.Path.{_≡_, refl, sym, _∙_, ap, subst}
-use lib.Dec.{eqb}
 use lib.ListN.{length, drop, getD, drop-of-length-le}
 use lib.Seq.{drop-cons}
 use Rattle.steps.specs.Laid.{codeOf}
-use Rattle.search.specs.Moves.{Known, Action, passes, leftOver, entries}
+use Rattle.search.specs.Moves.{Known, Action}
 
 abbrev pub Small : ℕ → Type 0
 Small a = a < 65536

@@ -1,13 +1,14 @@
 -- The search over frames serves planning and replay: with a free guide and no moves it is the plain search, and with a closed guide
 -- what it says at the bound does not matter, since no plan comes of it. Assumes nothing.
 use Prim.Native.Nat.{ℕ, zero, suc}
-use mathlib.Core.Bool.{Bool, true, false, _||_}
-use mathlib.Core.List.{List, [], _∷_, _++_}
+use mathlib.Core.Bool.{Bool, true, false, _&&_, _||_}
+use mathlib.Core.List.{List, [], _∷_, _++_, List·Memᴰ, List·Memᴰ·head, List·Memᴰ·tail}
 use mathlib.Core.Option.{Option, none, some}
 use mathlib.Core.Path.{_≡_, refl, sym, _∙_, ap, ap₂}
-use Rattle.runs.specs.Search.{Verdict, plan, nothing, more, isPlan, orMore, before, tries, anyStep, unless, search}
-use Rattle.runs.specs.Guide.{follow1, follow, movesG, finG, accepts}
-use Rattle.search.specs.Outcome.{outcome, join, flagged}
+use lib.Dec.{eqb}
+use Rattle.runs.specs.Search.{Verdict, plan, nothing, more, isPlan, before, tries, anyStep, unless, search}
+use Rattle.runs.specs.Guide.{isNil, only, follow1, follow, movesG, finG, accepts}
+use Rattle.search.specs.Outcome.{outcome, join}
 
 -- the verdict on two rows of transitions, one after the other
 before-join : (m : Option ℕ) (v r t : Verdict) → before m v (join r t) ≡ join (before m v r) t
@@ -46,6 +47,13 @@ plan-before m more (plan h t) = refl
 plan-before m more nothing = refl
 plan-before m more more = refl
 
+plan-join : (v w : Verdict) → isPlan v ≡ false → isPlan w ≡ false → isPlan (join v w) ≡ false
+plan-join (plan h t) w e f = e
+plan-join nothing w e f = f
+plan-join more (plan h t) e f = f
+plan-join more nothing e f = refl
+plan-join more more e f = refl
+
 plan-any : {C : Type 0} (xs : List (Option ℕ × C)) → isPlan (anyStep xs) ≡ false
 plan-any [] = refl
 plan-any (x ∷ xs) = refl
@@ -68,6 +76,36 @@ module _ {C : Type 0} (moves : C → List (Option ℕ × C)) (fin : C → Bool) 
       plan-unless (finG fin c) _ _
       (plan-tries (λ (d : C × List ℕ). outcome moves fin free k d) (λ (d : C × List ℕ). search (movesG free moves) (finG fin) k d)
       (λ d. outcome-plan k d) (movesG free moves c))
+
+  -- at the bound, and one transition before it, there is no plan where nothing final is reached
+  pub final-plan : (c : C) (g : List ℕ) → fin c ≡ false → isPlan (outcome moves fin free 0 (c, g)) ≡ false
+  final-plan c g e = go (isNil g) (fin c) e ∙ plan-any (moves c)
+    where
+      go : (a b : Bool) → b ≡ false → isPlan (unless (a && b) (anyStep (moves c))) ≡ isPlan (anyStep (moves c))
+      go true b e = ap (λ (b : Bool). isPlan (unless b (anyStep (moves c)))) e
+      go false b e = refl
+
+  one-plan : (g : List ℕ) (x : Option ℕ × C) → fin (x .1) ≡ false → isPlan (tries (λ (d : C × List ℕ). outcome moves fin free 0 d) (follow1 free g (x .0) (x .1))) ≡ false
+  one-plan g (none, d) e = plan-before none (outcome moves fin free 0 (d, g)) nothing ∙ ap (λ (b : Bool). b || false) (final-plan d g e)
+  one-plan [] (some a, d) e = go free
+    where
+      go : (b : Bool) → isPlan (tries (λ (d : C × List ℕ). outcome moves fin free 0 d) (only b ((some a, (d, [])) ∷ []))) ≡ false
+      go true = plan-before (some a) (outcome moves fin free 0 (d, [])) nothing ∙ ap (λ (b : Bool). b || false) (final-plan d [] e)
+      go false = refl
+  one-plan (b ∷ g) (some a, d) e = go (eqb b a)
+    where
+      go : (b : Bool) → isPlan (tries (λ (d : C × List ℕ). outcome moves fin free 0 d) (only b ((some a, (d, g)) ∷ []))) ≡ false
+      go true = plan-before (some a) (outcome moves fin free 0 (d, g)) nothing ∙ ap (λ (b : Bool). b || false) (final-plan d g e)
+      go false = refl
+
+  pub next-plan :
+      (g : List ℕ) (xs : List (Option ℕ × C)) → ((x : Option ℕ × C) → List·Memᴰ x xs → fin (x .1) ≡ false)
+      → isPlan (tries (λ (d : C × List ℕ). outcome moves fin free 0 d) (follow free g xs)) ≡ false
+  next-plan g [] h = refl
+  next-plan g (x ∷ xs) h =
+      let f : C × List ℕ → Verdict = λ d. outcome moves fin free 0 d in
+      ap isPlan (tries-append f (follow1 free g (x .0) (x .1)) (follow free g xs))
+      ∙ plan-join (tries f (follow1 free g (x .0) (x .1))) (tries f (follow free g xs)) (one-plan g x (h x (List·Memᴰ·head refl))) (next-plan g xs (λ y k. h y (List·Memᴰ·tail k)))
 
 -- replay
 pub outcome-closed :

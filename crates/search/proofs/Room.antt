@@ -5,18 +5,16 @@ use native.Mathlib.Nat.{mul-le-mul, mul-add, mul-one, add-mul, one-mul, mul-comm
 use native.Mathlib.Omega.{arith}
 use mathlib.Core.Bool.{Bool, true, false, cond}
 use mathlib.Core.List.{List, [], _∷_, map, List·Memᴰ, List·Memᴰ·head, List·Memᴰ·tail}
-use mathlib.Core.Option.{Option, none, some}
-use mathlib.Core.Path.{_≡_, refl, sym, _∙_, ap, ap₂, subst}
+use mathlib.Core.Option.{some}
+use mathlib.Core.Path.{_≡_, sym, _∙_, ap, ap₂, subst}
 use lib.Dec.{lit≤}
-use lib.ListN.{length, getD, getElem?}
-use Rattle.records.specs.declared.Program.{Program}
-use Rattle.records.specs.Records.{programAt}
+use lib.ListN.{length, getElem?}
 use Rattle.sheet.specs.Layout.{layoutOf, programsIn}
 use Rattle.sheet.specs.declared.Layout.{Layout}
 use Rattle.golog.specs.declared.State.{State}
-use Rattle.golog.specs.World.{World, after}
-use Rattle.held.specs.Rest.{Rest, nodes, high, largest, AllLower}
-use Rattle.held.specs.Leaves.{Move, Held, restSteps, movesHeld}
+use Rattle.golog.specs.World.{World}
+use Rattle.held.specs.Rest.{Rest, nodes, high, largest}
+use Rattle.held.specs.Leaves.{Move, restSteps}
 use Rattle.held.proofs.Nodes.{step-nodes, step-high, step-number}
 use Rattle.height.specs.Work.{levels, frameWords, workWords}
 use Rattle.sheet.specs.Check.{Accepts}
@@ -25,17 +23,14 @@ use Rattle.held.specs.Extended.{top}
 use Rattle.demands.specs.Decoded.{worldOf, interruptsIn, boundOf}
 use Rattle.demands.specs.Held.{heldRecords, heldFirst, levelsOf}
 use Rattle.demands.proofs.Held.{all-lower, top-levels}
-use Rattle.state.specs.Header.{StateAt, StatePut}
-use Rattle.state.proofs.Header.{state-kept}
+use Rattle.state.specs.Header.{StatePut}
 use Rattle.leaves.specs.Tallies.{places}
 use Rattle.words.specs.Words.{At, Holds, Kept, Room}
-use Rattle.words.proofs.Written.{kept-less, kept-trans}
 use Rattle.words.proofs.Standing.{nodes-pos, at-unique}
 use Rattle.words.proofs.Moved.{at-move, at-kept}
-use Rattle.ends.specs.Ends.{Within}
-use Rattle.steps.specs.Laid.{View, view}
-use Rattle.steps.specs.Stepped.{CanStep, Tabled}
-use Rattle.search.specs.Frames.{Config, Stands, Roomy, Tasked, Ready, Surveyed}
+use Rattle.steps.specs.Laid.{view}
+use Rattle.steps.specs.Stepped.{CanStep}
+use Rattle.search.specs.Frames.{Config, Stands, Tasked, Ready, Surveyed}
 use Rattle.search.specs.declared.Task.{Task}
 use Rattle.search.specs.declared.Place.{Place}
 

@@ -1,33 +1,33 @@
 -- What the truths of a state tell of an accepted sheet: every record that runs is seen as it is, and every action that one of them can
 -- make can be performed by its tables. Assumes nothing.
-use mathlib.Core.Path.{_≡_, refl, sym, _∙_, ap, subst}
-use mathlib.Core.Bool.{Bool, true, false, cond}
+use mathlib.Core.Path.{_≡_, sym, _∙_, ap, subst}
+use mathlib.Core.Bool.{Bool, true, false}
 use mathlib.Core.List.{List}
 use mathlib.Core.Logic.{_⊎_, inl, inr}
-use Prim.Native.Nat.{ℕ, zero, suc, _+_, _-_, _*_, _≤_, _<_}
+use Prim.Native.Nat.{ℕ, zero, suc, _+_, _-_, _≤_, _<_}
 use native.Mathlib.Decide.{decLt}
 use native.Mathlib.Omega.{arith}
 use lib.Dec.{T}
-use lib.ListN.{length, getD, length-take, length-drop}
+use lib.ListN.{length, getD, length-drop}
 use lib.Seq.{length-take-le}
 use Rattle.records.specs.Bytes.{part}
-use Rattle.records.specs.Records.{actionAt, effectAt}
+use Rattle.records.specs.Records.{actionAt}
 use Rattle.records.specs.declared.Program.{Program}
 use Rattle.rules.proofs.Rows.{ProgramRow, empty, action, test, pair, loop, choice, guarded}
-use Rattle.sheet.specs.Layout.{layoutOf, Fits, formulasIn, effectsIn, actionsIn, programsIn}
+use Rattle.sheet.specs.Layout.{layoutOf, Fits, effectsIn, actionsIn}
 use Rattle.sheet.specs.Check.{Accepts}
 use Rattle.sheet.specs.declared.Layout.{Layout}
 use Rattle.sheet.proofs.Accepted.{laid}
 use Rattle.sheet.proofs.Lower.{program-of, action-of, effect-of}
 use Rattle.golog.specs.declared.State.{State}
-use Rattle.golog.specs.World.{World, holds, start}
+use Rattle.golog.specs.World.{start}
 use Rattle.held.specs.Extended.{virtual}
 use Rattle.held.specs.Extended.{empty as nothing-there}
 use Rattle.held.proofs.Started.{table-below, table-above}
 use Rattle.demands.specs.Decoded.{worldOf, recordsOf, interruptsIn}
 use Rattle.demands.specs.Held.{heldRecords}
 use Rattle.state.specs.Truths.{Held}
-use Rattle.state.specs.Performed.{Performable, Names, Judged}
+use Rattle.state.specs.Performed.{Performable, Judged}
 use Rattle.leaves.specs.Tallies.{possibleIn, places, hasCondition, SeesRecord, Sees}
 use Rattle.leaves.proofs.Seen.{possible-seen, table-seen}
 use Rattle.search.specs.Moves.{Action}

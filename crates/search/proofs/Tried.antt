@@ -1,20 +1,20 @@
--- The loop over a configuration's transitions: after the first k, what they left as a flag joined with the verdict on the later ones is
--- the verdict on all. A plan ends the loop, and its history is laid into the trace on the way back. Assumes nothing.
+-- The loop over a configuration's transitions: after the first k, what was left before and what they left, as a flag, joined with the
+-- verdict on the later ones, is the verdict on all beside what was left before. A plan ends the loop, and its history is laid into the trace on the way back. Assumes nothing.
 use Prim.Native.Nat.{ℕ, zero, suc, _+_, _≤_, _<_}
 use native.Mathlib.Nat.{add-zero}
 use native.Mathlib.Numerals.{add-one}
 use native.Mathlib.Omega.{arith}
 use mathlib.Core.Bool.{Bool, true, false, cond}
-use mathlib.Core.List.{List, [], _∷_, _++_}
+use mathlib.Core.List.{List, [], _∷_}
 use mathlib.Core.Option.{Option, none, some}
 use mathlib.Core.Path.{_≡_, refl, sym, _∙_, ap, ap₂, subst}
 use lib.ListN.{length, drop, set, getElem?, drop-of-length-le}
 use Rattle.runs.specs.Search.{Verdict, plan, nothing, more, orMore, before, tries}
 use Rattle.runs.specs.Guide.{only, follow1, follow}
-use Rattle.search.specs.Outcome.{join, flagged, lay, Says, Reported, isFound, cutAfter}
+use Rattle.search.specs.Outcome.{join, flagged, Says, Reported, isFound, isMore, told}
 use Rattle.search.specs.Moves.{passes, leftOver, entries, noted}
 use Rattle.search.specs.declared.Outcome.{Outcome}
-use Rattle.search.specs.declared.Outcome.the-variants.{Found, Nothing, More}
+use Rattle.search.specs.declared.Outcome.the-variants.{Found}
 use Rattle.search.proofs.Outcomes.{tries-append}
 
 nth-drop : {A : Type 0} (xs : List A) (k : ℕ) {x : A} → getElem? xs k ≡ some x → drop k xs ≡ x ∷ drop (suc k) xs
@@ -32,18 +32,36 @@ flag-nothing : (cut : Bool) → join (flagged cut) nothing ≡ flagged cut
 flag-nothing true = refl
 flag-nothing false = refl
 
-flag-plan : (cut : Bool) (h : List ℕ) (t : ℕ) (r : Verdict) → join (flagged cut) (join (plan h t) r) ≡ plan h t
-flag-plan true h t r = refl
-flag-plan false h t r = refl
-
 more-twice : (r : Verdict) → orMore (orMore r) ≡ orMore r
 more-twice (plan h t) = refl
 more-twice nothing = refl
 more-twice more = refl
 
-flag-more : (cut : Bool) (r : Verdict) → join (flagged cut) (join more r) ≡ join (flagged true) r
-flag-more true r = more-twice r
-flag-more false r = refl
+join-assoc : (u v w : Verdict) → join (join u v) w ≡ join u (join v w)
+join-assoc (plan h t) v w = refl
+join-assoc nothing v w = refl
+join-assoc more (plan h t) w = refl
+join-assoc more nothing w = refl
+join-assoc more more w = sym (more-twice w)
+
+before-flag : (m : Option ℕ) (cut : Bool) (v : Verdict) → before m (join (flagged cut) v) nothing ≡ join (flagged cut) (before m v nothing)
+before-flag m false v = refl
+before-flag m true (plan h t) = refl
+before-flag m true nothing = refl
+before-flag m true more = refl
+
+pub says-flag : (n d : ℕ) (trace : List ℕ) (cut : Bool) → Says n d trace trace (told cut) (flagged cut)
+says-flag n d trace true = (refl, refl)
+says-flag n d trace false = (refl, refl)
+
+-- a verdict that is a flag, told
+pub flag-reported : (n d : ℕ) (cut : Bool) {trace trace′ : List ℕ} {o : Outcome} {v : Verdict} → flagged cut ≡ v → o ≡ told cut → trace′ ≡ trace → Reported n d trace trace′ o v
+flag-reported n d cut {trace} {trace′} {o} {v} e eo et =
+    record {
+      says =
+          subst (λ (o : Outcome). Says n d trace trace′ o v) (sym eo)
+          (subst (λ (l : List ℕ). Says n d trace l (told cut) v) (sym et) (subst (Says n d trace trace (told cut)) e (says-flag n d trace cut)));
+    }
 
 module _ {C : Type 0} (f : C × List ℕ → Verdict) (free : Bool) (g : List ℕ) where
   -- the verdict on one transition that the guide lets pass or not, and on all of a list
@@ -53,72 +71,61 @@ module _ {C : Type 0} (f : C × List ℕ → Verdict) (free : Bool) (g : List �
   abbrev pub branches : List (Option ℕ × C) → Verdict
   branches xs = tries f (follow free g xs)
 
-  pub record Tried (xs : List (Option ℕ × C)) (k : ℕ) (cut : Bool) : Type 0 where
+  -- `was` is whether the bound ran out in some run before them
+  pub record Tried (was : Bool) (xs : List (Option ℕ × C)) (k : ℕ) (cut : Bool) : Type 0 where
     pub count : k ≤ length xs
-    pub same : join (flagged cut) (branches (drop k xs)) ≡ branches xs
+    pub same : join (flagged cut) (branches (drop k xs)) ≡ join (flagged was) (branches xs)
 
-  pub tried-none : (xs : List (Option ℕ × C)) → Tried xs 0 false
-  tried-none xs = record { count = omega arith; same = refl }
+  pub tried-none : (was : Bool) (xs : List (Option ℕ × C)) → Tried was xs 0 was
+  tried-none was xs = record { count = omega arith; same = refl }
 
-  module _ (xs : List (Option ℕ × C)) (k : ℕ) (cut : Bool) (T : Tried xs k cut) where
-    pub tried-all : length xs ≤ k → branches xs ≡ flagged cut
+  module _ (was : Bool) (xs : List (Option ℕ × C)) (k : ℕ) (cut : Bool) (T : Tried was xs k cut) where
+    pub tried-all : length xs ≤ k → join (flagged was) (branches xs) ≡ flagged cut
     tried-all l =
         sym (T .same)
         ∙ ap (λ (ys : List (Option ℕ × C)). join (flagged cut) (branches ys)) (drop-of-length-le xs {i = k} l)
         ∙ flag-nothing cut
 
     module _ (x : Option ℕ × C) (at : getElem? xs k ≡ some x) where
-      next : join (flagged cut) (join (branch x) (branches (drop (suc k) xs))) ≡ branches xs
+      next : join (join (flagged cut) (branch x)) (branches (drop (suc k) xs)) ≡ join (flagged was) (branches xs)
       next =
-          ap (join (flagged cut)) (sym (tries-append f (follow1 free g (x .0) (x .1)) (follow free g (drop (suc k) xs))))
+          join-assoc (flagged cut) (branch x) (branches (drop (suc k) xs))
+          ∙ ap (join (flagged cut)) (sym (tries-append f (follow1 free g (x .0) (x .1)) (follow free g (drop (suc k) xs))))
           ∙ ap (λ (ys : List (Option ℕ × C)). join (flagged cut) (branches ys)) (sym (nth-drop xs k at))
           ∙ T .same
 
-      found-here : (h : List ℕ) (t : ℕ) → branch x ≡ plan h t → branches xs ≡ plan h t
-      found-here h t e =
-          sym next
-          ∙ ap (λ (v : Verdict). join (flagged cut) (join v (branches (drop (suc k) xs)))) e
-          ∙ flag-plan cut h t (branches (drop (suc k) xs))
-
-      on : (cut′ : Bool) → join (flagged cut′) (branches (drop (suc k) xs)) ≡ branches xs → Tried xs (k + 1) cut′
+      on : (cut′ : Bool) → join (flagged cut) (branch x) ≡ flagged cut′ → Tried was xs (k + 1) cut′
       on cut′ e =
           record {
             count = omega (arith, nth-less xs k at);
-            same = ap (λ (j : ℕ). join (flagged cut′) (branches (drop j xs))) (add-one k) ∙ e;
+            same =
+                ap (λ (j : ℕ). join (flagged cut′) (branches (drop j xs))) (add-one k)
+                ∙ ap (λ (v : Verdict). join v (branches (drop (suc k) xs))) (sym e)
+                ∙ next;
           }
 
       module _ (n d : ℕ) (trace trace′ : List ℕ) (o : Outcome) where
         -- an answer that is found is that of all
-        pub tried-found : Reported n d trace trace′ o (branch x) → isFound o ≡ true → Reported n d trace trace′ o (branches xs)
-        tried-found R y = go (branch x) refl (R .says)
+        pub tried-found : Reported n d trace trace′ o (join (flagged cut) (branch x)) → isFound o ≡ true → Reported n d trace trace′ o (join (flagged was) (branches xs))
+        tried-found R y = go (join (flagged cut) (branch x)) refl (R .says)
           where
-            no : {v : Outcome} → o ≡ v → isFound v ≡ false → Reported n d trace trace′ o (branches xs)
+            no : {v : Outcome} → o ≡ v → isFound v ≡ false → Reported n d trace trace′ o (join (flagged was) (branches xs))
             no e z = let q : _≡_ {A = ℕ} 0 1 = let p : true ≡ false = sym y ∙ ap isFound e ∙ z in cc in absurd (omega arith)
 
-            go : (v : Verdict) → branch x ≡ v → Says n d trace trace′ o v → Reported n d trace trace′ o (branches xs)
-            go (plan h t) e s = record { says = subst (Says n d trace trace′ o) (sym (found-here h t e)) s }
+            go : (v : Verdict) → join (flagged cut) (branch x) ≡ v → Says n d trace trace′ o v → Reported n d trace trace′ o (join (flagged was) (branches xs))
+            go (plan h t) e s =
+                record { says = subst (Says n d trace trace′ o) (ap (λ (v : Verdict). join v (branches (drop (suc k) xs))) (sym e) ∙ next) s }
             go nothing e s = no (s .0) refl
             go more e s = no (s .0) refl
 
         -- one that is not leaves the trace, and a flag
-        pub tried-more : Reported n d trace trace′ o (branch x) → isFound o ≡ false → (trace′ ≡ trace) × Tried xs (k + 1) (cutAfter cut o)
-        tried-more R y = go (branch x) refl (R .says)
+        pub tried-more : Reported n d trace trace′ o (join (flagged cut) (branch x)) → isFound o ≡ false → (trace′ ≡ trace) × Tried was xs (k + 1) (isMore o)
+        tried-more R y = go (join (flagged cut) (branch x)) refl (R .says)
           where
-            go : (v : Verdict) → branch x ≡ v → Says n d trace trace′ o v → (trace′ ≡ trace) × Tried xs (k + 1) (cutAfter cut o)
+            go : (v : Verdict) → join (flagged cut) (branch x) ≡ v → Says n d trace trace′ o v → (trace′ ≡ trace) × Tried was xs (k + 1) (isMore o)
             go (plan h t) e s = let q : _≡_ {A = ℕ} 0 1 = let p : false ≡ true = sym y ∙ ap isFound (s .0) in cc in absurd (omega arith)
-            go nothing e s = (
-              s .1,
-              subst (λ (v : Outcome). Tried xs (k + 1) (cutAfter cut v)) (sym (s .0))
-                  (on cut (ap (λ (v : Verdict). join (flagged cut) (join v (branches (drop (suc k) xs)))) (sym e) ∙ next)),
-            )
-            go more e s = (
-              s .1,
-              subst (λ (v : Outcome). Tried xs (k + 1) (cutAfter cut v)) (sym (s .0))
-                  (on true
-                  (sym (flag-more cut (branches (drop (suc k) xs)))
-                  ∙ ap (λ (v : Verdict). join (flagged cut) (join v (branches (drop (suc k) xs)))) (sym e)
-                  ∙ next)),
-            )
+            go nothing e s = (s .1, subst (λ (v : Outcome). Tried was xs (k + 1) (isMore v)) (sym (s .0)) (on false e))
+            go more e s = (s .1, subst (λ (v : Outcome). Tried was xs (k + 1) (isMore v)) (sym (s .0)) (on true e))
 
 -- the answer from where a transition leads is the answer of that transition: it is written down where a plan was found
 module _ {C : Type 0} (f : C × List ℕ → Verdict) (n d : ℕ) (trace trace′ : List ℕ) (o : Outcome) (c : C × List ℕ) where
@@ -172,17 +179,17 @@ module _
     {C : Type 0} (f : C × List ℕ → Verdict) (free : Bool) (g : List ℕ) (m : Option ℕ) (c : C) (n d : ℕ) (trace trace′ : List ℕ)
     (o : Outcome) where
   -- held back by the guide, it comes to nothing
-  pub held-back : passes free g m ≡ false → Reported n d trace trace Nothing (branch f free g (m, c))
-  held-back e =
+  pub held-back : (cut : Bool) → passes free g m ≡ false → Reported n d trace trace (told cut) (join (flagged cut) (branch f free g (m, c)))
+  held-back cut e =
       let q : branch f free g (m, c) ≡ nothing = ap (tries f) (follow-passes free g m c ∙ ap (λ (b : Bool). only b ((m, (c, leftOver g m)) ∷ [])) e) in
-      record { says = subst (Says n d trace trace Nothing) (sym q) (refl, refl) }
+      record { says = subst (Says n d trace trace (told cut)) (sym (ap (join (flagged cut)) q ∙ flag-nothing cut)) (says-flag n d trace cut) }
 
   -- let pass, it comes to what the search from where it leads comes to, written down where that is a plan
-  pub let-pass :
+  let-through :
       passes free g m ≡ true
       → Reported (n + entries m) (d + 1) trace trace′ o (f (c, leftOver g m))
       → Reported n d trace (noted m n o trace′) o (branch f free g (m, c))
-  let-pass e R =
+  let-through e R =
       let q : branch f free g (m, c) ≡ tries f ((m, (c, leftOver g m)) ∷ []) = ap (tries f) (follow-passes free g m c ∙ ap (λ (b : Bool). only b ((m, (c, leftOver g m)) ∷ [])) e) in
       subst (Reported n d trace (noted m n o trace′) o) (sym q) (go m R)
     where
@@ -193,3 +200,16 @@ module _
           pick : (b : Bool) → isFound o ≡ b → Reported n d trace (cond (isFound o) (set trace′ n a) trace′) o (tries f ((some a, (c, leftOver g (some a))) ∷ []))
           pick true y = subst (λ (b : Bool). Reported n d trace (cond b (set trace′ n a) trace′) o (tries f ((some a, (c, leftOver g (some a))) ∷ []))) (sym y) (after-move f n d trace trace′ o (c, leftOver g (some a)) a R y)
           pick false y = subst (λ (b : Bool). Reported n d trace (cond b (set trace′ n a) trace′) o (tries f ((some a, (c, leftOver g (some a))) ∷ []))) (sym y) (after-move-missed f n d trace trace′ o (c, leftOver g (some a)) a R y)
+
+-- the same beside a flag
+pub let-pass :
+    {C : Type 0} (f : C × List ℕ → Verdict) (free : Bool) (g : List ℕ) (m : Option ℕ) (c : C) (n d : ℕ) (trace trace′ : List ℕ) (o : Outcome) (cut : Bool)
+    → passes free g m ≡ true
+    → Reported (n + entries m) (d + 1) trace trace′ o (join (flagged cut) (f (c, leftOver g m)))
+    → Reported n d trace (noted m n o trace′) o (join (flagged cut) (branch f free g (m, c)))
+let-pass {C} f free g m c n d trace trace′ o cut e R =
+    let F : C × List ℕ → Verdict = λ y. join (flagged cut) (f y) in
+    let one : (h : C × List ℕ → Verdict) → branch h free g (m, c) ≡ before m (h (c, leftOver g m)) nothing =
+    λ h. ap (tries h) (follow-passes free g m c ∙ ap (λ (b : Bool). only b ((m, (c, leftOver g m)) ∷ [])) e) in
+    subst (Reported n d trace (noted m n o trace′) o) (one F ∙ before-flag m cut (f (c, leftOver g m)) ∙ ap (join (flagged cut)) (sym (one f)))
+    (let-through F free g m c n d trace trace′ o e R)

@@ -1,40 +1,39 @@
 -- One transition tried: the step made in the next frame is the k-th of the remaining program, its move is known, and what the search from
 -- there reports is the report on that transition. Assumes nothing.
-use Prim.Native.Nat.{ℕ, zero, suc, _+_, _-_, _*_, _≤_, _<_}
+use Prim.Native.Nat.{ℕ, _+_, _-_, _*_, _≤_, _<_}
 use native.Mathlib.Omega.{arith}
 use mathlib.Core.Bool.{Bool, true, false}
-use mathlib.Core.List.{List, map}
-use mathlib.Core.Option.{Option, none, some}
-use mathlib.Core.Path.{_≡_, refl, sym, _∙_, ap, subst}
+use mathlib.Core.List.{List}
+use mathlib.Core.Option.{some}
+use mathlib.Core.Path.{_≡_, sym, _∙_, subst}
 use lib.ListN.{length, drop, getElem?}
-use Rattle.sheet.specs.Layout.{layoutOf, programsIn}
+use Rattle.sheet.specs.Layout.{programsIn}
 use Rattle.golog.specs.declared.State.{State}
-use Rattle.golog.specs.World.{World, after}
+use Rattle.golog.specs.World.{after}
 use Rattle.runs.specs.Search.{Verdict}
 use Rattle.held.specs.Rest.{Rest, nodes}
 use Rattle.held.specs.Leaves.{Move, Held, restSteps, movesHeld}
-use Rattle.demands.specs.Decoded.{worldOf, interruptsIn}
+use Rattle.demands.specs.Decoded.{worldOf}
 use Rattle.demands.specs.Held.{heldRecords}
-use Rattle.state.specs.Header.{StateAt, StatePut}
+use Rattle.state.specs.Header.{StatePut}
 use Rattle.words.specs.Words.{At, Kept}
 use Rattle.words.proofs.Standing.{at-room}
 use Rattle.words.proofs.Written.{kept-less, kept-trans}
 use Rattle.steps.specs.Laid.{View, view, codeOf}
-use Rattle.steps.specs.Stepped.{CanStep, Tabled, Stepped, StepsRest}
+use Rattle.steps.specs.Stepped.{CanStep, Stepped, StepsRest}
 use Rattle.steps.specs.declared.Turn.{Turn}
 use Rattle.steps.specs.declared.Turn.the-variants as turn
-use Rattle.search.specs.Outcome.{Reported, isFound}
+use Rattle.search.specs.Outcome.{join, flagged, told, Reported}
 use Rattle.search.specs.Moves.{Known, Action, passes, leftOver, entries, noted}
-use Rattle.search.specs.Frames.{Config, Stands, Tasked, Ready, Surveyed, outcomeOf, Branched}
+use Rattle.search.specs.Frames.{Stands, Tasked, Ready, Surveyed, outcomeOf, Branched}
 use Rattle.search.specs.declared.Task.{Task}
 use Rattle.search.specs.declared.Place.{Place}
 use Rattle.search.specs.declared.Outcome.{Outcome}
-use Rattle.search.specs.declared.Outcome.the-variants as outcome
 use Rattle.search.proofs.Coded.{Small, small-of}
 use Rattle.search.proofs.Known.{rest-known}
 use Rattle.search.proofs.Seen.{acts-known}
 use Rattle.search.proofs.Tried.{held-back, let-pass}
-use Rattle.search.proofs.Room.{nth-mem, nth-map, in-frame, ready-same, can-step, next-inside, next-ready, view-is, program-kept, put-kept}
+use Rattle.search.proofs.Room.{nth-mem, nth-map, ready-same, can-step, next-ready, view-is, program-kept, put-kept}
 
 -- the k-th transition of g in st was made at `to`, with the code e
 pub record Taken (s : List ℕ) (st : State) (g : Rest) (k to e : ℕ) (w w′ : List ℕ) : Type 0 where
@@ -98,13 +97,13 @@ module _
         nth-map (λ (x : Move). (x .0, (x .1, after (worldOf s) (x .0) st))) (restSteps (worldOf s) st (heldRecords s) g) k (X .nth)
 
     -- held back by the guide
-    pub back : (free : Bool) (moves trace : List ℕ) → passes free (drop (q .j) moves) (X .move .0) ≡ false → Branched s free moves q st g k trace trace outcome.Nothing
-    back free moves trace e =
+    pub back : (free : Bool) (moves trace : List ℕ) (cut : Bool) → passes free (drop (q .j) moves) (X .move .0) ≡ false → Branched s free moves q st g cut k trace trace (told cut)
+    back free moves trace cut e =
         record {
           taken = (X .move .0, leads X);
           nth = taken-nth;
           reported =
-              held-back (λ (d : Held × List ℕ). outcomeOf s free (q .left - 1) d) free (drop (q .j) moves) (X .move .0) (leads X) (q .n) (q .d) trace trace outcome.Nothing e;
+              held-back (λ (d : Held × List ℕ). outcomeOf s free (q .left - 1) d) free (drop (q .j) moves) (X .move .0) (leads X) (q .n) (q .d) trace trace (told cut) cut e;
         }
 
     -- let pass: the state is put into the next frame
@@ -125,30 +124,30 @@ module _
           (put-kept (leads X .1) (q .at + t .frame) (q .at + t .frame) w₁ w₂ P (omega arith)) (omega arith)
 
     pub forth :
-        (free : Bool) (moves trace trace′ : List ℕ) (o : Outcome) (j n d : ℕ)
+        (free : Bool) (moves trace trace′ : List ℕ) (o : Outcome) (cut : Bool) (j n d : ℕ)
         → passes free (drop (q .j) moves) (X .move .0) ≡ true
         → drop j moves ≡ leftOver (drop (q .j) moves) (X .move .0)
         → n ≡ q .n + entries (X .move .0)
         → d ≡ q .d + 1
-        → Reported n d trace trace′ o (outcomeOf s free (q .left - 1) (leads X, drop j moves))
-        → Branched s free moves q st g k trace (noted (X .move .0) (q .n) o trace′) o
-    forth free moves trace trace′ o j n d y ej en ed Y =
+        → Reported n d trace trace′ o (join (flagged cut) (outcomeOf s free (q .left - 1) (leads X, drop j moves)))
+        → Branched s free moves q st g cut k trace (noted (X .move .0) (q .n) o trace′) o
+    forth free moves trace trace′ o cut j n d y ej en ed Y =
         let m = X .move .0 in
         let f : Held × List ℕ → Verdict = λ d. outcomeOf s free (q .left - 1) d in
-        let Y₁ = subst (λ (l : List ℕ). Reported n d trace trace′ o (f (leads X, l))) ej Y in
-        let Y₂ = subst (λ (n : ℕ). Reported n d trace trace′ o (f (leads X, leftOver (drop (q .j) moves) m))) en Y₁ in
-        let Y₃ = subst (λ (d : ℕ). Reported (q .n + entries m) d trace trace′ o (f (leads X, leftOver (drop (q .j) moves) m))) ed Y₂ in
+        let Y₁ = subst (λ (l : List ℕ). Reported n d trace trace′ o (join (flagged cut) (f (leads X, l)))) ej Y in
+        let Y₂ = subst (λ (n : ℕ). Reported n d trace trace′ o (join (flagged cut) (f (leads X, leftOver (drop (q .j) moves) m)))) en Y₁ in
+        let Y₃ = subst (λ (d : ℕ). Reported (q .n + entries m) d trace trace′ o (join (flagged cut) (f (leads X, leftOver (drop (q .j) moves) m)))) ed Y₂ in
         record {
           taken = (m, leads X);
           nth = taken-nth;
-          reported = let-pass f free (drop (q .j) moves) m (leads X) (q .n) (q .d) trace trace′ o y Y₃;
+          reported = let-pass f free (drop (q .j) moves) m (leads X) (q .n) (q .d) trace trace′ o cut y Y₃;
         }
 
 -- for whatever stands there
 pub branched-any :
-    {s w : List ℕ} {t : Task} {q : Place} {g : Rest} (R : Ready s w t q g) {free : Bool} {moves : List ℕ} {st : State} {k : ℕ} {trace trace′ : List ℕ} {o : Outcome}
-    → Branched s free moves q st g k trace trace′ o
+    {s w : List ℕ} {t : Task} {q : Place} {g : Rest} (R : Ready s w t q g) {free : Bool} {moves : List ℕ} {st : State} {cut : Bool} {k : ℕ} {trace trace′ : List ℕ} {o : Outcome}
+    → Branched s free moves q st g cut k trace trace′ o
     → (u : Rest)
     → At u w (q .at + 64)
-    → Branched s free moves q st u k trace trace′ o
-branched-any {s} {q = q} R {free} {moves} {st} {k} {trace} {trace′} {o} B u a = subst (λ (x : Rest). Branched s free moves q st x k trace trace′ o) (sym (ready-same R u a)) B
+    → Branched s free moves q st u cut k trace trace′ o
+branched-any {s} {q = q} R {free} {moves} {st} {cut} {k} {trace} {trace′} {o} B u a = subst (λ (x : Rest). Branched s free moves q st x cut k trace trace′ o) (sym (ready-same R u a)) B

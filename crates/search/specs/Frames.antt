@@ -13,17 +13,18 @@ use Rattle.golog.specs.declared.State.{State}
 use Rattle.runs.specs.Search.{Verdict, tries}
 use Rattle.runs.specs.Guide.{follow1, follow}
 use Rattle.held.specs.Rest.{Rest, nodes, high}
-use Rattle.held.specs.Leaves.{Held, restSteps, movesHeld, finalHeld}
+use Rattle.held.specs.Leaves.{Held, movesHeld, finalHeld}
 use Rattle.demands.specs.Decoded.{worldOf, interruptsIn}
 use Rattle.demands.specs.Held.{heldRecords, levelsOf}
 use Rattle.state.specs.Header.{StateAt}
 use Rattle.state.specs.Truths as truths
 use Rattle.leaves.specs.Tallies.{places}
+use Rattle.leaves.specs.Endable.{Endable}
 use Rattle.words.specs.Words.{At}
 use Rattle.ends.specs.Ends.{Within}
 use Rattle.steps.specs.Laid.{view}
 use Rattle.steps.specs.Stepped.{Tabled}
-use Rattle.search.specs.Outcome.{outcome, Reported}
+use Rattle.search.specs.Outcome.{outcome, join, flagged, Reported}
 use Rattle.search.specs.declared.Task.{Task}
 use Rattle.search.specs.declared.Place.{Place}
 use Rattle.search.specs.declared.Outcome.{Outcome}
@@ -52,6 +53,10 @@ pub record Tasked (s : List ℕ) (t : Task) : Type 0 where
   pub layout-is : t .layout ≡ layoutOf s
   pub interrupts-are : t .interrupts ≡ interruptsIn s
 
+-- the records of the sheet that may be final in some state are marked
+abbrev pub Marks : List ℕ → List Bool → Type 0
+Marks s endable = Endable (heldRecords s) (places (interruptsIn s) (layoutOf s .p)) endable
+
 -- a remaining program stands in the frame of a place, with room
 pub record Ready (s w : List ℕ) (t : Task) (q : Place) (g : Rest) : Type 0 where
   pub at : At g w (q .at + 64)
@@ -77,8 +82,8 @@ outcomeOf s free left c = outcome (movesHeld (worldOf s) (heldRecords s)) (final
 abbrev pub branchesOf : List ℕ → (free : Bool) → (left : ℕ) → Held → List ℕ → Verdict
 branchesOf s free left c g = tries (λ (d : Held × List ℕ). outcomeOf s free (left - 1) d) (follow free g (movesHeld (worldOf s) (heldRecords s) c))
 
--- the k-th transition of the program g in the state st was tried
-pub record Branched (s : List ℕ) (free : Bool) (moves : List ℕ) (q : Place) (st : State) (g : Rest) (k : ℕ) (trace trace′ : List ℕ) (o : Outcome) : Type 0 where
+-- the k-th transition of the program g in the state st was tried; `cut` is whether the bound ran out in some run before
+pub record Branched (s : List ℕ) (free : Bool) (moves : List ℕ) (q : Place) (st : State) (g : Rest) (cut : Bool) (k : ℕ) (trace trace′ : List ℕ) (o : Outcome) : Type 0 where
   pub taken : Option ℕ × Held
   pub nth : getElem? (movesHeld (worldOf s) (heldRecords s) (g, st)) k ≡ some taken
-  pub reported : Reported (q .n) (q .d) trace trace′ o (tries (λ (d : Held × List ℕ). outcomeOf s free (q .left - 1) d) (follow1 free (drop (q .j) moves) (taken .0) (taken .1)))
+  pub reported : Reported (q .n) (q .d) trace trace′ o (join (flagged cut) (tries (λ (d : Held × List ℕ). outcomeOf s free (q .left - 1) d) (follow1 free (drop (q .j) moves) (taken .0) (taken .1))))

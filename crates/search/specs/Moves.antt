@@ -1,7 +1,7 @@
 -- A transition's move in the search: its code in a word, whether the guide lets it pass, what it leaves to be made, and what is known of
 -- the moves of an accepted sheet. Assumes nothing.
-use Prim.Native.Nat.{ℕ, _+_, _<_}
-use mathlib.Core.Bool.{Bool, true, false, cond}
+use Prim.Native.Nat.{ℕ, _<_}
+use mathlib.Core.Bool.{Bool, true, cond}
 use mathlib.Core.List.{List, [], _∷_}
 use mathlib.Core.Option.{Option, none, some}
 use lib.Dec.{eqb}

@@ -48,7 +48,12 @@ isFound (Found n t) = true
 isFound Nothing = false
 isFound More = false
 
-abbrev pub cutAfter : Bool → Outcome → Bool
-cutAfter cut (Found n t) = cut
-cutAfter cut Nothing = cut
-cutAfter cut More = true
+abbrev pub isMore : Outcome → Bool
+isMore (Found n t) = false
+isMore Nothing = false
+isMore More = true
+
+-- the answer where no plan was found, by whether the bound ran out in some run
+abbrev pub told : Bool → Outcome
+told true = More
+told false = Nothing

@@ -1,6 +1,6 @@
 // The bounded depth-first search over frames.
 ghost use mathlib.Core.Path.{_≡_};
-ghost use mathlib.Core.Bool.{Bool, cond, _&&_};
+ghost use mathlib.Core.Bool.{Bool, true, false, cond, _&&_};
 ghost use mathlib.Core.Option.{Option};
 ghost use Prim.Native.Nat.{ℕ, _+_, _*_, _≤_, _<_};
 ghost use lib.ListN.{length, replicate, drop};
@@ -20,11 +20,10 @@ ghost use Rattle.held.specs.Extended.{top};
 ghost use Rattle.words.specs.Words.{At, Holds, Kept};
 ghost use Rattle.ends.specs.Ends.{finalIn};
 ghost use Rattle.steps.specs.Laid.{codeOf};
-ghost use Rattle.search.specs.Outcome.{Reported, isFound, cutAfter};
-ghost use Rattle.search.specs.Frames.{Config, Stands, Tasked, Ready, Counts, Surveyed, outcomeOf, branchesOf, Branched};
+ghost use Rattle.search.specs.Outcome.{Reported, isFound, isMore, told, join, flagged};
+ghost use Rattle.search.specs.Frames.{Config, Stands, Tasked, Marks, Ready, Counts, Surveyed, outcomeOf, branchesOf, Branched};
 ghost use Rattle.search.specs.Moves.{Known, Action, passes, leftOver, entries, noted};
 use golog::State;
-use leaves::Tally;
 use sheet::Layout;
 use steps::Turn;
 
@@ -99,14 +98,21 @@ fn found(o: Outcome) -> bool
     }
 }
 
-fn cut_after(cut: bool, o: Outcome) -> bool
-    ensures { λ r. ⌜ r ≡ cutAfter cut o ⌝ }
+fn is_more(o: Outcome) -> bool
+    ensures { λ r. ⌜ r ≡ isMore o ⌝ }
 {
     match o {
-        Outcome::Found { n: _, t: _ } => cut,
-        Outcome::Nothing => cut,
+        Outcome::Found { n: _, t: _ } => false,
+        Outcome::Nothing => false,
         Outcome::More => true,
     }
+}
+
+// What a search comes to that found no plan: whether the bound ran out in some run is all that matters.
+fn unfound(cut: bool) -> Outcome
+    ensures { λ r. ⌜ r ≡ told cut ⌝ }
+{
+    if cut { Outcome::More } else { Outcome::Nothing }
 }
 
 // Whether the guide lets a transition pass, j of the moves having been made: a test always, else the next move, or any where none is
@@ -175,43 +181,103 @@ pub fn state_after(s: &[u8], l: Layout, held: &[bool], entry: u32, st: State) ->
     state::perform(&s[a..b], &s[b..c], l.f, held, entry as usize, st)
 }
 
-// What the formulas of a sheet say in a state.
-pub fn truths_of(s: &[u8], l: Layout, st: State) -> [bool; 512]
+// Fills in what the formulas of a sheet say in a state.
+pub fn truths_of(s: &[u8], l: Layout, st: State, held: &mut [bool])
     requires { ⌜ Accepts (now s) × (l ≡ layoutOf (now s)) ⌝ }
-    ensures { λ r. ⌜ Held (worldOf (now (s .entry))) st (layoutOf (now (s .entry)) .q) r ⌝ }
+    requires { ⌜ now held ≡ replicate 512 false ⌝ }
+    ensures { λ _. ⌜ Held (worldOf (now (s .entry))) st (layoutOf (now (s .entry)) .q) (now (held .exit)) ⌝ }
 {
     let a = l.formulas;
     let b = l.effects;
-    state::truths(&s[a..b], l.q, st)
+    state::truths(&s[a..b], l.q, st, held)
 }
 
-// Which records of a sheet are final in a state, and how many transitions each has.
-pub fn tally_of(s: &[u8], t: Task, held: &[bool], running: bool) -> Tally
+// Fills in which records of a sheet are final in a state, and how many transitions each has.
+pub fn tally_of(
+    s: &[u8],
+    t: Task,
+    held: &[bool],
+    running: bool,
+    finals: &mut [bool],
+    counts: &mut [u32],
+)
     requires { ⌜ Tasked (now s) t ⌝ }
-    ensures { λ r. ⌜ ((st : State) → running ≡ st .running → Held (worldOf (now (s .entry))) st (layoutOf (now (s .entry)) .q) (now (held .entry)) → Surveyed (now (s .entry)) st (now (held .entry)) (r .finals) (r .counts)) ⌝ }
+    requires { ⌜ (now finals ≡ replicate 260 true) × (now counts ≡ replicate 260 0) ⌝ }
+    ensures { λ _. ⌜ ((st : State) → running ≡ st .running → Held (worldOf (now (s .entry))) st (layoutOf (now (s .entry)) .q) (now (held .entry)) → Surveyed (now (s .entry)) st (now (held .entry)) (now (finals .exit)) (now (counts .exit))) ⌝ }
 {
     let l = t.layout;
     let a = l.actions;
     let b = l.programs;
     let c = l.end;
-    leaves::tallies(&s[b..c], l.p, t.interrupts, &s[a..b], l.a, held, running)
+    leaves::tallies(
+        &s[b..c],
+        l.p,
+        t.interrupts,
+        &s[a..b],
+        l.a,
+        held,
+        running,
+        finals,
+        counts,
+    )
+}
+
+// Which records of a sheet may be final in some state.
+pub fn endable_of(s: &[u8], t: Task) -> [bool; 260]
+    requires { ⌜ Tasked (now s) t ⌝ }
+    ensures { λ r. ⌜ Marks (now (s .entry)) r ⌝ }
+{
+    let l = t.layout;
+    let a = l.programs;
+    let b = l.end;
+    leaves::endables(&s[a..b], l.p, t.interrupts)
 }
 
 // Whether no given move is left and the remaining program is final.
-fn is_over(moves: &[u16], j: usize, finals: &[bool], work: &[u32], at: usize) -> bool
-    requires { ⌜ Holds (now work) at × (j ≤ length (now moves)) ⌝ }
-    ensures { λ r. ⌜ ((g : Rest) → At g (now (work .entry)) at → r ≡ (isNil (drop j (now (moves .entry))) && finalIn (now (finals .entry)) g)) ⌝ }
+fn is_over(moves: &[u16], j: usize, done: bool) -> bool
+    requires { ⌜ j ≤ length (now moves) ⌝ }
+    ensures { λ r. ⌜ r ≡ (isNil (drop j (now (moves .entry))) && done) ⌝ }
 {
     if j < moves.len() {
         return false;
     }
-    ends::final_rest(finals, work, at)
+    done
 }
 
-// Tries the k-th transition of the remaining program at q: makes it in the next frame and, if the guide lets it pass, searches on.
+// Whether all that could come of a configuration at the bound is known: that the bound ran out in some run was seen, and the remaining
+// program is final in no state.
+fn no_end_here(cut: bool, left: usize, endable: &[bool], work: &[u32], at: usize) -> bool
+    requires { ⌜ Holds (now work) at ⌝ }
+    ensures { λ r. ⌜ (r ≡ true → (cut ≡ true) × (left ≡ 0) × ((g : Rest) → At g (now (work .entry)) at → finalIn (now (endable .entry)) g ≡ false)) ⌝ }
+{
+    if !cut {
+        return false;
+    }
+    if left != 0 {
+        return false;
+    }
+    !ends::final_rest(endable, work, at)
+}
+
+// The same one transition before the bound, where no transition may leave what is final in some state.
+fn no_end_next(cut: bool, left: usize, soon: bool) -> bool
+    ensures { λ r. ⌜ (r ≡ true → (cut ≡ true) × (left ≡ 1) × (soon ≡ false)) ⌝ }
+{
+    if !cut {
+        return false;
+    }
+    if left != 1 {
+        return false;
+    }
+    !soon
+}
+
+// Tries the k-th transition of the remaining program at q: makes it in the next frame and, if the guide lets it pass, searches on. `cut` is
+// whether the bound ran out in some run before.
 fn try_step(
     s: &[u8],
     moves: &[u16],
+    endable: &[bool],
     held: &[bool],
     finals: &[bool],
     counts: &[u32],
@@ -220,12 +286,13 @@ fn try_step(
     t: Task,
     q: Place,
     st: State,
+    cut: bool,
     k: usize,
 ) -> Outcome
-    requires { ⌜ Tasked (now s) t × Surveyed (now s) st (now held) (now finals) (now counts) ⌝ }
+    requires { ⌜ Tasked (now s) t × Marks (now s) (now endable) × Surveyed (now s) st (now held) (now finals) (now counts) ⌝ }
     requires { ⌜ ((g : Rest) × Ready (now s) (now work) t q g × (k < length (restSteps (worldOf (now s)) st (heldRecords (now s)) g))) ⌝ }
     requires { ⌜ Counts (now moves) (now trace) q × (1 ≤ q .left) × Full (st .values) ⌝ }
-    ensures { λ r. ⌜ ((g : Rest) → At g (now (work .entry)) (q .at + 64) → Branched (now (s .entry)) (t .free) (now (moves .entry)) q st g k (now (trace .entry)) (now (trace .exit)) r) ⌝ }
+    ensures { λ r. ⌜ ((g : Rest) → At g (now (work .entry)) (q .at + 64) → Branched (now (s .entry)) (t .free) (now (moves .entry)) q st g cut k (now (trace .entry)) (now (trace .exit)) r) ⌝ }
     ensures { λ _. ⌜ Kept (q .at + t .frame) (now (work .entry)) (now (work .exit)) ⌝ }
 {
     let l = t.layout;
@@ -249,7 +316,7 @@ fn try_step(
         return Outcome::Nothing;
     };
     if !lets_pass(moves, q.j, t.free, entry) {
-        return Outcome::Nothing;
+        return unfound(cut);
     }
     state::write_state(work, to, state_after(s, l, held, entry, st));
     let next = Place {
@@ -259,15 +326,16 @@ fn try_step(
         n: q.n + entries_of(entry),
         d: q.d + 1,
     };
-    let o = explore(s, moves, work, trace, t, next);
+    let o = explore(s, moves, endable, work, trace, t, next, cut);
     note(trace, q.n, entry, o);
     o
 }
 
-// Tries all transitions of the remaining program at q, until a plan is found.
+// Tries all `count` transitions of the remaining program at q, until a plan is found.
 fn try_all(
     s: &[u8],
     moves: &[u16],
+    endable: &[bool],
     held: &[bool],
     finals: &[bool],
     counts: &[u32],
@@ -276,60 +344,93 @@ fn try_all(
     t: Task,
     q: Place,
     st: State,
+    before: bool,
+    count: usize,
 ) -> Outcome
-    requires { ⌜ Tasked (now s) t × Surveyed (now s) st (now held) (now finals) (now counts) ⌝ }
-    requires { ⌜ ((g : Rest) × Ready (now s) (now work) t q g) ⌝ }
+    requires { ⌜ Tasked (now s) t × Marks (now s) (now endable) × Surveyed (now s) st (now held) (now finals) (now counts) ⌝ }
+    requires { ⌜ ((g : Rest) × Ready (now s) (now work) t q g × (count ≡ length (restSteps (worldOf (now s)) st (heldRecords (now s)) g))) ⌝ }
     requires { ⌜ Counts (now moves) (now trace) q × (1 ≤ q .left) × Full (st .values) ⌝ }
-    ensures { λ r. ⌜ ((g : Rest) → At g (now (work .entry)) (q .at + 64) → Reported (q .n) (q .d) (now (trace .entry)) (now (trace .exit)) r (branchesOf (now (s .entry)) (t .free) (q .left) (g, st) (drop (q .j) (now (moves .entry))))) ⌝ }
+    ensures { λ r. ⌜ ((g : Rest) → At g (now (work .entry)) (q .at + 64) → Reported (q .n) (q .d) (now (trace .entry)) (now (trace .exit)) r (join (flagged before) (branchesOf (now (s .entry)) (t .free) (q .left) (g, st) (drop (q .j) (now (moves .entry)))))) ⌝ }
     ensures { λ _. ⌜ Kept (q .at + t .frame) (now (work .entry)) (now (work .exit)) ⌝ }
 {
-    let count = ends::count_rest(finals, counts, work, q.at + 64);
-    let mut cut = false;
+    let mut cut = before;
     let mut k = 0;
     while k < count {
-        let o = try_step(s, moves, held, finals, counts, work, trace, t, q, st, k);
+        let o = try_step(
+            s,
+            moves,
+            endable,
+            held,
+            finals,
+            counts,
+            work,
+            trace,
+            t,
+            q,
+            st,
+            cut,
+            k,
+        );
         if found(o) {
             return o;
         }
-        cut = cut_after(cut, o);
+        cut = is_more(o);
         k += 1;
     }
-    if cut {
-        return Outcome::More;
-    }
-    Outcome::Nothing
+    unfound(cut)
 }
 
-// Searches from the configuration at q, depth first.
+// Searches from the configuration at q, depth first. `cut` is whether the bound ran out in some run before.
 fn explore(
     s: &[u8],
     moves: &[u16],
+    endable: &[bool],
     work: &mut [u32],
     trace: &mut [u16],
     t: Task,
     q: Place,
+    cut: bool,
 ) -> Outcome
-    requires { ⌜ Tasked (now s) t ⌝ }
+    requires { ⌜ Tasked (now s) t × Marks (now s) (now endable) ⌝ }
     requires { ⌜ ((c : Config) × Stands (now work) (q .at) c × Ready (now s) (now work) t q (c .0)) ⌝ }
     requires { ⌜ Counts (now moves) (now trace) q ⌝ }
-    ensures { λ r. ⌜ ((c : Config) → Stands (now (work .entry)) (q .at) c → Reported (q .n) (q .d) (now (trace .entry)) (now (trace .exit)) r (outcomeOf (now (s .entry)) (t .free) (q .left) (c, drop (q .j) (now (moves .entry))))) ⌝ }
+    ensures { λ r. ⌜ ((c : Config) → Stands (now (work .entry)) (q .at) c → Reported (q .n) (q .d) (now (trace .entry)) (now (trace .exit)) r (join (flagged cut) (outcomeOf (now (s .entry)) (t .free) (q .left) (c, drop (q .j) (now (moves .entry)))))) ⌝ }
     ensures { λ _. ⌜ Kept (q .at + t .frame) (now (work .entry)) (now (work .exit)) ⌝ }
 {
+    if no_end_here(cut, q.left, endable, work, q.at + 64) {
+        return Outcome::More;
+    }
     let st = state::read_state(work, q.at);
-    let held = truths_of(s, t.layout, st);
-    let y = tally_of(s, t, &held, st.running);
-    let finals = y.finals;
-    let counts = y.counts;
-    if is_over(moves, q.j, &finals, work, q.at + 64) {
+    let mut held = [false; 512];
+    truths_of(s, t.layout, st, &mut held);
+    let mut finals = [true; 260];
+    let mut counts = [0u32; 260];
+    tally_of(s, t, &held, st.running, &mut finals, &mut counts);
+    let x = ends::total_rest(&finals, endable, &counts, work, q.at + 64);
+    if is_over(moves, q.j, x.done) {
         return Outcome::Found { n: q.n, t: q.d };
     }
     if q.left == 0 {
-        if ends::has_step(&finals, &counts, work, q.at + 64) {
-            return Outcome::More;
-        }
-        return Outcome::Nothing;
+        return unfound(cut | (x.count != 0));
     }
-    try_all(s, moves, &held, &finals, &counts, work, trace, t, q, st)
+    if no_end_next(cut, q.left, x.soon) {
+        return Outcome::More;
+    }
+    try_all(
+        s,
+        moves,
+        endable,
+        &held,
+        &finals,
+        &counts,
+        work,
+        trace,
+        t,
+        q,
+        st,
+        cut,
+        x.count,
+    )
 }
 
 // The task of a search: there are interrupts or not, and the frames are as high as the work figure says.
@@ -394,7 +495,8 @@ pub fn run(
         n: 0,
         d: 0,
     };
-    let o = explore(s, moves, work, trace, t, q);
+    let endable = endable_of(s, t);
+    let o = explore(s, moves, &endable, work, trace, t, q, false);
     clear(work);
     o
 }

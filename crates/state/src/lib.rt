@@ -1,16 +1,15 @@
 // One state: what all formulas say of it, which actions are possible, the state after an action, and the state in words.
 ghost use mathlib.Core.Path.{_≡_};
 ghost use mathlib.Core.Bool.{false, cond};
-ghost use Prim.Native.Nat.{_+_, _*_, _≤_, _<_};
-ghost use lib.ListN.{length, getD};
+ghost use Prim.Native.Nat.{_+_, _*_, _≤_};
+ghost use lib.ListN.{length, getD, replicate};
 ghost use Rattle.records.specs.Records.{formulaAt};
 ghost use Rattle.golog.specs.declared.State.{State};
-ghost use Rattle.golog.specs.World.{truthOf, start};
+ghost use Rattle.golog.specs.World.{truthOf};
 ghost use Rattle.state.specs.Truths.{truthsOf};
-ghost use Rattle.state.specs.Performed.{changesBy, givenBy, changedBy, performBy, Names, Performable};
+ghost use Rattle.state.specs.Performed.{changedBy, performBy, Names, Performable};
 ghost use Rattle.state.specs.Header.{StateAt, StatePut};
 use golog::State;
-use records::Effect;
 
 // What a list of truths says of formula q, false past its end.
 fn holds_in(held: &[bool], q: usize) -> bool
@@ -49,66 +48,36 @@ fn truth_at(formulas: &[u8], i: usize, values: &[u8], lower: &[bool]) -> bool
     }
 }
 
-// What each of the first n formulas says of a state: one pass upwards, since a formula names lower ones only.
-pub fn truths(formulas: &[u8], n: usize, s: State) -> [bool; 512]
+// Fills in what each of the first n formulas says of a state: one pass upwards, since a formula names lower ones only.
+pub fn truths(formulas: &[u8], n: usize, s: State, held: &mut [bool])
     requires { ⌜ (6 * n ≤ length (now formulas)) × (n ≤ 512) ⌝ }
-    ensures { λ r. ⌜ r ≡ truthsOf (now (formulas .entry)) (s .values) n ⌝ }
+    requires { ⌜ now held ≡ replicate 512 false ⌝ }
+    ensures { λ _. ⌜ now (held .exit) ≡ truthsOf (now (formulas .entry)) (s .values) n ⌝ }
 {
     let values = s.values;
-    let mut held = [false; 512];
     let mut i = 0;
     while i < n {
-        let r = truth_at(formulas, i, &values, &held);
+        let r = truth_at(formulas, i, &values, held);
         held[i] = r;
         i += 1;
     }
-    held
 }
 
-// Whether an effect names fluent x and its condition holds.
-fn changes(e: Effect, held: &[bool], x: usize) -> bool
-    ensures { λ r. ⌜ r ≡ changesBy e (now (held .entry)) x ⌝ }
-{
-    (e.fluent == x) & holds_in(held, e.condition)
-}
-
-// The new value of fluent x under an action's effects.
-fn new_value(effects: &[u8], first: usize, count: usize, held: &[bool], x: usize, old: u8) -> u8
+// The values after an action's effects, put from the last to the first, so that the first one that names a fluent wins.
+fn changed(effects: &[u8], first: usize, count: usize, held: &[bool], values: [u8; 32]) -> [u8; 32]
     requires { ⌜ 4 * (first + count) ≤ length (now effects) ⌝ }
-    ensures { λ r. ⌜ r ≡ givenBy (now (effects .entry)) (now (held .entry)) x old first count ⌝ }
-{
-    let end = first + count;
-    let mut value = old;
-    let mut i = first;
-    'effects: while i < end {
-        let e = records::effect_at(effects, i);
-        if changes(e, held, x) {
-            value = e.value as u8;
-            break 'effects;
-        }
-        i += 1;
-    }
-    value
-}
-
-// The values after an action's effects, which name fluents below n.
-fn changed(
-    effects: &[u8],
-    first: usize,
-    count: usize,
-    n: usize,
-    held: &[bool],
-    values: [u8; 32],
-) -> [u8; 32]
-    requires { ⌜ (4 * (first + count) ≤ length (now effects)) × (n ≤ 32) ⌝ }
-    requires { ⌜ Names (now effects) n first count ⌝ }
+    requires { ⌜ Names (now effects) 32 first count ⌝ }
     ensures { λ r. ⌜ r ≡ changedBy (now (effects .entry)) (now (held .entry)) first count values ⌝ }
 {
     let mut new = values;
-    let mut x = 0;
-    while x < n {
-        new[x] = new_value(effects, first, count, held, x, values[x]);
-        x += 1;
+    let mut i = first + count;
+    while first < i {
+        i -= 1;
+        let e = records::effect_at(effects, i);
+        if holds_in(held, e.condition) {
+            let x = e.fluent;
+            new[x] = e.value as u8;
+        }
     }
     new
 }
@@ -127,7 +96,7 @@ pub fn perform(effects: &[u8], actions: &[u8], n: usize, held: &[bool], a: usize
         };
     }
     let r = records::action_at(actions, a);
-    let new = changed(effects, r.first, r.count, n, held, values);
+    let new = changed(effects, r.first, r.count, held, values);
     State {
         values: new,
         running: s.running,

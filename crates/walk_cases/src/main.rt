@@ -40,15 +40,17 @@ fn walk(s: &[u8], choices: &[u8], work: &mut [u32], t: Task, q: Place)
 {
     let l = t.layout;
     let st = state::read_state(work, q.at);
-    let held = search::truths_of(s, l, st);
-    let y = search::tally_of(s, t, &held, st.running);
-    let finals = y.finals;
-    let counts = y.counts;
+    let mut held = [false; 512];
+    search::truths_of(s, l, st, &mut held);
+    let mut finals = [true; 260];
+    let mut counts = [0u32; 260];
+    search::tally_of(s, t, &held, st.running, &mut finals, &mut counts);
     let from = q.at + 64;
-    let done = ends::final_rest(&finals, work, from);
-    let steps = ends::has_step(&finals, &counts, work, from);
-    let count = ends::count_rest(&finals, &counts, work, from);
-    report::configuration(q.d, st, done, steps, count);
+    report::configuration(
+        q.d,
+        st,
+        ends::total_rest(&finals, &search::endable_of(s, t), &counts, work, from),
+    );
     report::nodes(work, from, words::size_at(work, from));
     if q.left == 0 {
         return;

@@ -1,4 +1,5 @@
 // What is written of a configuration and of a transition.
+use ends::Totals;
 use golog::State;
 
 pub fn text(label: &[u8]) {
@@ -19,8 +20,9 @@ fn yes_or_no(b: bool) {
     }
 }
 
-// The depth, the two fluents' values, whether interrupts run, whether it is final, whether it has a transition, and how many.
-pub fn configuration(d: usize, st: State, done: bool, steps: bool, count: usize) {
+// The depth, the two fluents' values, whether interrupts run, whether the rest is final, whether it may be in some state, now or after one
+// transition, and how many transitions it has.
+pub fn configuration(d: usize, st: State, x: Totals) {
     let values = st.values;
     text(b"  depth");
     number(d as u64);
@@ -30,11 +32,13 @@ pub fn configuration(d: usize, st: State, done: bool, steps: bool, count: usize)
     text(b", running");
     yes_or_no(st.running);
     text(b", final");
-    yes_or_no(done);
-    text(b", steps");
-    yes_or_no(steps);
+    yes_or_no(x.done);
+    text(b", endable");
+    yes_or_no(x.endable);
+    text(b", soon");
+    yes_or_no(x.soon);
     text(b", transitions");
-    number(count as u64);
+    number(x.count as u64);
     text(b", rest");
 }
 

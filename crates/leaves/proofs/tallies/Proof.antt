@@ -1,6 +1,6 @@
 -- The tables are filled upwards, by the law of Filling: each turn puts what the record is, whatever state is seen so. The tables' lengths
 -- stand apart, since a state need not be there. Assumes nothing.
-use mathlib.Core.Path.{_≡_, sym, _∙_}
+use mathlib.Core.Path.{_≡_, sym, _∙_, ap}
 use mathlib.Core.Bool.{true}
 use Prim.Native.Nat.{ℕ, _-_, _≤_}
 use native.Mathlib.Nat.{le-antisymm}
@@ -17,45 +17,42 @@ use Rattle.leaves.proofs.tallies.Statement.{statement}
 use Rattle.leaves.proofs.tallies.Tie as tie
 
 abbrev Inv-loop : tie.InvT-loop
-Inv-loop programs n interrupts actions na held running m finals₀ counts₀ i₀ finals counts i =
+Inv-loop programs n interrupts actions na held running finals₀ counts₀ m i₀ finals counts i =
     (i ≤ m) × (length finals ≡ 260) × (length counts ≡ 260)
     × ((W : World) (s : State) → Sees W s (table interrupts (programAt programs) n) (places interrupts n) held (possibleIn actions na held) running → Both W s (table interrupts (programAt programs) n) finals counts i)
 
 abbrev μ-loop : tie.MeasureT-loop
-μ-loop programs n interrupts actions na held running m finals₀ counts₀ i₀ finals counts i = m - i
+μ-loop programs n interrupts actions na held running finals₀ counts₀ m i₀ finals counts i = m - i
 
 places-of-requires : tie.Need-places-of-requires Inv-loop μ-loop
 places-of-requires c κs = search needs
 
 loop-holds : tie.Need-loop-holds Inv-loop μ-loop
-loop-holds c = (omega arith, length-replicate 260 true, length-replicate {A = ℕ} 260 0, λ W s S. none W s _)
+loop-holds c =
+    let z = c .before .before .before .before .before .before .pre .1 in (
+      omega arith,
+      ap length (z .0) ∙ length-replicate 260 true,
+      ap length (z .1) ∙ length-replicate {A = ℕ} 260 0,
+      λ W s S. none W s _ (z .0) (z .1),
+    )
 
 record-at-requires : tie.Need-record-at-requires Inv-loop μ-loop
 record-at-requires c κs = search needs
 
-slice-aggregate-final-at : tie.Need-slice-aggregate-final-at Inv-loop μ-loop
-slice-aggregate-final-at c = sym (c .before .before .before .loop .inv .1)
-
 final-at-requires : tie.Need-final-at-requires Inv-loop μ-loop
 final-at-requires c κs = search needs
-
-slice-aggregate-count-at : tie.Need-slice-aggregate-count-at Inv-loop μ-loop
-slice-aggregate-count-at c = sym (c .before .before .before .before .before .loop .inv .1)
-
-slice-aggregate-count-at-2 : tie.Need-slice-aggregate-count-at-2 Inv-loop μ-loop
-slice-aggregate-count-at-2 c = sym (c .before .before .before .before .before .before .loop .inv .2)
 
 count-at-requires : tie.Need-count-at-requires Inv-loop μ-loop
 count-at-requires c κs = search needs
 
-array-write-finals : tie.Need-array-write-finals Inv-loop μ-loop
-array-write-finals c = search needs
+slice-write-finals : tie.Need-slice-write-finals Inv-loop μ-loop
+slice-write-finals c = search needs
 
 mul-counts : tie.Need-mul-counts Inv-loop μ-loop
 mul-counts c = search needs
 
-array-write-counts : tie.Need-array-write-counts Inv-loop μ-loop
-array-write-counts c = search needs
+slice-write-counts : tie.Need-slice-write-counts Inv-loop μ-loop
+slice-write-counts c = search needs
 
 add-i : tie.Need-add-i Inv-loop μ-loop
 add-i c = search needs
@@ -72,6 +69,12 @@ loop-again c =
       simp length-set (v .2),
       λ W s S. next (v .3 W s S) (S .each _ (omega arith)) (S .runs) (omega arith) (rw e at (c .before .before .before .final-at .ensures)) (rw e at (c .count-at .ensures)),
     )
+
+same-length : tie.Need-same-length Inv-loop μ-loop
+same-length c = c .before .loop .inv .1 ∙ sym (ap length (c .before .before .before .before .before .before .before .before .pre .1 .0) ∙ length-replicate 260 true)
+
+same-length-2 : tie.Need-same-length-2 Inv-loop μ-loop
+same-length-2 c = c .before .loop .inv .2 ∙ sym (ap length (c .before .before .before .before .before .before .before .before .pre .1 .1) ∙ length-replicate {A = ℕ} 260 0)
 
 returns : tie.Need-returns Inv-loop μ-loop
 unfolding finalsOf countsOf
@@ -91,15 +94,14 @@ tallies-spec =
     places-of-requires
     loop-holds
     record-at-requires
-    slice-aggregate-final-at
     final-at-requires
-    slice-aggregate-count-at
-    slice-aggregate-count-at-2
     count-at-requires
-    array-write-finals
+    slice-write-finals
     mul-counts
-    array-write-counts
+    slice-write-counts
     add-i
     loop-less
     loop-again
+    same-length
+    same-length-2
     returns)

@@ -7,40 +7,44 @@ use Rattle.demands.specs.Decoded.{worldOf}
 use Rattle.state.specs.Truths.{Held, truthsOf}
 use Rattle.state.proofs.Held.{truths-held}
 use Rattle.search.proofs.Seen.{fits-of, part-length}
+use borrow.Author.Needs.{needs}
 use Rattle.search.proofs.truths_of.Statement.{statement}
 use Rattle.search.proofs.truths_of.Tie as tie
 
 sub-truths : tie.Need-sub-truths
 sub-truths c =
-    let f = fits-of (now (c .before .args .s)) (c .before .args .l) (c .before .pre) in
+    let f = fits-of (now (c .before .before .args .s)) (c .before .before .args .l) (c .before .before .pre .0) in
     omega (arith, f .at-formulas, f .at-effects, f .at-actions, f .at-programs, f .at-end, f .inside)
 
 part-truths-start : tie.Need-part-truths-start
 part-truths-start c =
-    let f = fits-of (now (c .before .args .s)) (c .before .args .l) (c .before .pre) in
+    let f = fits-of (now (c .before .before .args .s)) (c .before .before .args .l) (c .before .before .pre .0) in
     omega (arith, f .at-formulas, f .at-effects, f .at-actions, f .at-programs, f .at-end, f .inside)
 
 part-truths-end : tie.Need-part-truths-end
 part-truths-end c =
-    let f = fits-of (now (c .before .args .s)) (c .before .args .l) (c .before .pre) in
+    let f = fits-of (now (c .before .before .args .s)) (c .before .before .args .l) (c .before .before .pre .0) in
     omega (arith, f .at-formulas, f .at-effects, f .at-actions, f .at-programs, f .at-end, f .inside)
 
 truths-requires : tie.Need-truths-requires
 truths-requires c κs =
-    let s = now (c .before .before .args .s) in
-    let l = c .before .before .args .l in
-    let f = fits-of s l (c .before .before .pre) in
+    let s = now (c .before .before .before .before .args .s) in
+    let l = c .before .before .before .before .args .l in
+    let f = fits-of s l (c .before .before .before .before .pre .0) in
     let n = part-length s (l .formulas) (l .effects) (omega (arith, f .at-effects)) (omega (arith, f .at-actions, f .at-programs, f .at-end, f .inside)) in
-    (omega (arith, n, f .at-effects), f .q)
+    ((omega (arith, n, f .at-effects), f .q), c .before .before .before .before .pre .1)
 
 returns : tie.Need-returns
 returns c =
-    let s = now (c .before .before .before .args .s) in
-    let st = c .before .before .before .args .st in
+    let s = now (c .before .before .before .before .before .before .before .args .s) in
+    let st = c .before .before .before .before .before .before .before .args .st in
     let l = layoutOf s in
-    let e = c .truths .ensures ∙ ap (λ (l : Layout). truthsOf (formulasIn s l) (st .values) (l .q)) (c .before .before .before .pre .1) in
+    let e = c .before .before .truths .ensures ∙ ap (λ (l : Layout). truthsOf (formulasIn s l) (st .values) (l .q)) (c .before .before .before .before .before .before .before .pre .0 .1) in
     subst (Held (worldOf s) st (l .q)) (sym e) (truths-held (formulasIn s l) (effectsIn s l) (actionsIn s l) st (l .q))
+
+same-length : tie.Need-same-length
+same-length c = search needs
 
 pub truths-of-spec : {M : Type 1} → statement M
 truths-of-spec =
-    tie.close (tie.spec sub-truths part-truths-start part-truths-end truths-requires returns)
+    tie.close (tie.spec sub-truths part-truths-start part-truths-end truths-requires same-length returns)

@@ -1,44 +1,54 @@
--- The loop writes the new values of the fluents below n, each from the old ones; no effect names a fluent from n on. Assumes nothing.
-use Prim.Native.Nat.{ℕ, _-_, _≤_}
-use mathlib.Core.Path.{_≡_}
+-- The loop goes down, and at number i the values are those after the effects from there on. Assumes nothing.
+use Prim.Native.Nat.{_+_, _-_, _≤_}
+use mathlib.Core.Path.{_≡_, sym, _∙_}
 use native.Mathlib.Omega.{arith}
 use borrow.Author.Needs.{needs}
-use lib.ListN.{getD, length}
-use Rattle.state.specs.Performed.{givenBy}
-use Rattle.state.proofs.Laid.{Laid, laid-none, laid-more}
-use Rattle.state.proofs.Performed.{changed-all}
+use Rattle.state.specs.Performed.{changedBy}
+use Rattle.state.proofs.Performed.{changed-none, changed-here, changed-later, changed-all}
 use Rattle.state.proofs.changed.Statement.{statement}
 use Rattle.state.proofs.changed.Tie as tie
 
 abbrev Inv-loop : tie.InvT-loop
-Inv-loop effects first count n held values new₀ x₀ new x = (x ≤ n) × (length values ≡ 32) × Laid 0 (λ (y : ℕ). givenBy effects held y (getD values y 0) first count) values new x
+Inv-loop effects first count held new₀ i₀ new i = (first ≤ i) × (i ≤ first + count) × (new ≡ changedBy effects held i (first + count - i) new₀)
 
 abbrev μ-loop : tie.MeasureT-loop
-μ-loop effects first count n held values new₀ x₀ new x = n - x
+μ-loop effects first count held new₀ i₀ new i = i
+
+add-i : tie.Need-add-i Inv-loop μ-loop
+add-i c = search needs
 
 loop-holds : tie.Need-loop-holds Inv-loop μ-loop
-loop-holds c = (omega arith, search needs, laid-none _ _ _)
+loop-holds c = (omega arith, omega arith, changed-none _ _ _ _ _ (omega arith))
 
-array-read-new-value : tie.Need-array-read-new-value Inv-loop μ-loop
-array-read-new-value c = search needs
+sub-i : tie.Need-sub-i Inv-loop μ-loop
+sub-i c = search needs
 
-new-value-requires : tie.Need-new-value-requires Inv-loop μ-loop
-new-value-requires c κs = search needs
+effect-at-requires : tie.Need-effect-at-requires Inv-loop μ-loop
+effect-at-requires c κs = search needs
+
+holds-in-requires : tie.Need-holds-in-requires Inv-loop μ-loop
+holds-in-requires c κs = search needs
+
+cast-new : tie.Need-cast-new Inv-loop μ-loop
+cast-new c = search needs
 
 array-write-new : tie.Need-array-write-new Inv-loop μ-loop
-array-write-new c = omega (arith, c .before .before .loop .inv .2 .len)
-
-add-x : tie.Need-add-x Inv-loop μ-loop
-add-x c = search needs
+array-write-new c = rw (c .before .before .before .effect-at .ensures .0) (c .before .before .before .before .before .before .before .before .pre .1 _ (omega arith) (omega arith))
 
 loop-less : tie.Need-loop-less Inv-loop μ-loop
 loop-less c = search needs
 
 loop-again : tie.Need-loop-again Inv-loop μ-loop
-loop-again c = (omega arith, c .before .before .loop .inv .1, laid-more _ _ _ (c .before .before .loop .inv .2) (omega arith) (omega arith) (c .new-value .ensures))
+loop-again c = (omega arith, omega arith, changed-here _ _ _ _ _ _ _ (omega arith) (omega arith) (c .before .before .before .before .before .loop .inv .2) (c .before .before .before .effect-at .ensures .0) (sym (c .before .before .holds-in .ensures) ∙ c .before .if1 .taken))
+
+loop-less-2 : tie.Need-loop-less-2 Inv-loop μ-loop
+loop-less-2 c = search needs
+
+loop-again-2 : tie.Need-loop-again-2 Inv-loop μ-loop
+loop-again-2 c = (omega arith, omega arith, changed-later _ _ _ _ _ _ _ (omega arith) (omega arith) (c .before .before .before .before .loop .inv .2) (c .before .before .effect-at .ensures .0) (sym (c .before .holds-in .ensures) ∙ c .if1 .left))
 
 returns : tie.Need-returns Inv-loop μ-loop
-returns c = changed-all _ _ _ _ _ _ _ _ (c .before .before .before .before .pre .1) (c .loop-test .left) (c .before .loop .inv .2)
+returns c = changed-all _ _ _ _ _ _ _ (omega arith) (omega arith) (c .before .loop .inv .2)
 
 pub changed-spec : {M : Type 1} → statement M
 changed-spec =
@@ -46,11 +56,15 @@ changed-spec =
     (tie.spec
     Inv-loop
     μ-loop
+    add-i
     loop-holds
-    array-read-new-value
-    new-value-requires
+    sub-i
+    effect-at-requires
+    holds-in-requires
+    cast-new
     array-write-new
-    add-x
     loop-less
     loop-again
+    loop-less-2
+    loop-again-2
     returns)

@@ -1,0 +1,132 @@
+-- By the outermost node, and of the parts by the same; the number of nodes falls. A count of a record fits a word, so the sum over the
+-- nodes of a frame fits. Assumes nothing.
+use mathlib.Core.Path.{_∙_, sym, subst}
+use borrow.Author.Needs.{needs}
+use native.Mathlib.Omega.{arith}
+use Rattle.words.proofs.Standing.{gone-at, leaf-at, at-room}
+use Rattle.words.proofs.Reading.{sizeAt, holds-room, holds-left, left-room, left-less, holds-right, right-room, right-less, parts-of}
+use Rattle.ends.specs.Ends.{Totalled}
+use Rattle.ends.proofs.Parts.{total-gone, total-leaf, total-few, total-node}
+use Prim.Native.Nat.{ℕ, _<_}
+use borrow.Fn.Kinds.{In}
+use borrow.Fn.PlainCycle.{Measures, is, falls, and}
+use Rattle.ends.proofs.total_rest.Reads as total-rest
+use Rattle.ends.proofs.total_rest.Kinds as total-rest-kinds
+use Rattle.ends.proofs.+total_rest.Lts-total_rest as total-rest-lts
+use Rattle.ends.proofs.join_totals.Reads as join-totals-reads
+use Rattle.ends.proofs.wide.Reads as wide-reads
+use Rattle.leaves.proofs.count_in.Reads as count-in-reads
+use Rattle.leaves.proofs.final_in.Reads as final-in-reads
+use Rattle.words.proofs.record_at.Reads as record-at-reads
+use Rattle.words.proofs.size_at.Reads as size-at-reads
+use Rattle.words.proofs.tag_at.Reads as tag-at-reads
+use Rattle.ends.proofs.+total_rest.{statement}
+use Rattle.ends.proofs.+total_rest.Tie.{close}
+
+abbrev μ-total-rest : Measures 4 total-rest-kinds.ps ℕ
+μ-total-rest κs a = sizeAt (a .1 .1 .1 .0 .now) (a .1 .1 .1 .1 .0)
+
+abbrev total-rest-at : ℕ → In 4 total-rest-kinds.ps
+total-rest-at t =
+    and 4 total-rest-kinds.ps (is 4 total-rest-kinds.ps μ-total-rest t) total-rest.Pre
+
+abbrev total-rest-below : ℕ → In 4 total-rest-kinds.ps
+total-rest-below t =
+    and 4 total-rest-kinds.ps (falls 4 total-rest-kinds.ps _<_ μ-total-rest t) total-rest.Pre
+
+abbrev claims : ℕ → total-rest-lts.Claims
+claims t = (
+  tag-at-reads.Asked,
+  tag-at-reads.Learnt,
+  record-at-reads.Asked,
+  record-at-reads.Learnt,
+  count-in-reads.Asked,
+  count-in-reads.Learnt,
+  wide-reads.Asked,
+  wide-reads.Learnt,
+  final-in-reads.Asked,
+  final-in-reads.Learnt,
+  size-at-reads.Asked,
+  size-at-reads.Learnt,
+  total-rest-below t,
+  total-rest.Post,
+  join-totals-reads.Asked,
+  join-totals-reads.Learnt,
+)
+
+total-rest-tag-at-requires : (t : ℕ) → total-rest-lts.Need-tag-at-requires (claims t) (total-rest-at t) total-rest.Post
+total-rest-tag-at-requires t c κs = holds-room (c .before .before .before .before .pre .1 .0)
+
+total-rest-returns : (t : ℕ) → total-rest-lts.Need-returns (claims t) (total-rest-at t) total-rest.Post
+total-rest-returns t c g h = total-gone _ _ _ (gone-at _ _ _ (c .before .tag-at .ensures) g h (c .if1 .taken))
+
+total-rest-record-at-requires : (t : ℕ) → total-rest-lts.Need-record-at-requires (claims t) (total-rest-at t) total-rest.Post
+total-rest-record-at-requires t c κs = holds-room (c .before .before .before .before .before .before .before .pre .1 .0)
+
+total-rest-count-in-requires : (t : ℕ) → total-rest-lts.Need-count-in-requires (claims t) (total-rest-at t) total-rest.Post
+total-rest-count-in-requires t c κs = search needs
+
+total-rest-wide-requires : (t : ℕ) → total-rest-lts.Need-wide-requires (claims t) (total-rest-at t) total-rest.Post
+total-rest-wide-requires t c κs = search needs
+
+total-rest-final-in-requires : (t : ℕ) → total-rest-lts.Need-final-in-requires (claims t) (total-rest-at t) total-rest.Post
+total-rest-final-in-requires t c κs = search needs
+
+total-rest-final-in-requires-2 : (t : ℕ) → total-rest-lts.Need-final-in-requires-2 (claims t) (total-rest-at t) total-rest.Post
+total-rest-final-in-requires-2 t c κs = search needs
+
+total-rest-returns-2 : (t : ℕ) → total-rest-lts.Need-returns-2 (claims t) (total-rest-at t) total-rest.Post
+total-rest-returns-2 t c g h = total-leaf _ _ _ (leaf-at _ _ _ (c .before .before .before .before .before .before .before .tag-at .ensures) g h (c .before .before .before .before .before .if2 .taken)) (c .before .before .before .before .record-at .ensures) (c .before .before .wide .ensures .0 ∙ c .before .before .before .count-in .ensures) (c .before .before .wide .ensures .1) (c .before .final-in .ensures) (c .final-in2 .ensures)
+
+total-rest-add-size-at : (t : ℕ) → total-rest-lts.Need-add-size-at (claims t) (total-rest-at t) total-rest.Post
+total-rest-add-size-at t c = let h = left-room (c .before .before .before .before .before .before .before .pre .1 .0) (c .before .before .tag-at .ensures) (c .before .if1 .left) (c .if2 .left) in omega arith
+
+total-rest-size-at-requires : (t : ℕ) → total-rest-lts.Need-size-at-requires (claims t) (total-rest-at t) total-rest.Post
+total-rest-size-at-requires t c κs = left-room (c .before .before .before .before .before .before .before .pre .1 .0) (c .before .before .tag-at .ensures) (c .before .if1 .left) (c .if2 .left)
+
+total-rest-add-total-rest : (t : ℕ) → total-rest-lts.Need-add-total-rest (claims t) (total-rest-at t) total-rest.Post
+total-rest-add-total-rest t c = let h = left-room (c .before .before .before .before .before .before .before .before .pre .1 .0) (c .before .before .before .tag-at .ensures) (c .before .before .if1 .left) (c .before .if2 .left) in omega arith
+
+total-rest-total-rest-requires : (t : ℕ) → total-rest-lts.Need-total-rest-requires (claims t) (total-rest-at t) total-rest.Post
+total-rest-total-rest-requires t c κs = (left-less (c .before .before .before .before .before .before .before .before .pre .1 .0) (c .before .before .before .tag-at .ensures) (c .before .before .if1 .left) (c .before .if2 .left) (c .before .before .before .before .before .before .before .before .pre .0), (holds-left (c .before .before .before .before .before .before .before .before .pre .1 .0) (c .before .before .before .tag-at .ensures) (c .before .before .if1 .left) (c .before .if2 .left), c .before .before .before .before .before .before .before .before .pre .1 .1))
+
+total-rest-add-total-rest-2 : (t : ℕ) → total-rest-lts.Need-add-total-rest-2 (claims t) (total-rest-at t) total-rest.Post
+total-rest-add-total-rest-2 t c = let h = left-room (c .before .before .before .before .before .before .before .before .before .pre .1 .0) (c .before .before .before .before .tag-at .ensures) (c .before .before .before .if1 .left) (c .before .before .if2 .left) in omega arith
+
+total-rest-mul-total-rest : (t : ℕ) → total-rest-lts.Need-mul-total-rest (claims t) (total-rest-at t) total-rest.Post
+total-rest-mul-total-rest t c = let h = right-room (c .before .before .before .before .before .before .before .before .before .pre .1 .0) (c .before .before .before .before .tag-at .ensures) (c .before .before .before .if1 .left) (c .before .before .if2 .left) (c .before .size-at .ensures) in omega arith
+
+total-rest-add-total-rest-3 : (t : ℕ) → total-rest-lts.Need-add-total-rest-3 (claims t) (total-rest-at t) total-rest.Post
+total-rest-add-total-rest-3 t c = let h = right-room (c .before .before .before .before .before .before .before .before .before .pre .1 .0) (c .before .before .before .before .tag-at .ensures) (c .before .before .before .if1 .left) (c .before .before .if2 .left) (c .before .size-at .ensures) in omega arith
+
+total-rest-total-rest-requires-2 : (t : ℕ) → total-rest-lts.Need-total-rest-requires-2 (claims t) (total-rest-at t) total-rest.Post
+total-rest-total-rest-requires-2 t c κs = (right-less (c .before .before .before .before .before .before .before .before .before .pre .1 .0) (c .before .before .before .before .tag-at .ensures) (c .before .before .before .if1 .left) (c .before .before .if2 .left) (c .before .size-at .ensures) (c .before .before .before .before .before .before .before .before .before .pre .0), (holds-right (c .before .before .before .before .before .before .before .before .before .pre .1 .0) (c .before .before .before .before .tag-at .ensures) (c .before .before .before .if1 .left) (c .before .before .if2 .left) (c .before .size-at .ensures), c .before .before .before .before .before .before .before .before .before .pre .1 .1))
+
+total-rest-join-totals-requires : (t : ℕ) → total-rest-lts.Need-join-totals-requires (claims t) (total-rest-at t) total-rest.Post
+total-rest-join-totals-requires t c κs = let H = c .before .before .before .before .before .before .before .before .before .before .pre .1 .0 in let P = parts-of (c .before .before .before .before .before .before .before .before .before .before .pre .1 .0) (c .before .before .before .before .before .tag-at .ensures) (c .before .before .before .before .if1 .left) (c .before .before .before .if2 .left) (c .before .before .size-at .ensures) (H .rest) (H .at) in omega (arith, total-few _ _ _ (P .is) (c .before .total-rest .ensures (P .l) (P .l-at)) (c .total-rest2 .ensures (P .r) (P .r-at)), at-room (H .rest) _ _ (H .at), c .before .before .before .before .before .before .before .before .before .before .pre .1 .1)
+
+total-rest-returns-3 : (t : ℕ) → total-rest-lts.Need-returns-3 (claims t) (total-rest-at t) total-rest.Post
+total-rest-returns-3 t c g h = let P = parts-of (c .before .before .before .before .before .before .before .before .before .before .before .pre .1 .0) (c .before .before .before .before .before .before .tag-at .ensures) (c .before .before .before .before .before .if1 .left) (c .before .before .before .before .if2 .left) (c .before .before .before .size-at .ensures) g h in subst (Totalled _ _ _ g) (sym (c .join-totals .ensures)) (total-node _ _ _ (P .is) (c .before .before .total-rest .ensures (P .l) (P .l-at)) (c .before .total-rest2 .ensures (P .r) (P .r-at)))
+
+pub +total-rest-spec : {M : Type 1} → statement M
++total-rest-spec = close μ-total-rest λ t. total-rest-lts.spec (claims t)
+    (total-rest-at t)
+    total-rest.Post
+    (total-rest-tag-at-requires t)
+    (total-rest-returns t)
+    (total-rest-record-at-requires t)
+    (total-rest-count-in-requires t)
+    (total-rest-wide-requires t)
+    (total-rest-final-in-requires t)
+    (total-rest-final-in-requires-2 t)
+    (total-rest-returns-2 t)
+    (total-rest-add-size-at t)
+    (total-rest-size-at-requires t)
+    (total-rest-add-total-rest t)
+    (total-rest-total-rest-requires t)
+    (total-rest-add-total-rest-2 t)
+    (total-rest-mul-total-rest t)
+    (total-rest-add-total-rest-3 t)
+    (total-rest-total-rest-requires-2 t)
+    (total-rest-join-totals-requires t)
+    (total-rest-returns-3 t)

@@ -1,0 +1,41 @@
+-- Field by field. Assumes nothing.
+use mathlib.Core.Path.{ap₂, _∙_, ap}
+use mathlib.Core.Bool.{Bool, true, false, cond, _&&_, _||_}
+use Prim.Native.Nat.{ℕ, _+_, _≤_}
+use native.Mathlib.Omega.{arith}
+use Rattle.ends.specs.declared.Totals.{Totals}
+use borrow.Author.Needs.{needs}
+use Rattle.ends.proofs.join_totals.Statement.{statement}
+use Rattle.ends.proofs.join_totals.Tie as tie
+
+-- the totals of a construct whose right part adds k transitions and goes or not
+abbrev made : (l r : Totals) → ℕ → Bool → Totals
+made l r k b = record {
+  done = l .done && r .done;
+  endable = l .endable && r .endable;
+  count = l .count + k;
+  soon = (l .soon && r .endable) || (b && l .endable && r .soon);
+}
+
+part-few : (b : Bool) (n : ℕ) → cond b n 0 ≤ n
+part-few true n = omega arith
+part-few false n = omega arith
+
+goes-right-requires : tie.Need-goes-right-requires
+goes-right-requires c κs = search needs
+
+count-if-requires : tie.Need-count-if-requires
+count-if-requires c κs = search needs
+
+add-t8 : tie.Need-add-t8
+add-t8 c = omega (arith, c .before .count-if .ensures, part-few (c .before .before .before .before .before .before .goes-right .result) (c .before .before .before .before .before .before .before .before .args .r .count), c .before .before .before .before .before .before .before .before .pre)
+
+returns : tie.Need-returns
+returns c =
+    let l = c .before .before .before .before .before .before .before .before .before .before .before .before .args .l in
+    let r = c .before .before .before .before .before .before .before .before .before .before .before .before .args .r in
+    let e = c .before .before .before .before .before .before .before .before .before .before .goes-right .ensures in
+    ap₂ (λ (k : ℕ) (b : Bool). made l r k b) (c .before .before .before .before .before .count-if .ensures ∙ ap (λ (b : Bool). cond b (r .count) 0) e) e
+
+pub join-totals-spec : {M : Type 1} → statement M
+join-totals-spec = tie.close (tie.spec goes-right-requires count-if-requires add-t8 returns)
