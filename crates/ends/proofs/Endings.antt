@@ -12,7 +12,8 @@ use borrow.Author.Tests.{ne-eqb}
 use Rattle.records.specs.declared.Program.{Program}
 use Rattle.golog.specs.declared.State.{State}
 use Rattle.golog.specs.World.{World}
-use Rattle.golog.specs.Steps.{only, isNone}
+use Rattle.runs.specs.Guide.{only}
+use Rattle.golog.specs.Steps.{isNone}
 use Rattle.held.specs.Rest.{Rest, gone, leaf, node, largest, AllLower}
 use Rattle.held.specs.Leaves.{Move, onRest, goesRight, wrapRight, leafOf, restFinal, restSteps}
 use Rattle.held.proofs.Counts.{none-length}

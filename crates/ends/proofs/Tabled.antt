@@ -1,20 +1,19 @@
 -- What the tables of a state say of a remaining program is what it is: leaf by leaf the tables hold what the records are, and the parts
 -- of a construct add up as its transitions do. Assumes nothing.
 use mathlib.Core.Path.{_≡_, refl, sym, ap₂}
-use mathlib.Core.Bool.{_&&_}
-use mathlib.Core.List.{List·Memᴰ}
+use mathlib.Core.Bool.{Bool, _&&_}
+use mathlib.Core.List.{List}
 use Prim.Native.Nat.{ℕ, _≤_, _<_}
 use native.Mathlib.Omega.{arith}
 use lib.ListN.{length}
 use Rattle.records.specs.declared.Program.{Program}
-use Rattle.height.specs.Height.{rise}
 use Rattle.golog.specs.declared.State.{State}
 use Rattle.golog.specs.World.{World}
 use Rattle.held.specs.Rest.{Rest, gone, leaf, node, largest, high, AllLower}
-use Rattle.held.specs.Leaves.{Move, restFinal, restSteps}
-use Rattle.held.proofs.Nodes.{step-high, step-number}
+use Rattle.held.specs.Leaves.{restFinal, restSteps}
 use Rattle.held.proofs.Counts.{node-count}
 use Rattle.leaves.specs.Tallies.{finalsOf, countsOf}
+use Rattle.leaves.specs.Endable.{AreFinal}
 use Rattle.leaves.proofs.Entries.{finals-at, counts-exact}
 use Rattle.ends.specs.Ends.{finalIn, countIn, Within}
 
@@ -31,22 +30,16 @@ module _ {p : ℕ → Program} {m : ℕ} where
   unfolding largest
   within-right H = record { number = omega (arith, H .number); height = omega (arith, H .height) }
 
--- a record of the table that is low enough, to begin with
-pub within-start : {p : ℕ → Program} {m i : ℕ} → i < m → rise p i ≤ 18 → Within p m (leaf i)
-unfolding largest
-within-start h k = record { number = h; height = k }
-
--- a transition leaves what is within again
-pub within-step : (W : World) (s : State) (p : ℕ → Program) → AllLower p → {m : ℕ} {g : Rest} → Within p m g → (x : Move) → List·Memᴰ x (restSteps W s p g) → Within p m (x .1)
-within-step W s p low {m} {g} H x k = record { number = omega (arith, H .number, step-number W s p low g x k); height = omega (arith, H .height, step-high W s p low g x k) }
-
 module _ (W : World) (s : State) (p : ℕ → Program) (m : ℕ) where
-  -- it is final by the tables where it is
-  pub final-in : (g : Rest) → Within p m g → finalIn (finalsOf W s p m) g ≡ restFinal W s p g
+  -- it is final by a table of its records where it is
+  pub final-by : (finals : List Bool) → AreFinal W s p m finals → (g : Rest) → Within p m g → finalIn finals g ≡ restFinal W s p g
   unfolding finalIn restFinal
-  final-in gone H = refl
-  final-in (leaf i) H = finals-at W s p m i (within-leaf H .0)
-  final-in (node tag l r) H = ap₂ _&&_ (final-in l (within-left H)) (final-in r (within-right H))
+  final-by finals F gone H = refl
+  final-by finals F (leaf i) H = F i (within-leaf H .0)
+  final-by finals F (node tag l r) H = ap₂ _&&_ (final-by finals F l (within-left H)) (final-by finals F r (within-right H))
+
+  pub final-in : (g : Rest) → Within p m g → finalIn (finalsOf W s p m) g ≡ restFinal W s p g
+  final-in g H = final-by (finalsOf W s p m) (λ i h. finals-at W s p m i h) g H
 
   module _ (low : AllLower p) where
     -- they count its transitions

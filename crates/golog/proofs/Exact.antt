@@ -8,11 +8,13 @@ use mathlib.Core.Logic.{_⊎_, inl, inr, ⊎-elim, _↔_}
 use mathlib.Core.Option.{Option, none, some}
 use mathlib.Core.Path.{_≡_, refl, ap, _∙_}
 use lib.Dec.{T}
-use Rattle.golog.proofs.Tests.{same, and-iff, or-iff, not-iff}
+use Rattle.runs.proofs.Tests.{and-iff}
+use Rattle.golog.proofs.Tests.{same, or-iff, not-iff}
 use Rattle.golog.specs.declared.State.{State}
 use Rattle.golog.specs.World.{World, holds, possible, perform}
 use Rattle.golog.specs.Prog.{Prog, nil, act, test, seq, alt, conc, prio, star, iter, ite, while, intr}
-use Rattle.golog.specs.Steps.{Step, onProg, only, isNone, final, steps}
+use Rattle.runs.specs.Guide.{only}
+use Rattle.golog.specs.Steps.{Step, onProg, isNone, final, steps}
 use Rattle.golog.specs.Trans.{Final, Trans}
 
 -- membership in a list of steps

@@ -4,6 +4,7 @@ use Prim.Native.Nat.{ℕ}
 use mathlib.Core.Bool.{Bool, true, false, not, _&&_, _||_}
 use mathlib.Core.List.{List, [], _∷_, _++_, map}
 use mathlib.Core.Option.{Option, none, some}
+use Rattle.runs.specs.Guide.{only}
 use Rattle.golog.specs.declared.State.{State}
 use Rattle.golog.specs.World.{World, holds, possible, perform}
 use Rattle.golog.specs.Prog.{Prog, nil, act, test, seq, alt, conc, prio, star, iter, ite, while, intr}
@@ -19,11 +20,6 @@ Step = Option ℕ × Config
 -- the same move and state, with f of the remaining program
 abbrev pub onProg : (Prog → Prog) → Step → Step
 onProg f x = (x .0, (f (x .1 .0), x .1 .1))
-
--- the members of a list, where a test passes
-abbrev pub only : {A : Type 0} → Bool → List A → List A
-only true xs = xs
-only false xs = []
 
 -- a list has no member
 abbrev pub isNone : {A : Type 0} → List A → Bool

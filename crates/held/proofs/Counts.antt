@@ -13,7 +13,8 @@ use Rattle.records.specs.declared.Program.{Program}
 use Rattle.height.specs.Height.{hasTwo, rise}
 use Rattle.golog.specs.declared.State.{State}
 use Rattle.golog.specs.World.{World, holds, possible}
-use Rattle.golog.specs.Steps.{only, isNone}
+use Rattle.runs.specs.Guide.{only}
+use Rattle.golog.specs.Steps.{isNone}
 use Rattle.held.specs.Rest.{Rest, gone, leaf, node, nodes, largest, high, AllLower}
 use Rattle.held.specs.Kinds.{ownOf, usesA, usesB, countOf}
 use Rattle.held.specs.Leaves.{Move, Leaf, nilLeaf, leafWith, leafAt, leafOf, goesRight, restFinal, restSteps}

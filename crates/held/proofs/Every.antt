@@ -10,7 +10,7 @@ use Rattle.records.specs.declared.Program.{Program}
 use Rattle.height.specs.Height.{hasTwo}
 use Rattle.golog.specs.declared.State.{State}
 use Rattle.golog.specs.World.{World, holds, possible}
-use Rattle.golog.specs.Steps.{only}
+use Rattle.runs.specs.Guide.{only}
 use Rattle.held.specs.Rest.{Rest, gone, AllLower}
 use Rattle.held.specs.Kinds.{ownOf, usesA, usesB, tagA, loops, tagB}
 use Rattle.held.specs.Leaves.{Move, onRest, wrapA, wrapB, Leaf, nilLeaf, siblingA, leafWith, leafAt, leafOf}
@@ -43,13 +43,13 @@ every-at nobody k = absurd (List·Memᴰ·not-nil k)
 every-at {P} (also a p) k = ⊎-elim (λ e. subst (λ (z : Move). P (z .1)) (sym e) a) (λ k. every-at p k) (List·Memᴰ·cases-cons k)
 
 -- a record uses a part only where its kind has it
-uses-a : (kind : ℕ) (h running : Bool) → T (usesA kind h running) → T (hasA kind)
+pub uses-a : (kind : ℕ) (h running : Bool) → T (usesA kind h running) → T (hasA kind)
 unfolding usesA
 uses-a kind h running =
     by-kind (λ (kind : ℕ). T (usesA kind h running) → T (hasA kind))
     (λ t. t) (λ t. t) (λ t. t) (λ t. tt) (λ t. tt) (λ t. tt) (λ t. tt) (λ t. tt) (λ t. tt) (λ t. tt) (λ t. tt) (λ t. tt) (λ k t. absurd t) kind
 
-uses-b : (kind : ℕ) (fa h idle : Bool) → T (usesB kind fa h idle) → T (hasTwo kind)
+pub uses-b : (kind : ℕ) (fa h idle : Bool) → T (usesB kind fa h idle) → T (hasTwo kind)
 unfolding usesB
 uses-b kind fa h idle =
     by-kind (λ (kind : ℕ). T (usesB kind fa h idle) → T (hasTwo kind))

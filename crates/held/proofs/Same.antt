@@ -11,7 +11,8 @@ use Rattle.height.specs.Height.{hasTwo}
 use Rattle.golog.specs.declared.State.{State}
 use Rattle.golog.specs.World.{World, holds, possible, after}
 use Rattle.golog.specs.Prog.{Prog, seq, conc, prio, star, iter, while, intr, construct, programOf}
-use Rattle.golog.specs.Steps.{Step, onProg, only, isNone, final, steps}
+use Rattle.runs.specs.Guide.{only}
+use Rattle.golog.specs.Steps.{Step, onProg, isNone, final, steps}
 use Rattle.held.specs.Rest.{Rest, gone, leaf, node, full, AllLower}
 use Rattle.held.specs.Kinds.{finalOf, ownOf, usesA, usesB, tagA, loops, tagB}
 use Rattle.held.specs.Leaves.{Move, onRest, Leaf, nilLeaf, leafWith, leafAt, leafOf, restFinal, restSteps, Held, movesHeld, finalHeld, fullStep}

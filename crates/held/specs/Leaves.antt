@@ -10,7 +10,8 @@ use Rattle.records.specs.declared.Program.{Program}
 use Rattle.records.specs.Table.{entryOf}
 use Rattle.golog.specs.declared.State.{State}
 use Rattle.golog.specs.World.{World, holds, possible, after}
-use Rattle.golog.specs.Steps.{Step, only, isNone}
+use Rattle.runs.specs.Guide.{only}
+use Rattle.golog.specs.Steps.{Step, isNone}
 use Rattle.held.specs.Rest.{Rest, gone, leaf, node, full}
 use Rattle.held.specs.Kinds.{finalOf, ownOf, usesA, usesB, tagA, loops, tagB}
 

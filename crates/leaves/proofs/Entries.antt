@@ -17,22 +17,15 @@ use Rattle.golog.specs.World.{World, holds}
 use Rattle.held.specs.Rest.{AllLower}
 use Rattle.held.specs.Leaves.{Leaf, nilLeaf, leafAt, leafOf}
 use Rattle.held.specs.Kinds.{usesA}
-use Rattle.held.proofs.Columns.{by-kind}
 use Rattle.held.proofs.Counts.{leaf-few}
-use Rattle.held.proofs.Entries.{hasA, lower-a, rise-a}
+use Rattle.held.proofs.Entries.{lower-a, rise-a}
+use Rattle.held.proofs.Every.{uses-a}
 use Rattle.leaves.specs.Tallies.{cap, counted, finalsOf, countsOf, SeesRecord, firstBy}
 use Rattle.leaves.proofs.Seen.{first-seen}
 
 where-used : (b : Bool) (x y : ℕ) → (T b → x ≡ y) → cond b x 0 ≡ cond b y 0
 where-used true x y e = e tt
 where-used false x y e = refl
-
--- a kind that uses its part a has one
-first-has : (kind : ℕ) (h running : Bool) → T (usesA kind h running) → T (hasA kind)
-unfolding usesA
-first-has kind h running =
-    by-kind (λ (k : ℕ). T (usesA k h running) → T (hasA k))
-    (λ t. absurd t) (λ t. absurd t) (λ t. absurd t) (λ t. tt) (λ t. tt) (λ t. tt) (λ t. tt) (λ t. tt) (λ t. tt) (λ t. tt) (λ t. tt) (λ t. tt) (λ k t. absurd t) kind
 
 module _ (W : World) (s : State) (p : ℕ → Program) where
   pub finals-at : (m i : ℕ) → i < m → getD (finalsOf W s p m) i true ≡ leafOf W s p i .final
@@ -62,5 +55,5 @@ module _ (W : World) (s : State) (p : ℕ → Program) where
   first-exact low m i h k S e =
       let used : Bool = usesA (p i .kind) (holds W (p i .c) s) (s .running) in
       let exact : T used → getD (countsOf W s p m) (p i .a) 0 ≡ length (leafOf W s p (p i .a) .steps) =
-      λ t. let u = first-has (p i .kind) (holds W (p i .c) s) (s .running) t in counts-exact low m (p i .a) (omega (arith, lower-a p low i u)) (omega (arith, rise-a p low i u)) in
+      λ t. let u = uses-a (p i .kind) (holds W (p i .c) s) (s .running) t in counts-exact low m (p i .a) (omega (arith, lower-a p low i u)) (omega (arith, rise-a p low i u)) in
       rw (← e) (ap (λ (b : Bool). cond b (getD (countsOf W s p m) (p i .a) 0) 0) (first-seen S (s .running)) ∙ where-used used _ _ exact)

@@ -19,21 +19,21 @@ use Rattle.held.proofs.Columns.{by-kind}
 use Rattle.leaves.specs.Endable.{endableOf, endableBy, Endable}
 
 -- x is true only where y is
-abbrev Under : Bool → Bool → Type 0
+abbrev pub Under : Bool → Bool → Type 0
 Under x y = x ≡ true → y ≡ true
 
-both : (x y u v : Bool) → Under x u → Under y v → Under (x && y) (u && v)
+pub both : (x y u v : Bool) → Under x u → Under y v → Under (x && y) (u && v)
 both true y u v p q e = ap (λ (z : Bool). z && v) (p refl) ∙ q e
 both false y u v p q e = cc
 
 left : (u v : Bool) → u ≡ true → (u || v) ≡ true
 left u v a = ap (λ (z : Bool). z || v) a
 
-right : (u v : Bool) → v ≡ true → (u || v) ≡ true
+pub right : (u v : Bool) → v ≡ true → (u || v) ≡ true
 right true v a = refl
 right false v a = a
 
-either : (x y u v : Bool) → Under x u → Under y v → Under (x || y) (u || v)
+pub either : (x y u v : Bool) → Under x u → Under y v → Under (x || y) (u || v)
 either true y u v p q e = left u v (p refl)
 either false y u v p q e = right u v (q e)
 

@@ -1,13 +1,15 @@
--- Which records may be final in some state: what can be told without looking at one. Assumes nothing.
-use Prim.Native.Nat.{ℕ, _<_}
+-- Which records may be final in some state, and which are in every one: what can be told without looking at one, so that only the
+-- others are looked at in each. Assumes nothing.
+use Prim.Native.Nat.{ℕ, _≤_, _<_}
 use mathlib.Core.Path.{_≡_}
-use mathlib.Core.Bool.{Bool, true, false, _&&_, _||_}
+use mathlib.Core.Bool.{Bool, true, false, not, _&&_, _||_}
 use mathlib.Core.List.{List, [], _∷_}
 use lib.ListN.{getD}
 use Rattle.records.specs.declared.Program.{Program}
 use Rattle.golog.specs.declared.State.{State}
 use Rattle.golog.specs.World.{World}
 use Rattle.held.specs.Leaves.{leafOf}
+use Rattle.leaves.specs.Tallies.{Sees}
 
 -- by kind: ea, eb, its parts may be
 unfoldable pub endableOf : (kind : ℕ) (ea eb : Bool) → Bool
@@ -23,3 +25,39 @@ endableBy r endable = endableOf (r .kind) (getD endable (r .a) true) (getD endab
 -- of the first m records of p, each that is final in some state is marked
 abbrev pub Endable : (p : ℕ → Program) (m : ℕ) (endable : List Bool) → Type 0
 Endable p m endable = (W : World) (s : State) (i : ℕ) → i < m → leafOf W s p i .final ≡ true → getD endable i true ≡ true
+
+-- by kind: sa, sb, its parts are final in every state
+unfoldable pub sureOf : (kind : ℕ) (sa sb : Bool) → Bool
+sureOf kind sa sb =
+    getD
+    (true ∷ false ∷ false ∷ (sa && sb) ∷ (sa || sb) ∷ true ∷ (sa && sb) ∷ sa ∷ (sa && sb) ∷ (sa && sb) ∷ true ∷ false ∷ [])
+    kind true
+
+-- by what is tabled of lower records
+unfoldable pub sureBy : Program → (sure : List Bool) → Bool
+sureBy r sure = sureOf (r .kind) (getD sure (r .a) true) (getD sure (r .b) true)
+
+-- of the first m records of p, each that is marked is final in every state
+abbrev pub Sure : (p : ℕ → Program) (m : ℕ) (sure : List Bool) → Type 0
+Sure p m sure = (W : World) (s : State) (i : ℕ) → i < m → getD sure i true ≡ true → leafOf W s p i .final ≡ true
+
+-- whether the finality of record i depends on the state: in some it may be final, and not in every one
+abbrev pub doubtBy : (endable sure : List Bool) (i : ℕ) → Bool
+doubtBy endable sure i = getD endable i true && not (getD sure i true)
+
+-- record i is as final as `endable` says, in every state
+abbrev pub Settled : (p : ℕ → Program) (endable : List Bool) (i : ℕ) → Type 0
+Settled p endable i = (W : World) (s : State) → leafOf W s p i .final ≡ getD endable i true
+
+-- from record i on, those up to skips[i] are settled, of the first m
+pub record Skips (p : ℕ → Program) (m : ℕ) (endable : List Bool) (skips : List ℕ) : Type 0 where
+  pub onward : (i : ℕ) → i ≤ m → i ≤ getD skips i m
+  pub settled : (i a : ℕ) → i ≤ a → a < getD skips i m → a < m → Settled p endable a
+
+-- the table says of each of the first m records whether it is final in the state s
+abbrev pub AreFinal : World → State → (p : ℕ → Program) (m : ℕ) (finals : List Bool) → Type 0
+AreFinal W s p m finals = (i : ℕ) → i < m → getD finals i true ≡ leafOf W s p i .final
+
+-- so of every state that `held`, some `can` and `running` say
+abbrev pub Decides : (p : ℕ → Program) (m : ℕ) (held : List Bool) (running : Bool) (finals : List Bool) → Type 0
+Decides p m held running finals = (W : World) (s : State) (can : ℕ → Bool) → Sees W s p m held can running → AreFinal W s p m finals

@@ -1,22 +1,16 @@
 // Tables over the program records, each by one pass: for a state, whether each record is final and how many transitions it has; and for
-// every state at once, whether it may be final.
+// every state at once, whether it may be final, whether it surely is, and which records depend on the state.
 ghost use mathlib.Core.Path.{_≡_};
-ghost use mathlib.Core.Bool.{false, true, not, cond, _&&_, _||_};
+ghost use mathlib.Core.Bool.{true, not, cond, _&&_, _||_};
 ghost use Prim.Native.Nat.{_+_, _*_, _≤_, _<_, min};
 ghost use lib.ListN.{length, getD, replicate};
 ghost use Rattle.records.specs.Records.{programAt};
 ghost use Rattle.held.specs.Kinds.{usesA};
+ghost use Rattle.held.specs.Rest.{AllLower};
 ghost use Rattle.held.specs.Extended.{empty, virtual, table};
 ghost use Rattle.leaves.specs.Tallies.{cap, places, possibleIn, Tallied, finalBy, countBy, firstBy};
-ghost use Rattle.leaves.specs.Endable.{endableBy, Endable};
+ghost use Rattle.leaves.specs.Endable.{endableBy, Endable, sureBy, Sure, doubtBy, Skips, Decides};
 use records::Program;
-
-// What stands in a list of truths, false past its end.
-fn held_in(held: &[bool], q: usize) -> bool
-    ensures { λ r. ⌜ r ≡ getD (now (held .entry)) q false ⌝ }
-{
-    if q < held.len() { held[q] } else { false }
-}
 
 // Whether record a is final: past the end stands nil, which is.
 pub fn final_in(finals: &[bool], a: usize) -> bool
@@ -42,7 +36,7 @@ fn possible_in(actions: &[u8], na: usize, held: &[bool], a: usize) -> bool
     }
     if a < na {
         let r = records::action_at(actions, a);
-        return held_in(held, r.precondition);
+        return records::holds_in(held, r.precondition);
     }
     false
 }
@@ -130,14 +124,14 @@ fn final_at(r: Program, held: &[bool], running: bool, finals: &[bool]) -> bool
         3 => both_final(finals, r.a, r.b),
         4 => final_in(finals, r.a) | final_in(finals, r.b),
         6 => choice(
-            held_in(held, r.c),
+            records::holds_in(held, r.c),
             final_in(finals, r.a),
             final_in(finals, r.b),
         ),
-        7 => !held_in(held, r.c) | final_in(finals, r.a),
+        7 => !records::holds_in(held, r.c) | final_in(finals, r.a),
         8 => both_final(finals, r.a, r.b),
         9 => both_final(finals, r.a, r.b),
-        11 => !running | held_in(held, r.c) & final_in(finals, r.a),
+        11 => !running | records::holds_in(held, r.c) & final_in(finals, r.a),
         _ => true,
     }
 }
@@ -183,7 +177,7 @@ fn total_at(
     let kind = r.kind;
     match kind {
         1 => one_if(possible_in(actions, na, held, r.a)),
-        2 => one_if(held_in(held, r.a)),
+        2 => one_if(records::holds_in(held, r.a)),
         3 => both_if(
             final_in(finals, r.a),
             count_in(counts, r.a),
@@ -192,17 +186,20 @@ fn total_at(
         4 | 8 => both_if(true, count_in(counts, r.a), count_in(counts, r.b)),
         5 | 10 => part(true, count_in(counts, r.a)),
         6 => either(
-            held_in(held, r.c),
+            records::holds_in(held, r.c),
             count_in(counts, r.a),
             count_in(counts, r.b),
         ),
-        7 => part(held_in(held, r.c), count_in(counts, r.a)),
+        7 => part(records::holds_in(held, r.c), count_in(counts, r.a)),
         9 => both_if(
             count_in(counts, r.a) == 0,
             count_in(counts, r.a),
             count_in(counts, r.b),
         ),
-        11 => part(running & held_in(held, r.c), count_in(counts, r.a)),
+        11 => part(
+            running & records::holds_in(held, r.c),
+            count_in(counts, r.a),
+        ),
         _ => 0,
     }
 }
@@ -235,8 +232,8 @@ fn places_of(n: usize, interrupts: bool) -> usize
     if interrupts { n + 4 } else { n }
 }
 
-// Fills the tables of the state that `held`, the actions and `running` say, one place for each record of the table that runs: one pass
-// upwards, since a record names lower ones only.
+// Fills the tables of the state that `held`, the actions and `running` say, one place for each record of the table that runs, where `done`
+// tells which are final: one pass upwards, since a record names lower ones only.
 pub fn tallies(
     programs: &[u8],
     n: usize,
@@ -245,10 +242,12 @@ pub fn tallies(
     na: usize,
     held: &[bool],
     running: bool,
+    done: &[bool],
     finals: &mut [bool],
     counts: &mut [u32],
 )
     requires { ⌜ (8 * n ≤ length (now programs)) × (1 ≤ n) × (n ≤ 256) × (6 * na ≤ length (now actions)) ⌝ }
+    requires { ⌜ Decides (table interrupts (programAt (now programs)) n) (places interrupts n) (now held) running (now done) ⌝ }
     requires { ⌜ (now finals ≡ replicate 260 true) × (now counts ≡ replicate 260 0) ⌝ }
     ensures { λ _. ⌜ Tallied (table interrupts (programAt (now (programs .entry))) n) (places interrupts n) (now (held .entry)) (possibleIn (now (actions .entry)) na (now (held .entry))) running (now (finals .exit)) (now (counts .exit)) ⌝ }
 {
@@ -256,9 +255,8 @@ pub fn tallies(
     let mut i = 0;
     while i < m {
         let r = record_at(programs, n, interrupts, i);
-        let f = final_at(r, held, running, finals);
         let k = count_at(r, actions, na, held, running, finals, counts);
-        finals[i] = f;
+        finals[i] = final_in(done, i);
         counts[i] = k;
         i += 1;
     }
@@ -284,7 +282,7 @@ fn endable_at(r: Program, endable: &[bool]) -> bool
 // Whether each record of the table that runs may be final in some state.
 pub fn endables(programs: &[u8], n: usize, interrupts: bool) -> [bool; 260]
     requires { ⌜ (8 * n ≤ length (now programs)) × (1 ≤ n) × (n ≤ 256) ⌝ }
-    ensures { λ r. ⌜ Endable (table interrupts (programAt (now (programs .entry))) n) (places interrupts n) r ⌝ }
+    ensures { λ r. ⌜ Endable (table interrupts (programAt (now (programs .entry))) n) (places interrupts n) r × (length r ≡ 260) ⌝ }
 {
     let m = places_of(n, interrupts);
     let mut endable = [true; 260];
@@ -296,6 +294,102 @@ pub fn endables(programs: &[u8], n: usize, interrupts: bool) -> [bool; 260]
         i += 1;
     }
     endable
+}
+
+// Whether a record is final in every state, from those before it.
+fn sure_at(r: Program, sure: &[bool]) -> bool
+    ensures { λ f. ⌜ f ≡ sureBy r (now (sure .entry)) ⌝ }
+{
+    let kind = r.kind;
+    match kind {
+        1 => false,
+        2 => false,
+        3 => both_final(sure, r.a, r.b),
+        4 => final_in(sure, r.a) | final_in(sure, r.b),
+        6 => both_final(sure, r.a, r.b),
+        7 => final_in(sure, r.a),
+        8 => both_final(sure, r.a, r.b),
+        9 => both_final(sure, r.a, r.b),
+        11 => false,
+        _ => true,
+    }
+}
+
+// Which records of the table that runs are final in every state.
+fn sures(programs: &[u8], n: usize, interrupts: bool) -> [bool; 260]
+    requires { ⌜ (8 * n ≤ length (now programs)) × (1 ≤ n) × (n ≤ 256) ⌝ }
+    requires { ⌜ AllLower (table interrupts (programAt (now programs)) n) ⌝ }
+    ensures { λ r. ⌜ Sure (table interrupts (programAt (now (programs .entry))) n) (places interrupts n) r ⌝ }
+{
+    let m = places_of(n, interrupts);
+    let mut sure = [true; 260];
+    let mut i = 0;
+    while i < m {
+        let r = record_at(programs, n, interrupts, i);
+        let f = sure_at(r, &sure);
+        sure[i] = f;
+        i += 1;
+    }
+    sure
+}
+
+// Whether a record's finality depends on the state.
+fn doubt_at(endable: &[bool], sure: &[bool], i: usize) -> bool
+    ensures { λ r. ⌜ r ≡ doubtBy (now (endable .entry)) (now (sure .entry)) i ⌝ }
+{
+    final_in(endable, i) & !final_in(sure, i)
+}
+
+// From each record on, the first whose finality depends on the state.
+pub fn skips(programs: &[u8], n: usize, interrupts: bool, endable: &[bool]) -> [usize; 261]
+    requires { ⌜ (8 * n ≤ length (now programs)) × (1 ≤ n) × (n ≤ 256) ⌝ }
+    requires { ⌜ AllLower (table interrupts (programAt (now programs)) n) × Endable (table interrupts (programAt (now programs)) n) (places interrupts n) (now endable) ⌝ }
+    ensures { λ r. ⌜ Skips (table interrupts (programAt (now (programs .entry))) n) (places interrupts n) (now (endable .entry)) r ⌝ }
+{
+    let m = places_of(n, interrupts);
+    let sure = sures(programs, n, interrupts);
+    let mut skips = [m; 261];
+    let mut first = m;
+    let mut i = m;
+    while 0 < i {
+        i -= 1;
+        if doubt_at(endable, &sure, i) {
+            first = i;
+        }
+        skips[i] = first;
+    }
+    skips
+}
+
+// The first record from i on whose finality depends on the state: past the end there is none.
+fn skip_in(skips: &[usize], i: usize, m: usize) -> usize
+    ensures { λ r. ⌜ r ≡ getD (now (skips .entry)) i m ⌝ }
+{
+    if i < skips.len() { skips[i] } else { m }
+}
+
+// Fills in which records are final in the state that `held` and `running` say: only those that depend on it are looked at.
+pub fn finals_in(
+    programs: &[u8],
+    n: usize,
+    interrupts: bool,
+    skips: &[usize],
+    held: &[bool],
+    running: bool,
+    finals: &mut [bool],
+)
+    requires { ⌜ (8 * n ≤ length (now programs)) × (1 ≤ n) × (n ≤ 256) ⌝ }
+    requires { ⌜ AllLower (table interrupts (programAt (now programs)) n) × Skips (table interrupts (programAt (now programs)) n) (places interrupts n) (now finals) (now skips) × (length (now finals) ≡ 260) ⌝ }
+    ensures { λ _. ⌜ Decides (table interrupts (programAt (now (programs .entry))) n) (places interrupts n) (now (held .entry)) running (now (finals .exit)) ⌝ }
+{
+    let m = places_of(n, interrupts);
+    let mut i = skip_in(skips, 0, m);
+    while i < m {
+        let r = record_at(programs, n, interrupts, i);
+        let f = final_at(r, held, running, finals);
+        finals[i] = f;
+        i = skip_in(skips, i + 1, m);
+    }
 }
 
 fn uses_first(kind: usize, h: bool, running: bool) -> bool
@@ -320,7 +414,7 @@ pub fn first_count(r: Program, held: &[bool], running: bool, counts: &[u32]) -> 
     ensures { λ k. ⌜ (k ≡ firstBy r (now (held .entry)) running (now (counts .entry))) × (k < 4294967296) ⌝ }
 {
     let k = part(
-        uses_first(r.kind, held_in(held, r.c), running),
+        uses_first(r.kind, records::holds_in(held, r.c), running),
         count_in(counts, r.a),
     );
     k as usize

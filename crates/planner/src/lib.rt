@@ -1,10 +1,7 @@
 // The library's face: check, plan, replay, look up, notes. No call has a `requires`.
 ghost use mathlib.Core.Path.{_≡_};
-ghost use Prim.Native.Nat.{ℕ};
-ghost use mathlib.Core.List.{List};
 ghost use lib.ListN.{length};
 ghost use denote.Ref.{ptr};
-ghost use Rattle.runs.specs.Search.{Verdict};
 ghost use Rattle.sheet.specs.Check.{checkOf, numberOf, placeOf};
 ghost use Rattle.sheet.specs.Notes.{notesOf};
 ghost use Rattle.sheet.specs.declared.Checked.the-variants.{Accepted};

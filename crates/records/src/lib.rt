@@ -1,7 +1,8 @@
-// One record of each of a sheet's five tables, read from the table's bytes.
+// One record of each of a sheet's five tables, read from the table's bytes; and what a table of truths says of a formula record.
 ghost use mathlib.Core.Path.{_≡_};
+ghost use mathlib.Core.Bool.{false};
 ghost use Prim.Native.Nat.{_+_, _*_, _≤_, _<_};
-ghost use lib.ListN.{length};
+ghost use lib.ListN.{length, getD};
 ghost use Rattle.records.specs.Bytes.{le16, le32};
 ghost use Rattle.records.specs.Records.{fluentAt, formulaAt, effectAt, actionAt, programAt};
 
@@ -128,4 +129,11 @@ pub fn program_at(t: &[u8], i: usize) -> Program
     let b = read16(t, at + 4);
     let c = read16(t, at + 6);
     Program { kind, a, b, c }
+}
+
+// What a table of truths says of formula q, false past its end.
+pub fn holds_in(held: &[bool], q: usize) -> bool
+    ensures { λ r. ⌜ r ≡ getD (now (held .entry)) q false ⌝ }
+{
+    if q < held.len() { held[q] } else { false }
 }

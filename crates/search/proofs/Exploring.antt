@@ -11,25 +11,28 @@ use mathlib.Core.Path.{_≡_, refl, sym, _∙_, ap, ap₂, subst}
 use lib.Dec.{eqb}
 use borrow.Author.Tests.{ne-eqb}
 use lib.ListN.{length, length-map}
+use Rattle.sheet.specs.Layout.{layoutOf}
+use Rattle.state.specs.Truths as truths
 use Rattle.golog.specs.declared.State.{State}
 use Rattle.golog.specs.World.{after}
-use Rattle.runs.specs.Search.{Verdict, plan, nothing, more, isPlan, orMore, anyStep, tries, unless}
+use Rattle.runs.specs.Search.{Verdict, plan, nothing, more, isPlan, anyStep, tries, unless}
 use Rattle.runs.specs.Guide.{isNil, movesG}
 use Rattle.held.specs.Rest.{Rest}
 use Rattle.held.specs.Leaves.{Move, Held, restFinal, restSteps, movesHeld, finalHeld}
 use Rattle.demands.specs.Decoded.{worldOf}
 use Rattle.demands.specs.Held.{heldRecords}
 use Rattle.ends.specs.Ends.{finalIn, countIn, soonIn}
-use Rattle.ends.proofs.Tabled.{final-in, count-in}
-use Rattle.ends.proofs.Endings.{final-endable, soon-in}
+use Rattle.ends.proofs.Tabled.{final-by, final-in, count-in}
+use Rattle.ends.proofs.Endings.{soon-in}
 use Rattle.search.specs.Outcome.{join, flagged, told, Says, Reported}
-use Rattle.search.specs.Frames.{Marks, Ready, Surveyed, outcomeOf, branchesOf}
+use Rattle.search.specs.Frames.{Tasked, MayEnd, Settles, Placed, Ready, Surveyed, outcomeOf, branchesOf, lastOf}
 use Rattle.search.specs.declared.Task.{Task}
 use Rattle.search.specs.declared.Place.{Place}
 use Rattle.search.specs.declared.Outcome.{Outcome}
 use Rattle.search.specs.declared.Outcome.the-variants as o
-use Rattle.search.proofs.Outcomes.{final-plan, next-plan}
-use Rattle.search.proofs.Tried.{says-flag}
+use Rattle.search.proofs.Seen.{sees}
+use Rattle.search.proofs.Outcomes.{plan-any, next-plan}
+use Rattle.search.proofs.Tried.{says-flag, more-reported}
 
 module _
     {s w : List ℕ} {t : Task} {q : Place} {g : Rest} {st : State} {held finals : List Bool} {counts : List ℕ}
@@ -60,26 +63,7 @@ flag-flag true true = refl
 flag-flag true false = refl
 flag-flag false b = refl
 
--- beside a run in which the bound ran out, what has no plan comes to more
-no-plan : (cut : Bool) (v : Verdict) → cut ≡ true → isPlan v ≡ false → join (flagged cut) v ≡ more
-no-plan cut v e h = ap (λ (b : Bool). join (flagged b) v) e ∙ go v h
-  where
-    go : (v : Verdict) → isPlan v ≡ false → orMore v ≡ more
-    go (plan h t) e = cc
-    go nothing e = refl
-    go more e = refl
-
 module _ (s : List ℕ) (free : Bool) (st : State) (g : Rest) (moves : List ℕ) (n d : ℕ) (trace : List ℕ) (cut : Bool) where
-  -- the answer more, by a verdict that is no plan
-  more-said : (left : ℕ) → cut ≡ true → isPlan (outcomeOf s free left ((g, st), moves)) ≡ false → Reported n d trace trace o.More (join (flagged cut) (outcomeOf s free left ((g, st), moves)))
-  more-said left e h = record { says = subst (Says n d trace trace o.More) (sym (no-plan cut _ e h)) (refl, refl) }
-
-  -- at the bound, with a remaining program that is not final
-  pub ends-here : (left : ℕ) → cut ≡ true → left ≡ 0 → restFinal (worldOf s) st (heldRecords s) g ≡ false → Reported n d trace trace o.More (join (flagged cut) (outcomeOf s free left ((g, st), moves)))
-  ends-here left e z f =
-      more-said left e
-      (ap (λ (k : ℕ). isPlan (outcomeOf s free k ((g, st), moves))) z ∙ final-plan (movesHeld (worldOf s) (heldRecords s)) (finalHeld (worldOf s) (heldRecords s)) free (g, st) moves f)
-
   module _ (x : Bool) (e : x ≡ (isNil moves && restFinal (worldOf s) st (heldRecords s) g)) where
     here : (left : ℕ) → x ≡ true → outcomeOf s free left ((g, st), moves) ≡ plan [] 0
     here zero y = ap (λ (b : Bool). unless b (anyStep (movesHeld (worldOf s) (heldRecords s) (g, st)))) (sym e ∙ y)
@@ -93,6 +77,18 @@ module _ (s : List ℕ) (free : Bool) (st : State) (g : Rest) (moves : List ℕ)
               subst (Says n d trace trace (o.Found n d)) (sym (ap (join (flagged cut)) (here left y) ∙ plan-stays cut))
               (ap₂ o.Found (sym (add-zero n)) (sym (add-zero d)), refl);
         }
+
+    -- at the bound, where the bound ran out before
+    pub at-last : (q : Place) → q .n ≡ n → q .d ≡ d → cut ≡ true → (left : ℕ) → left ≡ 0 → Reported n d trace trace (lastOf x q) (join (flagged cut) (outcomeOf s free left ((g, st), moves)))
+    at-last q en ed c left z = go x refl
+      where
+        go : (b : Bool) → x ≡ b → Reported n d trace trace (lastOf b q) (join (flagged cut) (outcomeOf s free left ((g, st), moves)))
+        go true y = subst (λ (o : Outcome). Reported n d trace trace o (join (flagged cut) (outcomeOf s free left ((g, st), moves)))) (ap₂ o.Found (sym en) (sym ed)) (over left y)
+        go false y =
+            more-reported n d trace cut _ c
+            (ap (λ (k : ℕ). isPlan (outcomeOf s free k ((g, st), moves))) z
+            ∙ ap (λ (b : Bool). isPlan (unless b (anyStep (movesHeld (worldOf s) (heldRecords s) (g, st))))) (sym e ∙ y)
+            ∙ plan-any (movesHeld (worldOf s) (heldRecords s) (g, st)))
 
     -- at the bound, with so many transitions
     pub at-bound : (left count : ℕ) → x ≡ false → left ≡ 0 → count ≡ length (restSteps (worldOf s) st (heldRecords s) g) → Reported n d trace trace (told (cut || not (eqb count 0))) (join (flagged cut) (outcomeOf s free left ((g, st), moves)))
@@ -126,7 +122,7 @@ module _ (s : List ℕ) (free : Bool) (st : State) (g : Rest) (moves : List ℕ)
         let v : isPlan (branchesOf s free 1 (g, st) moves) ≡ false =
         next-plan (movesHeld W p) (finalHeld W p) free moves (movesHeld W p (g, st))
         (λ x k. let r = Memᴰ·of-map (λ (x : Move). (x .0, (x .1, after W (x .0) st))) (restSteps W st p g) k in ap (λ (q : Option ℕ × Held). finalHeld W p (q .1)) (sym (r .2)) ∙ h (r .0) (r .1) _) in
-        more-said left c (ap isPlan (onward left y (omega arith)) ∙ ap (λ (k : ℕ). isPlan (branchesOf s free k (g, st) moves)) z ∙ v)
+        more-reported n d trace cut _ c (ap isPlan (onward left y (omega arith)) ∙ ap (λ (k : ℕ). isPlan (branchesOf s free k (g, st) moves)) z ∙ v)
 
 is-false : (b : Bool) → (b ≡ true → ⊥) → b ≡ false
 is-false true h = absurd (h refl)
@@ -135,15 +131,18 @@ is-false false h = refl
 differ : (b : Bool) → b ≡ true → b ≡ false → ⊥
 differ b y z = let q : _≡_ {A = ℕ} 0 1 = let p : true ≡ false = sym y ∙ z in cc in omega arith
 
--- what the table of what may be final tells
-module _ {s w : List ℕ} {t : Task} {q : Place} {g : Rest} (endable : List Bool) (M : Marks s endable) (R : Ready s w t q g) (st : State) where
-  pub never-final : finalIn endable g ≡ false → restFinal (worldOf s) st (heldRecords s) g ≡ false
-  never-final z = is-false _ (λ f. differ _ (final-endable (worldOf s) (heldRecords s) _ endable M st g (R .roomy .within) f) z)
+-- what the table of what is final tells
+pub settled-final :
+    {s w : List ℕ} {t : Task} {q : Place} {g : Rest} {held : List Bool} (done : List Bool) (st : State) → Tasked s t → Ready s w t q g → truths.Held (worldOf s) st (layoutOf s .q) held
+    → Settles s held (st .running) done → finalIn done g ≡ restFinal (worldOf s) st (heldRecords s) g
+settled-final {s} {g = g} {held} done st T R H D = final-by (worldOf s) st (heldRecords s) _ done (D (worldOf s) st _ (sees s (T .accepted) st held H)) g (R .roomy .within)
 
+-- what the table of what may be final tells
+module _ (s : List ℕ) {g : Rest} (endable : List Bool) (M : MayEnd s endable) (H : Placed s g) (st : State) where
   pub never-next :
       {held finals : List Bool} {counts : List ℕ} → Surveyed s st held finals counts → soonIn finals endable counts g ≡ false
       → (y : Move) → List·Memᴰ y (restSteps (worldOf s) st (heldRecords s) g) → (t : State) → restFinal (worldOf s) t (heldRecords s) (y .1) ≡ false
   never-next S z y k t =
       let c = S .tabled .counted in
       let e = ap₂ (λ (l : List Bool) (k : List ℕ). soonIn l endable k g) (S .tabled .finals-are) (c .counts-are) in
-      is-false _ (λ f. differ _ (soon-in (worldOf s) (heldRecords s) _ endable M (c .lower) st g (R .roomy .within) y k t f) (sym e ∙ z))
+      is-false _ (λ f. differ _ (soon-in (worldOf s) (heldRecords s) _ endable M (c .lower) st g H y k t f) (sym e ∙ z))

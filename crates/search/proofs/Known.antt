@@ -12,7 +12,8 @@ use Rattle.records.specs.declared.Program.{Program}
 use Rattle.records.specs.Table.{upTo, entryOf}
 use Rattle.golog.specs.declared.State.{State}
 use Rattle.golog.specs.World.{World, holds, possible}
-use Rattle.golog.specs.Steps.{only, isNone}
+use Rattle.runs.specs.Guide.{only}
+use Rattle.golog.specs.Steps.{isNone}
 use Rattle.search.specs.Moves.{Known}
 use Rattle.held.specs.Rest.{Rest, gone, leaf, node}
 use Rattle.held.specs.Kinds.{ownOf, usesA, usesB, tagA, tagB}

@@ -54,7 +54,7 @@ plan-join more (plan h t) e f = f
 plan-join more nothing e f = refl
 plan-join more more e f = refl
 
-plan-any : {C : Type 0} (xs : List (Option ℕ × C)) → isPlan (anyStep xs) ≡ false
+pub plan-any : {C : Type 0} (xs : List (Option ℕ × C)) → isPlan (anyStep xs) ≡ false
 plan-any [] = refl
 plan-any (x ∷ xs) = refl
 
@@ -78,7 +78,7 @@ module _ {C : Type 0} (moves : C → List (Option ℕ × C)) (fin : C → Bool) 
       (λ d. outcome-plan k d) (movesG free moves c))
 
   -- at the bound, and one transition before it, there is no plan where nothing final is reached
-  pub final-plan : (c : C) (g : List ℕ) → fin c ≡ false → isPlan (outcome moves fin free 0 (c, g)) ≡ false
+  final-plan : (c : C) (g : List ℕ) → fin c ≡ false → isPlan (outcome moves fin free 0 (c, g)) ≡ false
   final-plan c g e = go (isNil g) (fin c) e ∙ plan-any (moves c)
     where
       go : (a b : Bool) → b ≡ false → isPlan (unless (a && b) (anyStep (moves c))) ≡ isPlan (anyStep (moves c))

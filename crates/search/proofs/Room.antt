@@ -9,6 +9,8 @@ use mathlib.Core.Option.{some}
 use mathlib.Core.Path.{_≡_, sym, _∙_, ap, ap₂, subst}
 use lib.Dec.{lit≤}
 use lib.ListN.{length, getElem?}
+use Rattle.records.specs.Records.{programAt}
+use Rattle.records.specs.declared.Program.{Program}
 use Rattle.sheet.specs.Layout.{layoutOf, programsIn}
 use Rattle.sheet.specs.declared.Layout.{Layout}
 use Rattle.golog.specs.declared.State.{State}
@@ -19,7 +21,7 @@ use Rattle.held.proofs.Nodes.{step-nodes, step-high, step-number}
 use Rattle.height.specs.Work.{levels, frameWords, workWords}
 use Rattle.sheet.specs.Check.{Accepts}
 use Rattle.sheet.proofs.Accepted.{ruled, laid}
-use Rattle.held.specs.Extended.{top}
+use Rattle.held.specs.Extended.{table, top}
 use Rattle.demands.specs.Decoded.{worldOf, interruptsIn, boundOf}
 use Rattle.demands.specs.Held.{heldRecords, heldFirst, levelsOf}
 use Rattle.demands.proofs.Held.{all-lower, top-levels}
@@ -217,3 +219,15 @@ first-ready {s} {w} {t} {q} T ef el ea eq a =
             within = record { number = top-inside (interruptsIn s) (layoutOf s .p) (f .some-record); height = omega (arith, top-high, low) };
           };
     }
+
+-- the table that runs, by a layout and whether there are interrupts
+abbrev pub runs : List ℕ → Layout → Bool → ℕ → Program
+runs s l b = table b (programAt (programsIn s l)) (l .p)
+
+-- what holds of a sheet's layout and interrupts holds of those that a task names, and the other way
+module _ {s : List ℕ} {t : Task} (T : Tasked s t) (X : Layout → Bool → Type 0) where
+  pub by-task : X (layoutOf s) (interruptsIn s) → X (t .layout) (t .interrupts)
+  by-task x = subst (λ (l : Layout). X l (t .interrupts)) (sym (T .layout-is)) (subst (X (layoutOf s)) (sym (T .interrupts-are)) x)
+
+  pub of-task : X (t .layout) (t .interrupts) → X (layoutOf s) (interruptsIn s)
+  of-task x = subst (X (layoutOf s)) (T .interrupts-are) (subst (λ (l : Layout). X l (t .interrupts)) (T .layout-is) x)

@@ -9,12 +9,12 @@ use mathlib.Core.List.{List, [], _∷_}
 use mathlib.Core.Option.{Option, none, some}
 use mathlib.Core.Path.{_≡_, refl, sym, _∙_, ap, ap₂, subst}
 use lib.ListN.{length, drop, set, getElem?, drop-of-length-le}
-use Rattle.runs.specs.Search.{Verdict, plan, nothing, more, orMore, before, tries}
+use Rattle.runs.specs.Search.{Verdict, plan, nothing, more, isPlan, orMore, before, tries}
 use Rattle.runs.specs.Guide.{only, follow1, follow}
 use Rattle.search.specs.Outcome.{join, flagged, Says, Reported, isFound, isMore, told}
 use Rattle.search.specs.Moves.{passes, leftOver, entries, noted}
 use Rattle.search.specs.declared.Outcome.{Outcome}
-use Rattle.search.specs.declared.Outcome.the-variants.{Found}
+use Rattle.search.specs.declared.Outcome.the-variants.{Found, More}
 use Rattle.search.proofs.Outcomes.{tries-append}
 
 nth-drop : {A : Type 0} (xs : List A) (k : ℕ) {x : A} → getElem? xs k ≡ some x → drop k xs ≡ x ∷ drop (suc k) xs
@@ -53,6 +53,19 @@ before-flag m true more = refl
 pub says-flag : (n d : ℕ) (trace : List ℕ) (cut : Bool) → Says n d trace trace (told cut) (flagged cut)
 says-flag n d trace true = (refl, refl)
 says-flag n d trace false = (refl, refl)
+
+-- beside a run in which the bound ran out, what has no plan comes to more
+no-plan : (cut : Bool) (v : Verdict) → cut ≡ true → isPlan v ≡ false → join (flagged cut) v ≡ more
+no-plan cut v e h = ap (λ (b : Bool). join (flagged b) v) e ∙ go v h
+  where
+    go : (v : Verdict) → isPlan v ≡ false → orMore v ≡ more
+    go (plan h t) e = cc
+    go nothing e = refl
+    go more e = refl
+
+-- and the answer is that
+pub more-reported : (n d : ℕ) (trace : List ℕ) (cut : Bool) (v : Verdict) → cut ≡ true → isPlan v ≡ false → Reported n d trace trace More (join (flagged cut) v)
+more-reported n d trace cut v e h = record { says = subst (Says n d trace trace More) (sym (no-plan cut v e h)) (refl, refl) }
 
 -- a verdict that is a flag, told
 pub flag-reported : (n d : ℕ) (cut : Bool) {trace trace′ : List ℕ} {o : Outcome} {v : Verdict} → flagged cut ≡ v → o ≡ told cut → trace′ ≡ trace → Reported n d trace trace′ o v

@@ -1,7 +1,7 @@
 -- A configuration in a frame, room for those that follow, and what one step of the search is asked and answers (document 01, "Work
 -- area"). Assumes nothing.
 use Prim.Native.Nat.{ℕ, _+_, _-_, _*_, _^_, _≤_, _<_}
-use mathlib.Core.Bool.{Bool}
+use mathlib.Core.Bool.{Bool, true, false}
 use mathlib.Core.List.{List}
 use mathlib.Core.Option.{Option, some}
 use mathlib.Core.Path.{_≡_}
@@ -19,7 +19,7 @@ use Rattle.demands.specs.Held.{heldRecords, levelsOf}
 use Rattle.state.specs.Header.{StateAt}
 use Rattle.state.specs.Truths as truths
 use Rattle.leaves.specs.Tallies.{places}
-use Rattle.leaves.specs.Endable.{Endable}
+use Rattle.leaves.specs.Endable.{Endable, Skips, Decides}
 use Rattle.words.specs.Words.{At}
 use Rattle.ends.specs.Ends.{Within}
 use Rattle.steps.specs.Laid.{view}
@@ -28,6 +28,7 @@ use Rattle.search.specs.Outcome.{outcome, join, flagged, Reported}
 use Rattle.search.specs.declared.Task.{Task}
 use Rattle.search.specs.declared.Place.{Place}
 use Rattle.search.specs.declared.Outcome.{Outcome}
+use Rattle.search.specs.declared.Outcome.the-variants.{Found, More}
 
 -- a configuration as it is held
 abbrev pub Config : Type 0
@@ -54,8 +55,22 @@ pub record Tasked (s : List ℕ) (t : Task) : Type 0 where
   pub interrupts-are : t .interrupts ≡ interruptsIn s
 
 -- the records of the sheet that may be final in some state are marked
-abbrev pub Marks : List ℕ → List Bool → Type 0
-Marks s endable = Endable (heldRecords s) (places (interruptsIn s) (layoutOf s .p)) endable
+abbrev pub MayEnd : List ℕ → List Bool → Type 0
+MayEnd s endable = Endable (heldRecords s) (places (interruptsIn s) (layoutOf s .p)) endable
+
+-- and those whose finality depends on the state can be jumped to
+pub record Marks (s : List ℕ) (endable : List Bool) (skips : List ℕ) : Type 0 where
+  pub may-end : MayEnd s endable
+  pub full : length endable ≡ 260
+  pub skipping : Skips (heldRecords s) (places (interruptsIn s) (layoutOf s .p)) endable skips
+
+-- the table says which records are final, in every state that `held` and `running` say
+abbrev pub Settles : List ℕ → (held : List Bool) (running : Bool) (finals : List Bool) → Type 0
+Settles s held running finals = Decides (heldRecords s) (places (interruptsIn s) (layoutOf s .p)) held running finals
+
+-- the records of a remaining program are among those of the sheet that run
+abbrev pub Placed : List ℕ → Rest → Type 0
+Placed s g = Within (heldRecords s) (places (interruptsIn s) (layoutOf s .p)) g
 
 -- a remaining program stands in the frame of a place, with room
 pub record Ready (s w : List ℕ) (t : Task) (q : Place) (g : Rest) : Type 0 where
@@ -87,3 +102,8 @@ pub record Branched (s : List ℕ) (free : Bool) (moves : List ℕ) (q : Place) 
   pub taken : Option ℕ × Held
   pub nth : getElem? (movesHeld (worldOf s) (heldRecords s) (g, st)) k ≡ some taken
   pub reported : Reported (q .n) (q .d) trace trace′ o (join (flagged cut) (tries (λ (d : Held × List ℕ). outcomeOf s free (q .left - 1) d) (follow1 free (drop (q .j) moves) (taken .0) (taken .1))))
+
+-- what comes of a configuration at the bound, where the bound ran out in some run before
+abbrev pub lastOf : (over : Bool) → Place → Outcome
+lastOf true q = Found (q .n) (q .d)
+lastOf false q = More

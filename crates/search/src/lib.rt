@@ -1,6 +1,6 @@
 // The bounded depth-first search over frames.
 ghost use mathlib.Core.Path.{_≡_};
-ghost use mathlib.Core.Bool.{Bool, true, false, cond, _&&_};
+ghost use mathlib.Core.Bool.{true, false, _&&_};
 ghost use mathlib.Core.Option.{Option};
 ghost use Prim.Native.Nat.{ℕ, _+_, _*_, _≤_, _<_};
 ghost use lib.ListN.{length, replicate, drop};
@@ -21,7 +21,7 @@ ghost use Rattle.words.specs.Words.{At, Holds, Kept};
 ghost use Rattle.ends.specs.Ends.{finalIn};
 ghost use Rattle.steps.specs.Laid.{codeOf};
 ghost use Rattle.search.specs.Outcome.{Reported, isFound, isMore, told, join, flagged};
-ghost use Rattle.search.specs.Frames.{Config, Stands, Tasked, Marks, Ready, Counts, Surveyed, outcomeOf, branchesOf, Branched};
+ghost use Rattle.search.specs.Frames.{Config, Stands, Tasked, MayEnd, Marks, Settles, Ready, Counts, Surveyed, outcomeOf, branchesOf, Branched, lastOf};
 ghost use Rattle.search.specs.Moves.{Known, Action, passes, leftOver, entries, noted};
 use golog::State;
 use sheet::Layout;
@@ -105,6 +105,17 @@ fn is_more(o: Outcome) -> bool
         Outcome::Found { n: _, t: _ } => false,
         Outcome::Nothing => false,
         Outcome::More => true,
+    }
+}
+
+// What a search comes to at the bound, where the bound ran out in some run before: only whether it is over matters.
+fn last_outcome(over: bool, q: Place) -> Outcome
+    ensures { λ r. ⌜ r ≡ lastOf over q ⌝ }
+{
+    if over {
+        Outcome::Found { n: q.n, t: q.d }
+    } else {
+        Outcome::More
     }
 }
 
@@ -192,16 +203,17 @@ pub fn truths_of(s: &[u8], l: Layout, st: State, held: &mut [bool])
     state::truths(&s[a..b], l.q, st, held)
 }
 
-// Fills in which records of a sheet are final in a state, and how many transitions each has.
+// Fills in how many transitions each record of a sheet has in a state, beside which are final, as `done` tells.
 pub fn tally_of(
     s: &[u8],
     t: Task,
     held: &[bool],
     running: bool,
+    done: &[bool],
     finals: &mut [bool],
     counts: &mut [u32],
 )
-    requires { ⌜ Tasked (now s) t ⌝ }
+    requires { ⌜ Tasked (now s) t × Settles (now s) (now held) running (now done) ⌝ }
     requires { ⌜ (now finals ≡ replicate 260 true) × (now counts ≡ replicate 260 0) ⌝ }
     ensures { λ _. ⌜ ((st : State) → running ≡ st .running → Held (worldOf (now (s .entry))) st (layoutOf (now (s .entry)) .q) (now (held .entry)) → Surveyed (now (s .entry)) st (now (held .entry)) (now (finals .exit)) (now (counts .exit))) ⌝ }
 {
@@ -217,6 +229,7 @@ pub fn tally_of(
         l.a,
         held,
         running,
+        done,
         finals,
         counts,
     )
@@ -225,12 +238,54 @@ pub fn tally_of(
 // Which records of a sheet may be final in some state.
 pub fn endable_of(s: &[u8], t: Task) -> [bool; 260]
     requires { ⌜ Tasked (now s) t ⌝ }
-    ensures { λ r. ⌜ Marks (now (s .entry)) r ⌝ }
+    ensures { λ r. ⌜ MayEnd (now (s .entry)) r × (length r ≡ 260) ⌝ }
 {
     let l = t.layout;
     let a = l.programs;
     let b = l.end;
     leaves::endables(&s[a..b], l.p, t.interrupts)
+}
+
+// From each record of a sheet on, the first whose finality depends on the state.
+pub fn skips_of(s: &[u8], t: Task, endable: &[bool]) -> [usize; 261]
+    requires { ⌜ Tasked (now s) t × MayEnd (now s) (now endable) × (length (now endable) ≡ 260) ⌝ }
+    ensures { λ r. ⌜ Marks (now (s .entry)) (now (endable .entry)) r ⌝ }
+{
+    let l = t.layout;
+    let a = l.programs;
+    let b = l.end;
+    leaves::skips(&s[a..b], l.p, t.interrupts, endable)
+}
+
+fn copy_flags(from: &[bool], to: &mut [bool])
+    requires { ⌜ length (now to) ≡ length (now from) ⌝ }
+    ensures { λ _. ⌜ now (to .exit) ≡ now (from .entry) ⌝ }
+{
+    let mut i = 0;
+    while i < to.len() {
+        to[i] = from[i];
+        i += 1;
+    }
+}
+
+// Fills in which records of a sheet are final in a state: only those whose finality depends on the state are looked at.
+pub fn finals_of(
+    s: &[u8],
+    t: Task,
+    endable: &[bool],
+    skips: &[usize],
+    held: &[bool],
+    running: bool,
+    done: &mut [bool],
+)
+    requires { ⌜ Tasked (now s) t × Marks (now s) (now endable) (now skips) × (length (now done) ≡ 260) ⌝ }
+    ensures { λ _. ⌜ Settles (now (s .entry)) (now (held .entry)) running (now (done .exit)) ⌝ }
+{
+    let l = t.layout;
+    let a = l.programs;
+    let b = l.end;
+    copy_flags(endable, done);
+    leaves::finals_in(&s[a..b], l.p, t.interrupts, skips, held, running, done)
 }
 
 // Whether no given move is left and the remaining program is final.
@@ -244,22 +299,8 @@ fn is_over(moves: &[u16], j: usize, done: bool) -> bool
     done
 }
 
-// Whether all that could come of a configuration at the bound is known: that the bound ran out in some run was seen, and the remaining
-// program is final in no state.
-fn no_end_here(cut: bool, left: usize, endable: &[bool], work: &[u32], at: usize) -> bool
-    requires { ⌜ Holds (now work) at ⌝ }
-    ensures { λ r. ⌜ (r ≡ true → (cut ≡ true) × (left ≡ 0) × ((g : Rest) → At g (now (work .entry)) at → finalIn (now (endable .entry)) g ≡ false)) ⌝ }
-{
-    if !cut {
-        return false;
-    }
-    if left != 0 {
-        return false;
-    }
-    !ends::final_rest(endable, work, at)
-}
-
-// The same one transition before the bound, where no transition may leave what is final in some state.
+// Whether all that could come of a configuration one transition before the bound is known: that the bound ran out in some run was seen,
+// and no transition may leave what is final in some state.
 fn no_end_next(cut: bool, left: usize, soon: bool) -> bool
     ensures { λ r. ⌜ (r ≡ true → (cut ≡ true) × (left ≡ 1) × (soon ≡ false)) ⌝ }
 {
@@ -278,6 +319,7 @@ fn try_step(
     s: &[u8],
     moves: &[u16],
     endable: &[bool],
+    skips: &[usize],
     held: &[bool],
     finals: &[bool],
     counts: &[u32],
@@ -289,7 +331,7 @@ fn try_step(
     cut: bool,
     k: usize,
 ) -> Outcome
-    requires { ⌜ Tasked (now s) t × Marks (now s) (now endable) × Surveyed (now s) st (now held) (now finals) (now counts) ⌝ }
+    requires { ⌜ Tasked (now s) t × Marks (now s) (now endable) (now skips) × Surveyed (now s) st (now held) (now finals) (now counts) ⌝ }
     requires { ⌜ ((g : Rest) × Ready (now s) (now work) t q g × (k < length (restSteps (worldOf (now s)) st (heldRecords (now s)) g))) ⌝ }
     requires { ⌜ Counts (now moves) (now trace) q × (1 ≤ q .left) × Full (st .values) ⌝ }
     ensures { λ r. ⌜ ((g : Rest) → At g (now (work .entry)) (q .at + 64) → Branched (now (s .entry)) (t .free) (now (moves .entry)) q st g cut k (now (trace .entry)) (now (trace .exit)) r) ⌝ }
@@ -326,7 +368,7 @@ fn try_step(
         n: q.n + entries_of(entry),
         d: q.d + 1,
     };
-    let o = explore(s, moves, endable, work, trace, t, next, cut);
+    let o = explore(s, moves, endable, skips, work, trace, t, next, cut);
     note(trace, q.n, entry, o);
     o
 }
@@ -336,6 +378,7 @@ fn try_all(
     s: &[u8],
     moves: &[u16],
     endable: &[bool],
+    skips: &[usize],
     held: &[bool],
     finals: &[bool],
     counts: &[u32],
@@ -347,7 +390,7 @@ fn try_all(
     before: bool,
     count: usize,
 ) -> Outcome
-    requires { ⌜ Tasked (now s) t × Marks (now s) (now endable) × Surveyed (now s) st (now held) (now finals) (now counts) ⌝ }
+    requires { ⌜ Tasked (now s) t × Marks (now s) (now endable) (now skips) × Surveyed (now s) st (now held) (now finals) (now counts) ⌝ }
     requires { ⌜ ((g : Rest) × Ready (now s) (now work) t q g × (count ≡ length (restSteps (worldOf (now s)) st (heldRecords (now s)) g))) ⌝ }
     requires { ⌜ Counts (now moves) (now trace) q × (1 ≤ q .left) × Full (st .values) ⌝ }
     ensures { λ r. ⌜ ((g : Rest) → At g (now (work .entry)) (q .at + 64) → Reported (q .n) (q .d) (now (trace .entry)) (now (trace .exit)) r (join (flagged before) (branchesOf (now (s .entry)) (t .free) (q .left) (g, st) (drop (q .j) (now (moves .entry)))))) ⌝ }
@@ -360,6 +403,7 @@ fn try_all(
             s,
             moves,
             endable,
+            skips,
             held,
             finals,
             counts,
@@ -385,27 +429,33 @@ fn explore(
     s: &[u8],
     moves: &[u16],
     endable: &[bool],
+    skips: &[usize],
     work: &mut [u32],
     trace: &mut [u16],
     t: Task,
     q: Place,
     cut: bool,
 ) -> Outcome
-    requires { ⌜ Tasked (now s) t × Marks (now s) (now endable) ⌝ }
+    requires { ⌜ Tasked (now s) t × Marks (now s) (now endable) (now skips) ⌝ }
     requires { ⌜ ((c : Config) × Stands (now work) (q .at) c × Ready (now s) (now work) t q (c .0)) ⌝ }
     requires { ⌜ Counts (now moves) (now trace) q ⌝ }
     ensures { λ r. ⌜ ((c : Config) → Stands (now (work .entry)) (q .at) c → Reported (q .n) (q .d) (now (trace .entry)) (now (trace .exit)) r (join (flagged cut) (outcomeOf (now (s .entry)) (t .free) (q .left) (c, drop (q .j) (now (moves .entry)))))) ⌝ }
     ensures { λ _. ⌜ Kept (q .at + t .frame) (now (work .entry)) (now (work .exit)) ⌝ }
 {
-    if no_end_here(cut, q.left, endable, work, q.at + 64) {
-        return Outcome::More;
-    }
     let st = state::read_state(work, q.at);
     let mut held = [false; 512];
     truths_of(s, t.layout, st, &mut held);
+    let mut done = [false; 260];
+    finals_of(s, t, endable, skips, &held, st.running, &mut done);
+    if cut {
+        if q.left == 0 {
+            let end = ends::final_rest(&done, work, q.at + 64);
+            return last_outcome(is_over(moves, q.j, end), q);
+        }
+    }
     let mut finals = [true; 260];
     let mut counts = [0u32; 260];
-    tally_of(s, t, &held, st.running, &mut finals, &mut counts);
+    tally_of(s, t, &held, st.running, &done, &mut finals, &mut counts);
     let x = ends::total_rest(&finals, endable, &counts, work, q.at + 64);
     if is_over(moves, q.j, x.done) {
         return Outcome::Found { n: q.n, t: q.d };
@@ -420,6 +470,7 @@ fn explore(
         s,
         moves,
         endable,
+        skips,
         &held,
         &finals,
         &counts,
@@ -496,7 +547,8 @@ pub fn run(
         d: 0,
     };
     let endable = endable_of(s, t);
-    let o = explore(s, moves, &endable, work, trace, t, q, false);
+    let skips = skips_of(s, t, &endable);
+    let o = explore(s, moves, &endable, &skips, work, trace, t, q, false);
     clear(work);
     o
 }

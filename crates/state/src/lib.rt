@@ -11,13 +11,6 @@ ghost use Rattle.state.specs.Performed.{changedBy, performBy, Names, Per
 ghost use Rattle.state.specs.Header.{StateAt, StatePut};
 use golog::State;
 
-// What a list of truths says of formula q, false past its end.
-fn holds_in(held: &[bool], q: usize) -> bool
-    ensures { λ r. ⌜ r ≡ getD (now (held .entry)) q false ⌝ }
-{
-    if q < held.len() { held[q] } else { false }
-}
-
 // The value of fluent x, 0 past the end.
 fn value_in(values: &[u8], x: usize) -> usize
     ensures { λ r. ⌜ r ≡ getD (now (values .entry)) x 0 ⌝ }
@@ -41,9 +34,9 @@ fn truth_at(formulas: &[u8], i: usize, values: &[u8], lower: &[bool]) -> bool
         2 => value_in(values, f.x) == f.a,
         3 => value_in(values, f.x) < f.a,
         4 => value_in(values, f.x) == value_in(values, f.a),
-        5 => !holds_in(lower, f.a),
-        6 => holds_in(lower, f.a) & holds_in(lower, f.b),
-        7 => holds_in(lower, f.a) | holds_in(lower, f.b),
+        5 => !records::holds_in(lower, f.a),
+        6 => records::holds_in(lower, f.a) & records::holds_in(lower, f.b),
+        7 => records::holds_in(lower, f.a) | records::holds_in(lower, f.b),
         _ => false,
     }
 }
@@ -74,7 +67,7 @@ fn changed(effects: &[u8], first: usize, count: usize, held: &[bool], values: [u
     while first < i {
         i -= 1;
         let e = records::effect_at(effects, i);
-        if holds_in(held, e.condition) {
+        if records::holds_in(held, e.condition) {
             let x = e.fluent;
             new[x] = e.value as u8;
         }

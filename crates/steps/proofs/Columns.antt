@@ -3,11 +3,8 @@ use mathlib.Core.Path.{_≡_, refl, _∙_}
 use mathlib.Core.Bool.{Bool, false}
 use Prim.Native.Nat.{ℕ, _≤_, _<_}
 use native.Mathlib.Omega.{arith}
-use lib.Dec.{T}
-use Rattle.height.specs.Height.{hasTwo}
 use Rattle.held.specs.Kinds.{ownOf, usesA, usesB, tagA, tagB}
 use Rattle.held.proofs.Columns.{by-kind}
-use Rattle.held.proofs.Entries.{hasA}
 
 -- a tag is 0 or that of a construct
 pub construct-a : (kind : ℕ) {tag : ℕ} → tag ≡ tagA kind → (tag ≡ 0 → ⊥) → 3 ≤ tag
@@ -52,16 +49,3 @@ no-second kind fa h idle =
     by-kind (λ (kind : ℕ). kind < 3 → usesB kind fa h idle ≡ false)
     (λ l. refl) (λ l. refl) (λ l. refl) (λ l. absurd (omega arith)) (λ l. absurd (omega arith)) (λ l. absurd (omega arith)) (λ l. absurd (omega arith)) (λ l. absurd (omega arith))
     (λ l. absurd (omega arith)) (λ l. absurd (omega arith)) (λ l. absurd (omega arith)) (λ l. absurd (omega arith)) (λ k l. refl) kind
-
--- a record uses a part only where its kind has it
-pub uses-a : (kind : ℕ) (h running : Bool) → T (usesA kind h running) → T (hasA kind)
-unfolding usesA
-uses-a kind h running =
-    by-kind (λ (kind : ℕ). T (usesA kind h running) → T (hasA kind))
-    (λ t. t) (λ t. t) (λ t. t) (λ t. tt) (λ t. tt) (λ t. tt) (λ t. tt) (λ t. tt) (λ t. tt) (λ t. tt) (λ t. tt) (λ t. tt) (λ k t. absurd t) kind
-
-pub uses-b : (kind : ℕ) (fa h idle : Bool) → T (usesB kind fa h idle) → T (hasTwo kind)
-unfolding usesB
-uses-b kind fa h idle =
-    by-kind (λ (kind : ℕ). T (usesB kind fa h idle) → T (hasTwo kind))
-    (λ t. t) (λ t. t) (λ t. t) (λ t. tt) (λ t. tt) (λ t. t) (λ t. tt) (λ t. t) (λ t. tt) (λ t. tt) (λ t. t) (λ t. t) (λ k t. absurd t) kind

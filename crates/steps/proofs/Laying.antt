@@ -13,7 +13,8 @@ use Rattle.records.specs.declared.Program.{Program}
 use Rattle.height.specs.Height.{hasTwo, rise}
 use Rattle.golog.specs.declared.State.{State}
 use Rattle.golog.specs.World.{World, holds, possible}
-use Rattle.golog.specs.Steps.{only, isNone}
+use Rattle.runs.specs.Guide.{only}
+use Rattle.golog.specs.Steps.{isNone}
 use Rattle.held.specs.Rest.{Rest, gone, leaf, nodes, largest, high, AllLower}
 use Rattle.held.specs.Kinds.{ownOf, usesA, usesB, tagA, tagB}
 use Rattle.held.specs.Leaves.{Move, onRest, Leaf, leafWith, leafOf, ownMove, siblingA, wrapA, wrapB, restSteps}
@@ -26,7 +27,8 @@ use Rattle.leaves.specs.Tallies.{places, countsOf, firstBy}
 use Rattle.leaves.proofs.Entries.{counts-exact, first-exact}
 use Rattle.steps.specs.Laid.{codeOf, View, Counted, CanLay, Built, Lays, past, Wrapped}
 use Rattle.steps.proofs.Nth.{nth-member, Both, from-first, from-second, second-goes}
-use Rattle.steps.proofs.Columns.{no-own, no-first, no-second, uses-a, uses-b}
+use Rattle.held.proofs.Every.{uses-a, uses-b}
+use Rattle.steps.proofs.Columns.{no-own, no-first, no-second}
 
 -- what was built of a transition is small: at most two nodes more for each level
 pub built-few : (W : World) (s : State) (p : ℕ → Program) → AllLower p → (g : Rest) (k to e n : ℕ) (w : List ℕ) → Built (restSteps W s p g) k to e n w → n ≤ nodes g + 2 * high p g

@@ -8,7 +8,7 @@ use Prim.Native.Nat.{ℕ, zero, suc, _+_, _-_, _≤_, _<_}
 use native.Mathlib.Omega.{arith}
 use lib.Dec.{T}
 use lib.ListN.{length, getElem?, length-append, length-map}
-use Rattle.golog.specs.Steps.{only}
+use Rattle.runs.specs.Guide.{only}
 use Rattle.held.specs.Rest.{Rest}
 use Rattle.held.specs.Leaves.{Move, onRest}
 

@@ -53,7 +53,7 @@ returns : tie.Need-returns Inv-loop μ-loop
 returns c =
     let v = c .before .loop .inv in
     let e = le-antisymm (v .0) (c .loop-test .left) ∙ c .before .before .places-of .ensures .0 in
-    λ W s i h. all (v .2) W s i (omega (arith, e, h))
+    (λ W s i h. all (v .2) W s i (omega (arith, e, h)), v .1)
 
 pub endables-spec : {M : Type 1} → statement M
 endables-spec =

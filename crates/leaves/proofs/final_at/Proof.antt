@@ -20,8 +20,8 @@ final-in-requires c κs = search needs
 final-in-requires-2 : tie.Need-final-in-requires-2
 final-in-requires-2 c κs = search needs
 
-held-in-requires : tie.Need-held-in-requires
-held-in-requires c κs = search needs
+holds-in-requires : tie.Need-holds-in-requires
+holds-in-requires c κs = search needs
 
 final-in-requires-3 : tie.Need-final-in-requires-3
 final-in-requires-3 c κs = search needs
@@ -32,8 +32,8 @@ final-in-requires-4 c κs = search needs
 choice-requires : tie.Need-choice-requires
 choice-requires c κs = search needs
 
-held-in-requires-2 : tie.Need-held-in-requires-2
-held-in-requires-2 c κs = search needs
+holds-in-requires-2 : tie.Need-holds-in-requires-2
+holds-in-requires-2 c κs = search needs
 
 final-in-requires-5 : tie.Need-final-in-requires-5
 final-in-requires-5 c κs = search needs
@@ -44,8 +44,8 @@ both-final-requires-2 c κs = search needs
 both-final-requires-3 : tie.Need-both-final-requires-3
 both-final-requires-3 c κs = search needs
 
-held-in-requires-3 : tie.Need-held-in-requires-3
-held-in-requires-3 c κs = search needs
+holds-in-requires-3 : tie.Need-holds-in-requires-3
+holds-in-requires-3 c κs = search needs
 
 final-in-requires-6 : tie.Need-final-in-requires-6
 final-in-requires-6 c κs = search needs
@@ -102,15 +102,15 @@ final-at-spec =
     both-final-requires
     final-in-requires
     final-in-requires-2
-    held-in-requires
+    holds-in-requires
     final-in-requires-3
     final-in-requires-4
     choice-requires
-    held-in-requires-2
+    holds-in-requires-2
     final-in-requires-5
     both-final-requires-2
     both-final-requires-3
-    held-in-requires-3
+    holds-in-requires-3
     final-in-requires-6
     returns
     returns-2

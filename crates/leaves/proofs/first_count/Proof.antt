@@ -4,8 +4,8 @@ use borrow.Author.Needs.{needs}
 use Rattle.leaves.proofs.first_count.Statement.{statement}
 use Rattle.leaves.proofs.first_count.Tie as tie
 
-held-in-requires : tie.Need-held-in-requires
-held-in-requires c κs = search needs
+holds-in-requires : tie.Need-holds-in-requires
+holds-in-requires c κs = search needs
 
 uses-first-requires : tie.Need-uses-first-requires
 uses-first-requires c κs = search needs
@@ -23,4 +23,4 @@ returns c = (cc, search needs)
 pub first-count-spec : {M : Type 1} → statement M
 first-count-spec =
     tie.close
-    (tie.spec held-in-requires uses-first-requires count-in-requires part-requires returns)
+    (tie.spec holds-in-requires uses-first-requires count-in-requires part-requires returns)

@@ -17,19 +17,19 @@ use Rattle.leaves.proofs.tallies.Statement.{statement}
 use Rattle.leaves.proofs.tallies.Tie as tie
 
 abbrev Inv-loop : tie.InvT-loop
-Inv-loop programs n interrupts actions na held running finals₀ counts₀ m i₀ finals counts i =
+Inv-loop programs n interrupts actions na held running done finals₀ counts₀ m i₀ finals counts i =
     (i ≤ m) × (length finals ≡ 260) × (length counts ≡ 260)
     × ((W : World) (s : State) → Sees W s (table interrupts (programAt programs) n) (places interrupts n) held (possibleIn actions na held) running → Both W s (table interrupts (programAt programs) n) finals counts i)
 
 abbrev μ-loop : tie.MeasureT-loop
-μ-loop programs n interrupts actions na held running finals₀ counts₀ m i₀ finals counts i = m - i
+μ-loop programs n interrupts actions na held running done finals₀ counts₀ m i₀ finals counts i = m - i
 
 places-of-requires : tie.Need-places-of-requires Inv-loop μ-loop
 places-of-requires c κs = search needs
 
 loop-holds : tie.Need-loop-holds Inv-loop μ-loop
 loop-holds c =
-    let z = c .before .before .before .before .before .before .pre .1 in (
+    let z = c .before .before .before .before .before .before .before .pre .1 .1 in (
       omega arith,
       ap length (z .0) ∙ length-replicate 260 true,
       ap length (z .1) ∙ length-replicate {A = ℕ} 260 0,
@@ -39,11 +39,11 @@ loop-holds c =
 record-at-requires : tie.Need-record-at-requires Inv-loop μ-loop
 record-at-requires c κs = search needs
 
-final-at-requires : tie.Need-final-at-requires Inv-loop μ-loop
-final-at-requires c κs = search needs
-
 count-at-requires : tie.Need-count-at-requires Inv-loop μ-loop
 count-at-requires c κs = search needs
+
+final-in-requires : tie.Need-final-in-requires Inv-loop μ-loop
+final-in-requires c κs = search needs
 
 slice-write-finals : tie.Need-slice-write-finals Inv-loop μ-loop
 slice-write-finals c = search needs
@@ -62,19 +62,19 @@ loop-less c = search needs
 
 loop-again : tie.Need-loop-again Inv-loop μ-loop
 loop-again c =
-    let e = c .before .before .before .before .before .record-at .ensures .0 in
-    let v = c .before .before .before .before .before .before .before .loop .inv in (
+    let e = c .before .before .before .before .record-at .ensures .0 in
+    let v = c .before .before .before .before .before .before .loop .inv in (
       omega arith,
       simp length-set (v .1),
       simp length-set (v .2),
-      λ W s S. next (v .3 W s S) (S .each _ (omega arith)) (S .runs) (omega arith) (rw e at (c .before .before .before .final-at .ensures)) (rw e at (c .count-at .ensures)),
+      λ W s S. next (v .3 W s S) (S .each _ (omega arith)) (S .runs) (omega arith) (c .final-in .ensures ∙ c .before .before .before .before .before .before .before .before .before .before .before .before .before .before .pre .1 .0 W s _ S _ (omega (arith, c .before .before .before .before .before .before .before .places-of .ensures .0))) (rw e at (c .before .count-at .ensures)),
     )
 
 same-length : tie.Need-same-length Inv-loop μ-loop
-same-length c = c .before .loop .inv .1 ∙ sym (ap length (c .before .before .before .before .before .before .before .before .pre .1 .0) ∙ length-replicate 260 true)
+same-length c = c .before .loop .inv .1 ∙ sym (ap length (c .before .before .before .before .before .before .before .before .before .pre .1 .1 .0) ∙ length-replicate 260 true)
 
 same-length-2 : tie.Need-same-length-2 Inv-loop μ-loop
-same-length-2 c = c .before .loop .inv .2 ∙ sym (ap length (c .before .before .before .before .before .before .before .before .pre .1 .1) ∙ length-replicate {A = ℕ} 260 0)
+same-length-2 c = c .before .loop .inv .2 ∙ sym (ap length (c .before .before .before .before .before .before .before .before .before .pre .1 .1 .1) ∙ length-replicate {A = ℕ} 260 0)
 
 returns : tie.Need-returns Inv-loop μ-loop
 unfolding finalsOf countsOf
@@ -94,8 +94,8 @@ tallies-spec =
     places-of-requires
     loop-holds
     record-at-requires
-    final-at-requires
     count-at-requires
+    final-in-requires
     slice-write-finals
     mul-counts
     slice-write-counts

@@ -18,8 +18,8 @@ possible-in-requires c κs = search needs
 one-if-requires : tie.Need-one-if-requires
 one-if-requires c κs = search needs
 
-held-in-requires : tie.Need-held-in-requires
-held-in-requires c κs = search needs
+holds-in-requires : tie.Need-holds-in-requires
+holds-in-requires c κs = search needs
 
 one-if-requires-2 : tie.Need-one-if-requires-2
 one-if-requires-2 c κs = search needs
@@ -51,8 +51,8 @@ count-in-requires-5 c κs = search needs
 part-requires : tie.Need-part-requires
 part-requires c κs = search needs
 
-held-in-requires-2 : tie.Need-held-in-requires-2
-held-in-requires-2 c κs = search needs
+holds-in-requires-2 : tie.Need-holds-in-requires-2
+holds-in-requires-2 c κs = search needs
 
 count-in-requires-6 : tie.Need-count-in-requires-6
 count-in-requires-6 c κs = search needs
@@ -63,8 +63,8 @@ count-in-requires-7 c κs = search needs
 either-requires : tie.Need-either-requires
 either-requires c κs = search needs
 
-held-in-requires-3 : tie.Need-held-in-requires-3
-held-in-requires-3 c κs = search needs
+holds-in-requires-3 : tie.Need-holds-in-requires-3
+holds-in-requires-3 c κs = search needs
 
 count-in-requires-8 : tie.Need-count-in-requires-8
 count-in-requires-8 c κs = search needs
@@ -84,8 +84,8 @@ count-in-requires-11 c κs = search needs
 both-if-requires-3 : tie.Need-both-if-requires-3
 both-if-requires-3 c κs = search needs
 
-held-in-requires-4 : tie.Need-held-in-requires-4
-held-in-requires-4 c κs = search needs
+holds-in-requires-4 : tie.Need-holds-in-requires-4
+holds-in-requires-4 c κs = search needs
 
 count-in-requires-12 : tie.Need-count-in-requires-12
 count-in-requires-12 c κs = search needs
@@ -144,7 +144,7 @@ total-at-spec =
     (tie.spec
     possible-in-requires
     one-if-requires
-    held-in-requires
+    holds-in-requires
     one-if-requires-2
     final-in-requires
     count-in-requires
@@ -155,18 +155,18 @@ total-at-spec =
     both-if-requires-2
     count-in-requires-5
     part-requires
-    held-in-requires-2
+    holds-in-requires-2
     count-in-requires-6
     count-in-requires-7
     either-requires
-    held-in-requires-3
+    holds-in-requires-3
     count-in-requires-8
     part-requires-2
     count-in-requires-9
     count-in-requires-10
     count-in-requires-11
     both-if-requires-3
-    held-in-requires-4
+    holds-in-requires-4
     count-in-requires-12
     part-requires-3
     returns

@@ -3,13 +3,13 @@
 -- ones say the verdict on all (Tried). `explore`: final, at the bound, nothing more to come, or the verdict on the transitions
 -- (Exploring). Assumes nothing.
 use denote.Ref.{now}
-use mathlib.Core.Bool.{Bool, _&&_}
+use mathlib.Core.Bool.{Bool, false, _&&_}
 use mathlib.Core.List.{List}
 use mathlib.Core.Path.{_≡_, refl, sym, _∙_, ap, subst}
 use Prim.Native.Nat.{_+_, _-_, _*_}
 use native.Mathlib.Omega.{arith}
 use borrow.Author.Tests.{not-true, not-false}
-use lib.ListN.{drop}
+use lib.ListN.{drop, length-replicate}
 use Rattle.golog.specs.declared.State.{State}
 use Rattle.runs.specs.Guide.{isNil}
 use Rattle.held.specs.Rest.{Rest}
@@ -24,11 +24,11 @@ use Rattle.search.specs.Frames.{Config, Counts, outcomeOf, branchesOf, B
 use Rattle.search.specs.declared.Outcome.{Outcome}
 use Rattle.search.specs.declared.Outcome.the-variants.{Found, More}
 use Rattle.search.proofs.Tried.{flag-reported, Tried, tried-none, tried-all, tried-found, tried-more}
-use Rattle.search.proofs.Room.{in-frame, one-frame, ready-holds, ready-same, ready-small, ready-kept, next-inside, for-any, for-rest}
+use Rattle.search.proofs.Room.{in-frame, one-frame, ready-holds, ready-small, ready-kept, next-inside, for-any, for-rest}
 use Rattle.search.proofs.Seen.{fits-of, part-length}
 use Rattle.search.proofs.Coded.{code-bound}
 use Rattle.search.proofs.Trying.{leads, asked, taken, none-left, taken-known, back, stands-next, next-is-ready, kept-before, forth, branched-any}
-use Rattle.search.proofs.Exploring.{final-known, count-known, moves-length, ends-here, over, at-bound, further, ends-next, never-final, never-next}
+use Rattle.search.proofs.Exploring.{final-known, count-known, moves-length, over, at-last, at-bound, further, ends-next, settled-final, never-next}
 use borrow.Author.Needs.{needs}
 use Prim.Native.Nat.{ℕ, _<_}
 use borrow.Fn.Kinds.{In}
@@ -42,14 +42,16 @@ use Rattle.search.proofs.+explore+try_all+try_step.Lts-try_all as try-a
 use Rattle.search.proofs.try_step.Reads as try-step
 use Rattle.search.proofs.try_step.Kinds as try-step-kinds
 use Rattle.search.proofs.+explore+try_all+try_step.Lts-try_step as try-step-lts
+use Rattle.ends.proofs.final_rest.Reads as final-rest-reads
 use Rattle.ends.proofs.total_rest.Reads as total-rest-reads
 use Rattle.search.proofs.entries_of.Reads as entries-of-reads
+use Rattle.search.proofs.finals_of.Reads as finals-of-reads
 use Rattle.search.proofs.found.Reads as found-reads
 use Rattle.search.proofs.is_more.Reads as is-more-reads
 use Rattle.search.proofs.is_over.Reads as is-over-reads
+use Rattle.search.proofs.last_outcome.Reads as last-outcome-reads
 use Rattle.search.proofs.lets_pass.Reads as lets-pass-reads
 use Rattle.search.proofs.made_after.Reads as made-after-reads
-use Rattle.search.proofs.no_end_here.Reads as no-end-here-reads
 use Rattle.search.proofs.no_end_next.Reads as no-end-next-reads
 use Rattle.search.proofs.note.Reads as note-reads
 use Rattle.search.proofs.state_after.Reads as state-after-reads
@@ -62,48 +64,52 @@ use Rattle.steps.proofs.step_rest.Reads as step-rest-reads
 use Rattle.search.proofs.+explore+try_all+try_step.{statement}
 use Rattle.search.proofs.+explore+try_all+try_step.Tie.{close}
 
-abbrev μ-explore : Measures 5 explore-kinds.ps ℕ
-μ-explore κs a = 3 * a .1 .1 .1 .1 .1 .1 .0 .left + 2
+abbrev μ-explore : Measures 6 explore-kinds.ps ℕ
+μ-explore κs a = 3 * a .1 .1 .1 .1 .1 .1 .1 .0 .left + 2
 
-abbrev μ-try-all : Measures 8 try-all-kinds.ps ℕ
-μ-try-all κs a = 3 * a .1 .1 .1 .1 .1 .1 .1 .1 .1 .0 .left + 1
+abbrev μ-try-all : Measures 9 try-all-kinds.ps ℕ
+μ-try-all κs a = 3 * a .1 .1 .1 .1 .1 .1 .1 .1 .1 .1 .0 .left + 1
 
-abbrev μ-try-step : Measures 8 try-step-kinds.ps ℕ
-μ-try-step κs a = 3 * a .1 .1 .1 .1 .1 .1 .1 .1 .1 .0 .left
+abbrev μ-try-step : Measures 9 try-step-kinds.ps ℕ
+μ-try-step κs a = 3 * a .1 .1 .1 .1 .1 .1 .1 .1 .1 .1 .0 .left
 
-abbrev explore-at : ℕ → In 5 explore-kinds.ps
-explore-at t = and 5 explore-kinds.ps (is 5 explore-kinds.ps μ-explore t) explore.Pre
+abbrev explore-at : ℕ → In 6 explore-kinds.ps
+explore-at t = and 6 explore-kinds.ps (is 6 explore-kinds.ps μ-explore t) explore.Pre
 
-abbrev explore-below : ℕ → In 5 explore-kinds.ps
-explore-below t = and 5 explore-kinds.ps (falls 5 explore-kinds.ps _<_ μ-explore t) explore.Pre
+abbrev explore-below : ℕ → In 6 explore-kinds.ps
+explore-below t = and 6 explore-kinds.ps (falls 6 explore-kinds.ps _<_ μ-explore t) explore.Pre
 
-abbrev try-all-at : ℕ → In 8 try-all-kinds.ps
-try-all-at t = and 8 try-all-kinds.ps (is 8 try-all-kinds.ps μ-try-all t) try-all.Pre
+abbrev try-all-at : ℕ → In 9 try-all-kinds.ps
+try-all-at t = and 9 try-all-kinds.ps (is 9 try-all-kinds.ps μ-try-all t) try-all.Pre
 
-abbrev try-all-below : ℕ → In 8 try-all-kinds.ps
-try-all-below t = and 8 try-all-kinds.ps (falls 8 try-all-kinds.ps _<_ μ-try-all t) try-all.Pre
+abbrev try-all-below : ℕ → In 9 try-all-kinds.ps
+try-all-below t = and 9 try-all-kinds.ps (falls 9 try-all-kinds.ps _<_ μ-try-all t) try-all.Pre
 
-abbrev try-step-at : ℕ → In 8 try-step-kinds.ps
-try-step-at t = and 8 try-step-kinds.ps (is 8 try-step-kinds.ps μ-try-step t) try-step.Pre
+abbrev try-step-at : ℕ → In 9 try-step-kinds.ps
+try-step-at t = and 9 try-step-kinds.ps (is 9 try-step-kinds.ps μ-try-step t) try-step.Pre
 
-abbrev try-step-below : ℕ → In 8 try-step-kinds.ps
+abbrev try-step-below : ℕ → In 9 try-step-kinds.ps
 try-step-below t =
-    and 8 try-step-kinds.ps (falls 8 try-step-kinds.ps _<_ μ-try-step t) try-step.Pre
+    and 9 try-step-kinds.ps (falls 9 try-step-kinds.ps _<_ μ-try-step t) try-step.Pre
 
 abbrev explore-claims : ℕ → explore-lts.Claims
 explore-claims t = (
-  no-end-here-reads.Asked,
-  no-end-here-reads.Learnt,
   read-state-reads.Asked,
   read-state-reads.Learnt,
   truths-of-reads.Asked,
   truths-of-reads.Learnt,
+  finals-of-reads.Asked,
+  finals-of-reads.Learnt,
+  final-rest-reads.Asked,
+  final-rest-reads.Learnt,
+  is-over-reads.Asked,
+  is-over-reads.Learnt,
+  last-outcome-reads.Asked,
+  last-outcome-reads.Learnt,
   tally-of-reads.Asked,
   tally-of-reads.Learnt,
   total-rest-reads.Asked,
   total-rest-reads.Learnt,
-  is-over-reads.Asked,
-  is-over-reads.Learnt,
   unfound-reads.Asked,
   unfound-reads.Learnt,
   no-end-next-reads.Asked,
@@ -146,40 +152,60 @@ try-step-claims t = (
   note-reads.Learnt,
 )
 
-explore-add-no-end-here : (t : ℕ) → explore-lts.Need-add-no-end-here (explore-claims t) (explore-at t) explore.Post
-explore-add-no-end-here t c = omega (arith, in-frame (c .before .before .before .before .before .before .before .pre .1 .1 .0 .2), ready-small (c .before .before .before .before .before .before .before .pre .1 .1 .0 .2))
+explore-read-state-requires : (t : ℕ) → explore-lts.Need-read-state-requires (explore-claims t) (explore-at t) explore.Post
+explore-read-state-requires t c κs = let z = c .before .before .before .before .before .before .before .pre .1 .1 .0 in (z .0 .1, z .1 .state)
 
-explore-no-end-here-requires : (t : ℕ) → explore-lts.Need-no-end-here-requires (explore-claims t) (explore-at t) explore.Post
-explore-no-end-here-requires t c κs = ready-holds (c .before .before .before .before .before .before .before .pre .1 .1 .0 .2)
+explore-slice-aggregate-truths-of : (t : ℕ) → explore-lts.Need-slice-aggregate-truths-of (explore-claims t) (explore-at t) explore.Post
+explore-slice-aggregate-truths-of t c = search needs
+
+explore-truths-of-requires : (t : ℕ) → explore-lts.Need-truths-of-requires (explore-claims t) (explore-at t) explore.Post
+explore-truths-of-requires t c κs = let T = c .before .before .before .before .before .before .before .before .before .pre .1 .0 .0 in ((T .accepted, T .layout-is), refl)
+
+explore-slice-aggregate-finals-of : (t : ℕ) → explore-lts.Need-slice-aggregate-finals-of (explore-claims t) (explore-at t) explore.Post
+explore-slice-aggregate-finals-of t c = search needs
+
+explore-slice-aggregate-finals-of-2 : (t : ℕ) → explore-lts.Need-slice-aggregate-finals-of-2 (explore-claims t) (explore-at t) explore.Post
+explore-slice-aggregate-finals-of-2 t c = search needs
+
+explore-finals-of-requires : (t : ℕ) → explore-lts.Need-finals-of-requires (explore-claims t) (explore-at t) explore.Post
+explore-finals-of-requires t c κs = (c .before .before .before .before .before .before .before .before .before .before .before .before .before .pre .1 .0 .0, c .before .before .before .before .before .before .before .before .before .before .before .before .before .pre .1 .0 .1, length-replicate 260 false)
+
+explore-slice-aggregate-final-rest : (t : ℕ) → explore-lts.Need-slice-aggregate-final-rest (explore-claims t) (explore-at t) explore.Post
+explore-slice-aggregate-final-rest t c = search needs
+
+explore-add-final-rest : (t : ℕ) → explore-lts.Need-add-final-rest (explore-claims t) (explore-at t) explore.Post
+explore-add-final-rest t c = omega (arith, in-frame (c .before .before .before .before .before .before .before .before .before .before .before .before .before .before .before .before .before .before .before .before .before .pre .1 .1 .0 .2), ready-small (c .before .before .before .before .before .before .before .before .before .before .before .before .before .before .before .before .before .before .before .before .before .pre .1 .1 .0 .2))
+
+explore-final-rest-requires : (t : ℕ) → explore-lts.Need-final-rest-requires (explore-claims t) (explore-at t) explore.Post
+explore-final-rest-requires t c κs = ready-holds (c .before .before .before .before .before .before .before .before .before .before .before .before .before .before .before .before .before .before .before .before .before .pre .1 .1 .0 .2)
+
+explore-is-over-requires : (t : ℕ) → explore-lts.Need-is-over-requires (explore-claims t) (explore-at t) explore.Post
+explore-is-over-requires t c κs = c .before .before .before .before .before .before .before .before .before .before .before .before .before .before .before .before .before .before .before .before .before .before .pre .1 .1 .1 .made
+
+explore-last-outcome-requires : (t : ℕ) → explore-lts.Need-last-outcome-requires (explore-claims t) (explore-at t) explore.Post
+explore-last-outcome-requires t c κs = search needs
 
 explore-same-length : (t : ℕ) → explore-lts.Need-same-length (explore-claims t) (explore-at t) explore.Post
 explore-same-length t c = search needs
 
 explore-returns : (t : ℕ) → explore-lts.Need-returns (explore-claims t) (explore-at t) explore.Post
 explore-returns t c =
-    let x = c .before .before .before .before .before .before .before .before .before .pre .1 .1 .0 in
+    let x = c .before .before .before .before .before .before .before .before .before .before .before .before .before .before .before .before .before .before .before .before .before .before .before .before .pre .1 .1 .0 in
     let g = x .0 .0 in
     let R = x .2 in
-    let s = now (c .before .before .before .before .before .before .before .before .before .args .s) in
-    let q = c .before .before .before .before .before .before .before .before .before .args .q in
-    let cut = c .before .before .before .before .before .before .before .before .before .args .cut in
-    let free = c .before .before .before .before .before .before .before .before .before .args .t .free in
-    let moves = drop (q .j) (now (c .before .before .before .before .before .before .before .before .before .args .moves)) in
-    let trace = now (c .before .before .before .before .before .before .before .before .before .args .trace) in
-    let E = c .before .no-end-here .ensures (c .if1 .taken) in (
-      λ u H. subst (λ (r : Rest). Reported (q .n) (q .d) trace trace More (join (flagged cut) (outcomeOf s free (q .left) ((r, u .1), moves)))) (sym (ready-same R (u .0) (H .program)))
-          (ends-here s free (u .1) g moves (q .n) (q .d) trace cut (q .left) (E .0) (E .1) (never-final _ (c .before .before .before .before .before .before .before .before .before .pre .1 .0 .1) R (u .1) (E .2 g (R .at)))),
+    let s = now (c .before .before .before .before .before .before .before .before .before .before .before .before .before .before .before .before .before .before .before .before .before .before .before .before .args .s) in
+    let q = c .before .before .before .before .before .before .before .before .before .before .before .before .before .before .before .before .before .before .before .before .before .before .before .before .args .q in
+    let cut = c .before .before .before .before .before .before .before .before .before .before .before .before .before .before .before .before .before .before .before .before .before .before .before .before .args .cut in
+    let free = c .before .before .before .before .before .before .before .before .before .before .before .before .before .before .before .before .before .before .before .before .before .before .before .before .args .t .free in
+    let moves = drop (q .j) (now (c .before .before .before .before .before .before .before .before .before .before .before .before .before .before .before .before .before .before .before .before .before .before .before .before .args .moves)) in
+    let trace = now (c .before .before .before .before .before .before .before .before .before .before .before .before .before .before .before .before .before .before .before .before .before .before .before .before .args .trace) in
+    let st = c .before .before .before .before .before .before .before .before .before .before .before .before .before .before .before .before .read-state .result in
+    let e = c .before .is-over .ensures ∙ ap (λ (b : Bool). isNil moves && b) (c .before .before .final-rest .ensures g (R .at) ∙ settled-final _ st (c .before .before .before .before .before .before .before .before .before .before .before .before .before .before .before .before .before .before .before .before .before .before .before .before .pre .1 .0 .0) R (c .before .before .before .before .before .before .before .before .before .before .before .before .before .before .truths-of .ensures) (c .before .before .before .before .before .before .before .before .before .before .finals-of .ensures)) in (
+      λ u H. for-any R st (λ (v : Config). Reported (q .n) (q .d) trace trace (c .last-outcome .result) (join (flagged cut) (outcomeOf s free (q .left) (v, moves))))
+          (subst (λ (o : Outcome). Reported (q .n) (q .d) trace trace o (join (flagged cut) (outcomeOf s free (q .left) ((g, st), moves)))) (sym (c .last-outcome .ensures))
+          (at-last s free st g moves (q .n) (q .d) trace cut _ e q refl refl (c .before .before .before .before .before .before .before .before .if1 .taken) (q .left) (c .before .before .before .before .before .before .if2 .taken))) u H (c .before .before .before .before .before .before .before .before .before .before .before .before .before .before .before .before .read-state .ensures (u .1) (H .state)),
       kept-refl _ _,
     )
-
-explore-read-state-requires : (t : ℕ) → explore-lts.Need-read-state-requires (explore-claims t) (explore-at t) explore.Post
-explore-read-state-requires t c κs = let z = c .before .before .before .before .before .before .before .before .before .before .pre .1 .1 .0 in (z .0 .1, z .1 .state)
-
-explore-slice-aggregate-truths-of : (t : ℕ) → explore-lts.Need-slice-aggregate-truths-of (explore-claims t) (explore-at t) explore.Post
-explore-slice-aggregate-truths-of t c = search needs
-
-explore-truths-of-requires : (t : ℕ) → explore-lts.Need-truths-of-requires (explore-claims t) (explore-at t) explore.Post
-explore-truths-of-requires t c κs = let T = c .before .before .before .before .before .before .before .before .before .before .before .before .pre .1 .0 .0 in ((T .accepted, T .layout-is), refl)
 
 explore-slice-aggregate-tally-of : (t : ℕ) → explore-lts.Need-slice-aggregate-tally-of (explore-claims t) (explore-at t) explore.Post
 explore-slice-aggregate-tally-of t c = search needs
@@ -190,8 +216,11 @@ explore-slice-aggregate-tally-of-2 t c = search needs
 explore-slice-aggregate-tally-of-3 : (t : ℕ) → explore-lts.Need-slice-aggregate-tally-of-3 (explore-claims t) (explore-at t) explore.Post
 explore-slice-aggregate-tally-of-3 t c = search needs
 
+explore-slice-aggregate-tally-of-4 : (t : ℕ) → explore-lts.Need-slice-aggregate-tally-of-4 (explore-claims t) (explore-at t) explore.Post
+explore-slice-aggregate-tally-of-4 t c = search needs
+
 explore-tally-of-requires : (t : ℕ) → explore-lts.Need-tally-of-requires (explore-claims t) (explore-at t) explore.Post
-explore-tally-of-requires t c κs = (c .before .before .before .before .before .before .before .before .before .before .before .before .before .before .before .before .before .pre .1 .0 .0, (refl, refl))
+explore-tally-of-requires t c κs = ((c .before .before .before .before .before .before .before .before .before .before .before .before .before .before .before .before .before .before .before .before .pre .1 .0 .0, c .before .before .before .before .before .before .finals-of .ensures), (refl, refl))
 
 explore-slice-aggregate-total-rest : (t : ℕ) → explore-lts.Need-slice-aggregate-total-rest (explore-claims t) (explore-at t) explore.Post
 explore-slice-aggregate-total-rest t c = search needs
@@ -200,34 +229,34 @@ explore-slice-aggregate-total-rest-2 : (t : ℕ) → explore-lts.Need-slice-aggr
 explore-slice-aggregate-total-rest-2 t c = search needs
 
 explore-add-total-rest : (t : ℕ) → explore-lts.Need-add-total-rest (explore-claims t) (explore-at t) explore.Post
-explore-add-total-rest t c = omega (arith, in-frame (c .before .before .before .before .before .before .before .before .before .before .before .before .before .before .before .before .before .before .before .before .before .before .before .before .pre .1 .1 .0 .2), ready-small (c .before .before .before .before .before .before .before .before .before .before .before .before .before .before .before .before .before .before .before .before .before .before .before .before .pre .1 .1 .0 .2))
+explore-add-total-rest t c = omega (arith, in-frame (c .before .before .before .before .before .before .before .before .before .before .before .before .before .before .before .before .before .before .before .before .before .before .before .before .before .before .before .pre .1 .1 .0 .2), ready-small (c .before .before .before .before .before .before .before .before .before .before .before .before .before .before .before .before .before .before .before .before .before .before .before .before .before .before .before .pre .1 .1 .0 .2))
 
 explore-total-rest-requires : (t : ℕ) → explore-lts.Need-total-rest-requires (explore-claims t) (explore-at t) explore.Post
-explore-total-rest-requires t c κs = (ready-holds (c .before .before .before .before .before .before .before .before .before .before .before .before .before .before .before .before .before .before .before .before .before .before .before .before .pre .1 .1 .0 .2), ready-small (c .before .before .before .before .before .before .before .before .before .before .before .before .before .before .before .before .before .before .before .before .before .before .before .before .pre .1 .1 .0 .2))
+explore-total-rest-requires t c κs = (ready-holds (c .before .before .before .before .before .before .before .before .before .before .before .before .before .before .before .before .before .before .before .before .before .before .before .before .before .before .before .pre .1 .1 .0 .2), ready-small (c .before .before .before .before .before .before .before .before .before .before .before .before .before .before .before .before .before .before .before .before .before .before .before .before .before .before .before .pre .1 .1 .0 .2))
 
-explore-is-over-requires : (t : ℕ) → explore-lts.Need-is-over-requires (explore-claims t) (explore-at t) explore.Post
-explore-is-over-requires t c κs = c .before .before .before .before .before .before .before .before .before .before .before .before .before .before .before .before .before .before .before .before .before .before .before .before .before .pre .1 .1 .1 .made
+explore-is-over-requires-2 : (t : ℕ) → explore-lts.Need-is-over-requires-2 (explore-claims t) (explore-at t) explore.Post
+explore-is-over-requires-2 t c κs = c .before .before .before .before .before .before .before .before .before .before .before .before .before .before .before .before .before .before .before .before .before .before .before .before .before .before .before .before .pre .1 .1 .1 .made
 
 explore-same-length-2 : (t : ℕ) → explore-lts.Need-same-length-2 (explore-claims t) (explore-at t) explore.Post
 explore-same-length-2 t c = search needs
 
 explore-returns-2 : (t : ℕ) → explore-lts.Need-returns-2 (explore-claims t) (explore-at t) explore.Post
 explore-returns-2 t c =
-    let x = c .before .before .before .before .before .before .before .before .before .before .before .before .before .before .before .before .before .before .before .before .before .before .before .before .before .before .before .pre .1 .1 .0 in
+    let x = c .before .before .before .before .before .before .before .before .before .before .before .before .before .before .before .before .before .before .before .before .before .before .before .before .before .before .before .before .before .before .pre .1 .1 .0 in
     let g = x .0 .0 in
     let R = x .2 in
-    let s = now (c .before .before .before .before .before .before .before .before .before .before .before .before .before .before .before .before .before .before .before .before .before .before .before .before .before .before .before .args .s) in
-    let q = c .before .before .before .before .before .before .before .before .before .before .before .before .before .before .before .before .before .before .before .before .before .before .before .before .before .before .before .args .q in
-    let cut = c .before .before .before .before .before .before .before .before .before .before .before .before .before .before .before .before .before .before .before .before .before .before .before .before .before .before .before .args .cut in
-    let free = c .before .before .before .before .before .before .before .before .before .before .before .before .before .before .before .before .before .before .before .before .before .before .before .before .before .before .before .args .t .free in
-    let moves = drop (q .j) (now (c .before .before .before .before .before .before .before .before .before .before .before .before .before .before .before .before .before .before .before .before .before .before .before .before .before .before .before .args .moves)) in
-    let trace = now (c .before .before .before .before .before .before .before .before .before .before .before .before .before .before .before .before .before .before .before .before .before .before .before .before .before .before .before .args .trace) in
-    let st = c .before .before .before .before .before .before .before .before .before .before .before .before .before .before .before .before .read-state .result in
-    let S = c .before .before .before .before .before .before .before .before .before .tally-of .ensures st refl (c .before .before .before .before .before .before .before .before .before .before .before .before .before .before .truths-of .ensures) in
+    let s = now (c .before .before .before .before .before .before .before .before .before .before .before .before .before .before .before .before .before .before .before .before .before .before .before .before .before .before .before .before .before .before .args .s) in
+    let q = c .before .before .before .before .before .before .before .before .before .before .before .before .before .before .before .before .before .before .before .before .before .before .before .before .before .before .before .before .before .before .args .q in
+    let cut = c .before .before .before .before .before .before .before .before .before .before .before .before .before .before .before .before .before .before .before .before .before .before .before .before .before .before .before .before .before .before .args .cut in
+    let free = c .before .before .before .before .before .before .before .before .before .before .before .before .before .before .before .before .before .before .before .before .before .before .before .before .before .before .before .before .before .before .args .t .free in
+    let moves = drop (q .j) (now (c .before .before .before .before .before .before .before .before .before .before .before .before .before .before .before .before .before .before .before .before .before .before .before .before .before .before .before .before .before .before .args .moves)) in
+    let trace = now (c .before .before .before .before .before .before .before .before .before .before .before .before .before .before .before .before .before .before .before .before .before .before .before .before .before .before .before .before .before .before .args .trace) in
+    let st = c .before .before .before .before .before .before .before .before .before .before .before .before .before .before .before .before .before .before .before .before .before .before .read-state .result in
+    let S = c .before .before .before .before .before .before .before .before .before .tally-of .ensures st refl (c .before .before .before .before .before .before .before .before .before .before .before .before .before .before .before .before .before .before .before .before .truths-of .ensures) in
     let A = c .before .before .total-rest .ensures g (R .at) in
-    let e = c .before .is-over .ensures ∙ ap (λ (b : Bool). isNil moves && b) (A .done-is ∙ final-known S R) in (
+    let e = c .before .is-over2 .ensures ∙ ap (λ (b : Bool). isNil moves && b) (A .done-is ∙ final-known S R) in (
       λ u H. for-any R st (λ (v : Config). Reported (q .n) (q .d) trace trace (Found (q .n) (q .d)) (join (flagged cut) (outcomeOf s free (q .left) (v, moves))))
-          (over s free st g moves (q .n) (q .d) trace cut _ e (q .left) (c .if2 .taken)) u H (c .before .before .before .before .before .before .before .before .before .before .before .before .before .before .before .before .read-state .ensures (u .1) (H .state)),
+          (over s free st g moves (q .n) (q .d) trace cut _ e (q .left) (c .if3 .taken)) u H (c .before .before .before .before .before .before .before .before .before .before .before .before .before .before .before .before .before .before .before .before .before .before .read-state .ensures (u .1) (H .state)),
       kept-refl _ _,
     )
 
@@ -239,22 +268,22 @@ explore-same-length-3 t c = search needs
 
 explore-returns-3 : (t : ℕ) → explore-lts.Need-returns-3 (explore-claims t) (explore-at t) explore.Post
 explore-returns-3 t c =
-    let x = c .before .before .before .before .before .before .before .before .before .before .before .before .before .before .before .before .before .before .before .before .before .before .before .before .before .before .before .before .before .before .before .pre .1 .1 .0 in
+    let x = c .before .before .before .before .before .before .before .before .before .before .before .before .before .before .before .before .before .before .before .before .before .before .before .before .before .before .before .before .before .before .before .before .before .before .pre .1 .1 .0 in
     let g = x .0 .0 in
     let R = x .2 in
-    let s = now (c .before .before .before .before .before .before .before .before .before .before .before .before .before .before .before .before .before .before .before .before .before .before .before .before .before .before .before .before .before .before .before .args .s) in
-    let q = c .before .before .before .before .before .before .before .before .before .before .before .before .before .before .before .before .before .before .before .before .before .before .before .before .before .before .before .before .before .before .before .args .q in
-    let cut = c .before .before .before .before .before .before .before .before .before .before .before .before .before .before .before .before .before .before .before .before .before .before .before .before .before .before .before .before .before .before .before .args .cut in
-    let free = c .before .before .before .before .before .before .before .before .before .before .before .before .before .before .before .before .before .before .before .before .before .before .before .before .before .before .before .before .before .before .before .args .t .free in
-    let moves = drop (q .j) (now (c .before .before .before .before .before .before .before .before .before .before .before .before .before .before .before .before .before .before .before .before .before .before .before .before .before .before .before .before .before .before .before .args .moves)) in
-    let trace = now (c .before .before .before .before .before .before .before .before .before .before .before .before .before .before .before .before .before .before .before .before .before .before .before .before .before .before .before .before .before .before .before .args .trace) in
-    let st = c .before .before .before .before .before .before .before .before .before .before .before .before .before .before .before .before .before .before .before .before .read-state .result in
-    let S = c .before .before .before .before .before .before .before .before .before .before .before .before .before .tally-of .ensures st refl (c .before .before .before .before .before .before .before .before .before .before .before .before .before .before .before .before .before .before .truths-of .ensures) in
+    let s = now (c .before .before .before .before .before .before .before .before .before .before .before .before .before .before .before .before .before .before .before .before .before .before .before .before .before .before .before .before .before .before .before .before .before .before .args .s) in
+    let q = c .before .before .before .before .before .before .before .before .before .before .before .before .before .before .before .before .before .before .before .before .before .before .before .before .before .before .before .before .before .before .before .before .before .before .args .q in
+    let cut = c .before .before .before .before .before .before .before .before .before .before .before .before .before .before .before .before .before .before .before .before .before .before .before .before .before .before .before .before .before .before .before .before .before .before .args .cut in
+    let free = c .before .before .before .before .before .before .before .before .before .before .before .before .before .before .before .before .before .before .before .before .before .before .before .before .before .before .before .before .before .before .before .before .before .before .args .t .free in
+    let moves = drop (q .j) (now (c .before .before .before .before .before .before .before .before .before .before .before .before .before .before .before .before .before .before .before .before .before .before .before .before .before .before .before .before .before .before .before .before .before .before .args .moves)) in
+    let trace = now (c .before .before .before .before .before .before .before .before .before .before .before .before .before .before .before .before .before .before .before .before .before .before .before .before .before .before .before .before .before .before .before .before .before .before .args .trace) in
+    let st = c .before .before .before .before .before .before .before .before .before .before .before .before .before .before .before .before .before .before .before .before .before .before .before .before .before .before .read-state .result in
+    let S = c .before .before .before .before .before .before .before .before .before .before .before .before .before .tally-of .ensures st refl (c .before .before .before .before .before .before .before .before .before .before .before .before .before .before .before .before .before .before .before .before .before .before .before .before .truths-of .ensures) in
     let A = c .before .before .before .before .before .before .total-rest .ensures g (R .at) in
-    let e = c .before .before .before .before .before .is-over .ensures ∙ ap (λ (b : Bool). isNil moves && b) (A .done-is ∙ final-known S R) in (
+    let e = c .before .before .before .before .before .is-over2 .ensures ∙ ap (λ (b : Bool). isNil moves && b) (A .done-is ∙ final-known S R) in (
       λ u H. for-any R st (λ (v : Config). Reported (q .n) (q .d) trace trace (c .unfound .result) (join (flagged cut) (outcomeOf s free (q .left) (v, moves))))
           (subst (λ (o : Outcome). Reported (q .n) (q .d) trace trace o (join (flagged cut) (outcomeOf s free (q .left) ((g, st), moves)))) (sym (c .unfound .ensures))
-          (at-bound s free st g moves (q .n) (q .d) trace cut _ e (q .left) _ (c .before .before .before .before .if2 .left) (c .before .before .if3 .taken) (A .count-is ∙ count-known S R))) u H (c .before .before .before .before .before .before .before .before .before .before .before .before .before .before .before .before .before .before .before .before .read-state .ensures (u .1) (H .state)),
+          (at-bound s free st g moves (q .n) (q .d) trace cut _ e (q .left) _ (c .before .before .before .before .if3 .left) (c .before .before .if4 .taken) (A .count-is ∙ count-known S R))) u H (c .before .before .before .before .before .before .before .before .before .before .before .before .before .before .before .before .before .before .before .before .before .before .before .before .before .before .read-state .ensures (u .1) (H .state)),
       kept-refl _ _,
     )
 
@@ -266,27 +295,27 @@ explore-same-length-4 t c = search needs
 
 explore-returns-4 : (t : ℕ) → explore-lts.Need-returns-4 (explore-claims t) (explore-at t) explore.Post
 explore-returns-4 t c =
-    let x = c .before .before .before .before .before .before .before .before .before .before .before .before .before .before .before .before .before .before .before .before .before .before .before .before .before .before .before .before .before .before .before .pre .1 .1 .0 in
+    let x = c .before .before .before .before .before .before .before .before .before .before .before .before .before .before .before .before .before .before .before .before .before .before .before .before .before .before .before .before .before .before .before .before .before .before .pre .1 .1 .0 in
     let g = x .0 .0 in
     let R = x .2 in
-    let s = now (c .before .before .before .before .before .before .before .before .before .before .before .before .before .before .before .before .before .before .before .before .before .before .before .before .before .before .before .before .before .before .before .args .s) in
-    let q = c .before .before .before .before .before .before .before .before .before .before .before .before .before .before .before .before .before .before .before .before .before .before .before .before .before .before .before .before .before .before .before .args .q in
-    let cut = c .before .before .before .before .before .before .before .before .before .before .before .before .before .before .before .before .before .before .before .before .before .before .before .before .before .before .before .before .before .before .before .args .cut in
-    let free = c .before .before .before .before .before .before .before .before .before .before .before .before .before .before .before .before .before .before .before .before .before .before .before .before .before .before .before .before .before .before .before .args .t .free in
-    let moves = drop (q .j) (now (c .before .before .before .before .before .before .before .before .before .before .before .before .before .before .before .before .before .before .before .before .before .before .before .before .before .before .before .before .before .before .before .args .moves)) in
-    let trace = now (c .before .before .before .before .before .before .before .before .before .before .before .before .before .before .before .before .before .before .before .before .before .before .before .before .before .before .before .before .before .before .before .args .trace) in
-    let st = c .before .before .before .before .before .before .before .before .before .before .before .before .before .before .before .before .before .before .before .before .read-state .result in
-    let S = c .before .before .before .before .before .before .before .before .before .before .before .before .before .tally-of .ensures st refl (c .before .before .before .before .before .before .before .before .before .before .before .before .before .before .before .before .before .before .truths-of .ensures) in
+    let s = now (c .before .before .before .before .before .before .before .before .before .before .before .before .before .before .before .before .before .before .before .before .before .before .before .before .before .before .before .before .before .before .before .before .before .before .args .s) in
+    let q = c .before .before .before .before .before .before .before .before .before .before .before .before .before .before .before .before .before .before .before .before .before .before .before .before .before .before .before .before .before .before .before .before .before .before .args .q in
+    let cut = c .before .before .before .before .before .before .before .before .before .before .before .before .before .before .before .before .before .before .before .before .before .before .before .before .before .before .before .before .before .before .before .before .before .before .args .cut in
+    let free = c .before .before .before .before .before .before .before .before .before .before .before .before .before .before .before .before .before .before .before .before .before .before .before .before .before .before .before .before .before .before .before .before .before .before .args .t .free in
+    let moves = drop (q .j) (now (c .before .before .before .before .before .before .before .before .before .before .before .before .before .before .before .before .before .before .before .before .before .before .before .before .before .before .before .before .before .before .before .before .before .before .args .moves)) in
+    let trace = now (c .before .before .before .before .before .before .before .before .before .before .before .before .before .before .before .before .before .before .before .before .before .before .before .before .before .before .before .before .before .before .before .before .before .before .args .trace) in
+    let st = c .before .before .before .before .before .before .before .before .before .before .before .before .before .before .before .before .before .before .before .before .before .before .before .before .before .before .read-state .result in
+    let S = c .before .before .before .before .before .before .before .before .before .before .before .before .before .tally-of .ensures st refl (c .before .before .before .before .before .before .before .before .before .before .before .before .before .before .before .before .before .before .before .before .before .before .before .before .truths-of .ensures) in
     let A = c .before .before .before .before .before .before .total-rest .ensures g (R .at) in
-    let e = c .before .before .before .before .before .is-over .ensures ∙ ap (λ (b : Bool). isNil moves && b) (A .done-is ∙ final-known S R) in
-    let E = c .before .no-end-next .ensures (c .if4 .taken) in (
+    let e = c .before .before .before .before .before .is-over2 .ensures ∙ ap (λ (b : Bool). isNil moves && b) (A .done-is ∙ final-known S R) in
+    let E = c .before .no-end-next .ensures (c .if5 .taken) in (
       λ u H. for-any R st (λ (v : Config). Reported (q .n) (q .d) trace trace More (join (flagged cut) (outcomeOf s free (q .left) (v, moves))))
-          (ends-next s free st g moves (q .n) (q .d) trace cut _ e (q .left) (c .before .before .before .before .if2 .left) (E .0) (E .1) (never-next _ (c .before .before .before .before .before .before .before .before .before .before .before .before .before .before .before .before .before .before .before .before .before .before .before .before .before .before .before .before .before .before .before .pre .1 .0 .1) R st S (sym (A .soon-is) ∙ E .2))) u H (c .before .before .before .before .before .before .before .before .before .before .before .before .before .before .before .before .before .before .before .before .read-state .ensures (u .1) (H .state)),
+          (ends-next s free st g moves (q .n) (q .d) trace cut _ e (q .left) (c .before .before .before .before .if3 .left) (E .0) (E .1) (never-next _ _ (c .before .before .before .before .before .before .before .before .before .before .before .before .before .before .before .before .before .before .before .before .before .before .before .before .before .before .before .before .before .before .before .before .before .before .pre .1 .0 .1 .may-end) (R .roomy .within) st S (sym (A .soon-is) ∙ E .2))) u H (c .before .before .before .before .before .before .before .before .before .before .before .before .before .before .before .before .before .before .before .before .before .before .before .before .before .before .read-state .ensures (u .1) (H .state)),
       kept-refl _ _,
     )
 
 explore-slice-aggregate-try-all : (t : ℕ) → explore-lts.Need-slice-aggregate-try-all (explore-claims t) (explore-at t) explore.Post
-explore-slice-aggregate-try-all t c = search needs
+explore-slice-aggregate-try-all t c = explore-slice-aggregate-tally-of t (c .before .before .before .before .before .before .before .before .before .before .before .before .before .before .before .before .before .before)
 
 explore-slice-aggregate-try-all-2 : (t : ℕ) → explore-lts.Need-slice-aggregate-try-all-2 (explore-claims t) (explore-at t) explore.Post
 explore-slice-aggregate-try-all-2 t c = search needs
@@ -296,14 +325,14 @@ explore-slice-aggregate-try-all-3 t c = search needs
 
 explore-try-all-requires : (t : ℕ) → explore-lts.Need-try-all-requires (explore-claims t) (explore-at t) explore.Post
 explore-try-all-requires t c κs =
-    let x = c .before .before .before .before .before .before .before .before .before .before .before .before .before .before .before .before .before .before .before .before .before .before .before .before .before .before .before .before .before .before .before .before .before .before .before .before .pre .1 .1 .0 in
+    let x = c .before .before .before .before .before .before .before .before .before .before .before .before .before .before .before .before .before .before .before .before .before .before .before .before .before .before .before .before .before .before .before .before .before .before .before .before .before .before .before .pre .1 .1 .0 in
     let R = x .2 in
-    let st = c .before .before .before .before .before .before .before .before .before .before .before .before .before .before .before .before .before .before .before .before .before .before .before .before .before .read-state .result in
-    let S = c .before .before .before .before .before .before .before .before .before .before .before .before .before .before .before .before .before .before .tally-of .ensures st refl (c .before .before .before .before .before .before .before .before .before .before .before .before .before .before .before .before .before .before .before .before .before .before .before .truths-of .ensures) in
+    let st = c .before .before .before .before .before .before .before .before .before .before .before .before .before .before .before .before .before .before .before .before .before .before .before .before .before .before .before .before .before .before .before .read-state .result in
+    let S = c .before .before .before .before .before .before .before .before .before .before .before .before .before .before .before .before .before .before .tally-of .ensures st refl (c .before .before .before .before .before .before .before .before .before .before .before .before .before .before .before .before .before .before .before .before .before .before .before .before .before .before .before .before .before .truths-of .ensures) in
     let A = c .before .before .before .before .before .before .before .before .before .before .before .total-rest .ensures (x .0 .0) (R .at) in
-    let same = c .before .before .before .before .before .before .before .before .before .before .before .before .before .before .before .before .before .before .before .before .before .before .before .before .before .read-state .ensures (x .0 .1) (x .1 .state) in
+    let same = c .before .before .before .before .before .before .before .before .before .before .before .before .before .before .before .before .before .before .before .before .before .before .before .before .before .before .before .before .before .before .before .read-state .ensures (x .0 .1) (x .1 .state) in
     let full = subst (λ (st : State). Full (st .values)) (sym same) (x .1 .state .full) in
-    (omega (arith, c .before .before .before .before .before .before .before .before .before .before .before .before .before .before .before .before .before .before .before .before .before .before .before .before .before .before .before .before .before .before .before .before .before .before .before .before .pre .0), ((c .before .before .before .before .before .before .before .before .before .before .before .before .before .before .before .before .before .before .before .before .before .before .before .before .before .before .before .before .before .before .before .before .before .before .before .before .pre .1 .0 .0, c .before .before .before .before .before .before .before .before .before .before .before .before .before .before .before .before .before .before .before .before .before .before .before .before .before .before .before .before .before .before .before .before .before .before .before .before .pre .1 .0 .1, S), ((x .0 .0, R, A .count-is ∙ count-known S R), (c .before .before .before .before .before .before .before .before .before .before .before .before .before .before .before .before .before .before .before .before .before .before .before .before .before .before .before .before .before .before .before .before .before .before .before .before .pre .1 .1 .1, omega arith, full))))
+    (omega (arith, c .before .before .before .before .before .before .before .before .before .before .before .before .before .before .before .before .before .before .before .before .before .before .before .before .before .before .before .before .before .before .before .before .before .before .before .before .before .before .before .pre .0), ((c .before .before .before .before .before .before .before .before .before .before .before .before .before .before .before .before .before .before .before .before .before .before .before .before .before .before .before .before .before .before .before .before .before .before .before .before .before .before .before .pre .1 .0 .0, c .before .before .before .before .before .before .before .before .before .before .before .before .before .before .before .before .before .before .before .before .before .before .before .before .before .before .before .before .before .before .before .before .before .before .before .before .before .before .before .pre .1 .0 .1, S), ((x .0 .0, R, A .count-is ∙ count-known S R), (c .before .before .before .before .before .before .before .before .before .before .before .before .before .before .before .before .before .before .before .before .before .before .before .before .before .before .before .before .before .before .before .before .before .before .before .before .before .before .before .pre .1 .1 .1, omega arith, full))))
 
 explore-same-length-5 : (t : ℕ) → explore-lts.Need-same-length-5 (explore-claims t) (explore-at t) explore.Post
 explore-same-length-5 t c = search needs
@@ -313,56 +342,56 @@ explore-same-length-6 t c = search needs
 
 explore-returns-5 : (t : ℕ) → explore-lts.Need-returns-5 (explore-claims t) (explore-at t) explore.Post
 explore-returns-5 t c =
-    let x = c .before .before .before .before .before .before .before .before .before .before .before .before .before .before .before .before .before .before .before .before .before .before .before .before .before .before .before .before .before .before .before .before .before .before .before .before .before .before .before .before .before .pre .1 .1 .0 in
+    let x = c .before .before .before .before .before .before .before .before .before .before .before .before .before .before .before .before .before .before .before .before .before .before .before .before .before .before .before .before .before .before .before .before .before .before .before .before .before .before .before .before .before .before .before .before .pre .1 .1 .0 in
     let g = x .0 .0 in
     let R = x .2 in
-    let s = now (c .before .before .before .before .before .before .before .before .before .before .before .before .before .before .before .before .before .before .before .before .before .before .before .before .before .before .before .before .before .before .before .before .before .before .before .before .before .before .before .before .before .args .s) in
-    let q = c .before .before .before .before .before .before .before .before .before .before .before .before .before .before .before .before .before .before .before .before .before .before .before .before .before .before .before .before .before .before .before .before .before .before .before .before .before .before .before .before .before .args .q in
-    let cut = c .before .before .before .before .before .before .before .before .before .before .before .before .before .before .before .before .before .before .before .before .before .before .before .before .before .before .before .before .before .before .before .before .before .before .before .before .before .before .before .before .before .args .cut in
-    let free = c .before .before .before .before .before .before .before .before .before .before .before .before .before .before .before .before .before .before .before .before .before .before .before .before .before .before .before .before .before .before .before .before .before .before .before .before .before .before .before .before .before .args .t .free in
-    let moves = drop (q .j) (now (c .before .before .before .before .before .before .before .before .before .before .before .before .before .before .before .before .before .before .before .before .before .before .before .before .before .before .before .before .before .before .before .before .before .before .before .before .before .before .before .before .before .args .moves)) in
-    let trace = now (c .before .before .before .before .before .before .before .before .before .before .before .before .before .before .before .before .before .before .before .before .before .before .before .before .before .before .before .before .before .before .before .before .before .before .before .before .before .before .before .before .before .args .trace) in
-    let st = c .before .before .before .before .before .before .before .before .before .before .before .before .before .before .before .before .before .before .before .before .before .before .before .before .before .before .before .before .before .before .read-state .result in
-    let S = c .before .before .before .before .before .before .before .before .before .before .before .before .before .before .before .before .before .before .before .before .before .before .before .tally-of .ensures st refl (c .before .before .before .before .before .before .before .before .before .before .before .before .before .before .before .before .before .before .before .before .before .before .before .before .before .before .before .before .truths-of .ensures) in
+    let s = now (c .before .before .before .before .before .before .before .before .before .before .before .before .before .before .before .before .before .before .before .before .before .before .before .before .before .before .before .before .before .before .before .before .before .before .before .before .before .before .before .before .before .before .before .before .args .s) in
+    let q = c .before .before .before .before .before .before .before .before .before .before .before .before .before .before .before .before .before .before .before .before .before .before .before .before .before .before .before .before .before .before .before .before .before .before .before .before .before .before .before .before .before .before .before .before .args .q in
+    let cut = c .before .before .before .before .before .before .before .before .before .before .before .before .before .before .before .before .before .before .before .before .before .before .before .before .before .before .before .before .before .before .before .before .before .before .before .before .before .before .before .before .before .before .before .before .args .cut in
+    let free = c .before .before .before .before .before .before .before .before .before .before .before .before .before .before .before .before .before .before .before .before .before .before .before .before .before .before .before .before .before .before .before .before .before .before .before .before .before .before .before .before .before .before .before .before .args .t .free in
+    let moves = drop (q .j) (now (c .before .before .before .before .before .before .before .before .before .before .before .before .before .before .before .before .before .before .before .before .before .before .before .before .before .before .before .before .before .before .before .before .before .before .before .before .before .before .before .before .before .before .before .before .args .moves)) in
+    let trace = now (c .before .before .before .before .before .before .before .before .before .before .before .before .before .before .before .before .before .before .before .before .before .before .before .before .before .before .before .before .before .before .before .before .before .before .before .before .before .before .before .before .before .before .before .before .args .trace) in
+    let st = c .before .before .before .before .before .before .before .before .before .before .before .before .before .before .before .before .before .before .before .before .before .before .before .before .before .before .before .before .before .before .before .before .before .before .before .before .read-state .result in
+    let S = c .before .before .before .before .before .before .before .before .before .before .before .before .before .before .before .before .before .before .before .before .before .before .before .tally-of .ensures st refl (c .before .before .before .before .before .before .before .before .before .before .before .before .before .before .before .before .before .before .before .before .before .before .before .before .before .before .before .before .before .before .before .before .before .before .truths-of .ensures) in
     let A = c .before .before .before .before .before .before .before .before .before .before .before .before .before .before .before .before .total-rest .ensures g (R .at) in
-    let e = c .before .before .before .before .before .before .before .before .before .before .before .before .before .before .before .is-over .ensures ∙ ap (λ (b : Bool). isNil moves && b) (A .done-is ∙ final-known S R) in (
-      λ u H. for-any R st (λ (v : Config). Reported (q .n) (q .d) trace (c .before .before .before .before .try-all .last .1 .1 .1 .1 .1 .1 .1 .0) (c .before .before .before .before .try-all .result) (join (flagged cut) (outcomeOf s free (q .left) (v, moves))))
-          (further s free st g moves (q .n) (q .d) trace cut _ e (q .left) _ _ (c .before .before .before .before .before .before .before .before .before .before .before .before .before .before .if2 .left) (omega arith) (c .before .before .before .before .try-all .ensures .0 g (R .at))) u H (c .before .before .before .before .before .before .before .before .before .before .before .before .before .before .before .before .before .before .before .before .before .before .before .before .before .before .before .before .before .before .read-state .ensures (u .1) (H .state)),
+    let e = c .before .before .before .before .before .before .before .before .before .before .before .before .before .before .before .is-over2 .ensures ∙ ap (λ (b : Bool). isNil moves && b) (A .done-is ∙ final-known S R) in (
+      λ u H. for-any R st (λ (v : Config). Reported (q .n) (q .d) trace (c .before .before .before .before .try-all .last .1 .1 .1 .1 .1 .1 .1 .1 .0) (c .before .before .before .before .try-all .result) (join (flagged cut) (outcomeOf s free (q .left) (v, moves))))
+          (further s free st g moves (q .n) (q .d) trace cut _ e (q .left) _ _ (c .before .before .before .before .before .before .before .before .before .before .before .before .before .before .if3 .left) (omega arith) (c .before .before .before .before .try-all .ensures .0 g (R .at))) u H (c .before .before .before .before .before .before .before .before .before .before .before .before .before .before .before .before .before .before .before .before .before .before .before .before .before .before .before .before .before .before .before .before .before .before .before .before .read-state .ensures (u .1) (H .state)),
       c .before .before .before .before .try-all .ensures .1,
     )
 
 abbrev try-all-Inv-loop : try-all-lts.InvT-loop
-try-all-Inv-loop s moves endable held finals counts work₀ trace₀ t q st before count cut₀ k₀ work trace cut k =
+try-all-Inv-loop s moves endable skips held finals counts work₀ trace₀ t q st before count cut₀ k₀ work trace cut k =
     Kept (q .at + t .frame) work₀ work
     × (trace ≡ trace₀)
     × ((g : Rest) → At g work₀ (q .at + 64) → Tried (outcomeOf s (t .free) (q .left - 1)) (t .free) (drop (q .j) moves) before (movesHeld (worldOf s) (heldRecords s) (g, st)) k cut)
 
 abbrev try-all-μ-loop : try-all-lts.MeasureT-loop
-try-all-μ-loop s moves endable held finals counts work₀ trace₀ t q st before count cut₀ k₀ work trace cut k = count - k
+try-all-μ-loop s moves endable skips held finals counts work₀ trace₀ t q st before count cut₀ k₀ work trace cut k = count - k
 
 try-all-loop-holds : (t : ℕ) → try-all-lts.Need-loop-holds (try-all-claims t) (try-all-at t) try-all.Post try-all-Inv-loop try-all-μ-loop
 try-all-loop-holds t c = (kept-refl _ _, refl, λ g a. tried-none _ _ _ _ _)
 
 try-all-try-step-requires : (t : ℕ) → try-all-lts.Need-try-step-requires (try-all-claims t) (try-all-at t) try-all.Post try-all-Inv-loop try-all-μ-loop
 try-all-try-step-requires t c κs =
-    let T = c .before .before .before .before .before .before .before .before .before .before .before .before .pre .1 .0 .0 in
-    let S = c .before .before .before .before .before .before .before .before .before .before .before .before .pre .1 .0 .2 in
-    let x = c .before .before .before .before .before .before .before .before .before .before .before .before .pre .1 .1 .0 in
+    let T = c .before .before .before .before .before .before .before .before .before .before .before .before .before .pre .1 .0 .0 in
+    let S = c .before .before .before .before .before .before .before .before .before .before .before .before .before .pre .1 .0 .2 in
+    let x = c .before .before .before .before .before .before .before .before .before .before .before .before .before .pre .1 .1 .0 in
     let g = x .0 in
     let R = x .1 in
-    let y = c .before .before .before .before .before .before .before .before .before .before .before .before .pre .1 .1 .1 in
-    let s = now (c .before .before .before .before .before .before .before .before .before .before .before .before .args .s) in
-    let q = c .before .before .before .before .before .before .before .before .before .before .before .before .args .q in
-    let st = c .before .before .before .before .before .before .before .before .before .before .before .before .args .st in
-    let free = c .before .before .before .before .before .before .before .before .before .before .before .before .args .t .free in
-    let moves = drop (q .j) (now (c .before .before .before .before .before .before .before .before .before .before .before .before .args .moves)) in
+    let y = c .before .before .before .before .before .before .before .before .before .before .before .before .before .pre .1 .1 .1 in
+    let s = now (c .before .before .before .before .before .before .before .before .before .before .before .before .before .args .s) in
+    let q = c .before .before .before .before .before .before .before .before .before .before .before .before .before .args .q in
+    let st = c .before .before .before .before .before .before .before .before .before .before .before .before .before .args .st in
+    let free = c .before .before .before .before .before .before .before .before .before .before .before .before .before .args .t .free in
+    let moves = drop (q .j) (now (c .before .before .before .before .before .before .before .before .before .before .before .before .before .args .moves)) in
     let f = outcomeOf s free (q .left - 1) in
     let xs = movesHeld (worldOf s) (heldRecords s) (g, st) in
     let I = c .before .before .before .loop .inv in
     let R′ = ready-kept R _ (I .0) in
     let count = x .2 in
-    let C = subst (λ (l : List ℕ). Counts (now (c .before .before .before .before .before .before .before .before .before .before .before .before .args .moves)) l q) (sym (I .1)) (y .0) in
-    (omega (arith, c .before .before .before .before .before .before .before .before .before .before .before .before .pre .0), ((T, c .before .before .before .before .before .before .before .before .before .before .before .before .pre .1 .0 .1, S), ((g, R′, omega (arith, c .before .before .loop-test .taken, count)), (C, y .1, y .2))))
+    let C = subst (λ (l : List ℕ). Counts (now (c .before .before .before .before .before .before .before .before .before .before .before .before .before .args .moves)) l q) (sym (I .1)) (y .0) in
+    (omega (arith, c .before .before .before .before .before .before .before .before .before .before .before .before .before .pre .0), ((T, c .before .before .before .before .before .before .before .before .before .before .before .before .before .pre .1 .0 .1, S), ((g, R′, omega (arith, c .before .before .loop-test .taken, count)), (C, y .1, y .2))))
 
 try-all-found-requires : (t : ℕ) → try-all-lts.Need-found-requires (try-all-claims t) (try-all-at t) try-all.Post try-all-Inv-loop try-all-μ-loop
 try-all-found-requires t c κs = search needs
@@ -375,26 +404,26 @@ try-all-same-length-2 t c = search needs
 
 try-all-returns : (t : ℕ) → try-all-lts.Need-returns (try-all-claims t) (try-all-at t) try-all.Post try-all-Inv-loop try-all-μ-loop
 try-all-returns t c =
-    let T = c .before .before .before .before .before .before .before .before .before .before .before .before .before .before .before .before .before .before .before .pre .1 .0 .0 in
-    let S = c .before .before .before .before .before .before .before .before .before .before .before .before .before .before .before .before .before .before .before .pre .1 .0 .2 in
-    let x = c .before .before .before .before .before .before .before .before .before .before .before .before .before .before .before .before .before .before .before .pre .1 .1 .0 in
+    let T = c .before .before .before .before .before .before .before .before .before .before .before .before .before .before .before .before .before .before .before .before .pre .1 .0 .0 in
+    let S = c .before .before .before .before .before .before .before .before .before .before .before .before .before .before .before .before .before .before .before .before .pre .1 .0 .2 in
+    let x = c .before .before .before .before .before .before .before .before .before .before .before .before .before .before .before .before .before .before .before .before .pre .1 .1 .0 in
     let g = x .0 in
     let R = x .1 in
-    let y = c .before .before .before .before .before .before .before .before .before .before .before .before .before .before .before .before .before .before .before .pre .1 .1 .1 in
-    let s = now (c .before .before .before .before .before .before .before .before .before .before .before .before .before .before .before .before .before .before .before .args .s) in
-    let q = c .before .before .before .before .before .before .before .before .before .before .before .before .before .before .before .before .before .before .before .args .q in
-    let st = c .before .before .before .before .before .before .before .before .before .before .before .before .before .before .before .before .before .before .before .args .st in
-    let free = c .before .before .before .before .before .before .before .before .before .before .before .before .before .before .before .before .before .before .before .args .t .free in
-    let moves = drop (q .j) (now (c .before .before .before .before .before .before .before .before .before .before .before .before .before .before .before .before .before .before .before .args .moves)) in
+    let y = c .before .before .before .before .before .before .before .before .before .before .before .before .before .before .before .before .before .before .before .before .pre .1 .1 .1 in
+    let s = now (c .before .before .before .before .before .before .before .before .before .before .before .before .before .before .before .before .before .before .before .before .args .s) in
+    let q = c .before .before .before .before .before .before .before .before .before .before .before .before .before .before .before .before .before .before .before .before .args .q in
+    let st = c .before .before .before .before .before .before .before .before .before .before .before .before .before .before .before .before .before .before .before .before .args .st in
+    let free = c .before .before .before .before .before .before .before .before .before .before .before .before .before .before .before .before .before .before .before .before .args .t .free in
+    let moves = drop (q .j) (now (c .before .before .before .before .before .before .before .before .before .before .before .before .before .before .before .before .before .before .before .before .args .moves)) in
     let f = outcomeOf s free (q .left - 1) in
     let xs = movesHeld (worldOf s) (heldRecords s) (g, st) in
     let I = c .before .before .before .before .before .before .before .before .before .before .loop .inv in
     let R′ = ready-kept R _ (I .0) in
     let B = c .before .before .before .before .before .before .try-step .ensures .0 g (R′ .at) in
     let H = I .2 g (R .at) in
-    let Z = tried-found f free moves (c .before .before .before .before .before .before .before .before .before .before .before .before .before .before .before .before .before .before .before .args .before) xs (c .before .before .before .before .before .before .before .before .before .before .loop .k) (c .before .before .before .before .before .before .before .before .before .before .loop .cut) H (B .taken) (B .nth) (q .n) (q .d) (c .before .before .before .before .before .before .before .before .before .before .loop .trace) _ (c .before .before .before .before .before .before .try-step .result) (B .reported) (sym (c .before .found .ensures) ∙ c .if1 .taken) in (
-      for-rest R (λ (g : Rest). Reported (q .n) (q .d) (now (c .before .before .before .before .before .before .before .before .before .before .before .before .before .before .before .before .before .before .before .args .trace)) (c .before .before .before .before .before .before .try-step .last .1 .1 .1 .1 .1 .1 .1 .0) (c .before .before .before .before .before .before .try-step .result) (join (flagged (c .before .before .before .before .before .before .before .before .before .before .before .before .before .before .before .before .before .before .before .args .before)) (branchesOf s free (q .left) (g, st) moves)))
-          (subst (λ (l : List ℕ). Reported (q .n) (q .d) l (c .before .before .before .before .before .before .try-step .last .1 .1 .1 .1 .1 .1 .1 .0) (c .before .before .before .before .before .before .try-step .result) (join (flagged (c .before .before .before .before .before .before .before .before .before .before .before .before .before .before .before .before .before .before .before .args .before)) (branchesOf s free (q .left) (g, st) moves))) (I .1) Z),
+    let Z = tried-found f free moves (c .before .before .before .before .before .before .before .before .before .before .before .before .before .before .before .before .before .before .before .before .args .before) xs (c .before .before .before .before .before .before .before .before .before .before .loop .k) (c .before .before .before .before .before .before .before .before .before .before .loop .cut) H (B .taken) (B .nth) (q .n) (q .d) (c .before .before .before .before .before .before .before .before .before .before .loop .trace) _ (c .before .before .before .before .before .before .try-step .result) (B .reported) (sym (c .before .found .ensures) ∙ c .if1 .taken) in (
+      for-rest R (λ (g : Rest). Reported (q .n) (q .d) (now (c .before .before .before .before .before .before .before .before .before .before .before .before .before .before .before .before .before .before .before .before .args .trace)) (c .before .before .before .before .before .before .try-step .last .1 .1 .1 .1 .1 .1 .1 .1 .0) (c .before .before .before .before .before .before .try-step .result) (join (flagged (c .before .before .before .before .before .before .before .before .before .before .before .before .before .before .before .before .before .before .before .before .args .before)) (branchesOf s free (q .left) (g, st) moves)))
+          (subst (λ (l : List ℕ). Reported (q .n) (q .d) l (c .before .before .before .before .before .before .try-step .last .1 .1 .1 .1 .1 .1 .1 .1 .0) (c .before .before .before .before .before .before .try-step .result) (join (flagged (c .before .before .before .before .before .before .before .before .before .before .before .before .before .before .before .before .before .before .before .before .args .before)) (branchesOf s free (q .left) (g, st) moves))) (I .1) Z),
       kept-trans _ _ _ _ _ (I .0) (c .before .before .before .before .before .before .try-step .ensures .1) (omega arith),
     )
 
@@ -409,28 +438,28 @@ try-all-loop-less t c = omega arith
 
 try-all-loop-again : (t : ℕ) → try-all-lts.Need-loop-again (try-all-claims t) (try-all-at t) try-all.Post try-all-Inv-loop try-all-μ-loop
 try-all-loop-again t c =
-    let T = c .before .before .before .before .before .before .before .before .before .before .before .before .before .before .before .before .before .before .before .before .pre .1 .0 .0 in
-    let S = c .before .before .before .before .before .before .before .before .before .before .before .before .before .before .before .before .before .before .before .before .pre .1 .0 .2 in
-    let x = c .before .before .before .before .before .before .before .before .before .before .before .before .before .before .before .before .before .before .before .before .pre .1 .1 .0 in
+    let T = c .before .before .before .before .before .before .before .before .before .before .before .before .before .before .before .before .before .before .before .before .before .pre .1 .0 .0 in
+    let S = c .before .before .before .before .before .before .before .before .before .before .before .before .before .before .before .before .before .before .before .before .before .pre .1 .0 .2 in
+    let x = c .before .before .before .before .before .before .before .before .before .before .before .before .before .before .before .before .before .before .before .before .before .pre .1 .1 .0 in
     let g = x .0 in
     let R = x .1 in
-    let y = c .before .before .before .before .before .before .before .before .before .before .before .before .before .before .before .before .before .before .before .before .pre .1 .1 .1 in
-    let s = now (c .before .before .before .before .before .before .before .before .before .before .before .before .before .before .before .before .before .before .before .before .args .s) in
-    let q = c .before .before .before .before .before .before .before .before .before .before .before .before .before .before .before .before .before .before .before .before .args .q in
-    let st = c .before .before .before .before .before .before .before .before .before .before .before .before .before .before .before .before .before .before .before .before .args .st in
-    let free = c .before .before .before .before .before .before .before .before .before .before .before .before .before .before .before .before .before .before .before .before .args .t .free in
-    let moves = drop (q .j) (now (c .before .before .before .before .before .before .before .before .before .before .before .before .before .before .before .before .before .before .before .before .args .moves)) in
+    let y = c .before .before .before .before .before .before .before .before .before .before .before .before .before .before .before .before .before .before .before .before .before .pre .1 .1 .1 in
+    let s = now (c .before .before .before .before .before .before .before .before .before .before .before .before .before .before .before .before .before .before .before .before .before .args .s) in
+    let q = c .before .before .before .before .before .before .before .before .before .before .before .before .before .before .before .before .before .before .before .before .before .args .q in
+    let st = c .before .before .before .before .before .before .before .before .before .before .before .before .before .before .before .before .before .before .before .before .before .args .st in
+    let free = c .before .before .before .before .before .before .before .before .before .before .before .before .before .before .before .before .before .before .before .before .before .args .t .free in
+    let moves = drop (q .j) (now (c .before .before .before .before .before .before .before .before .before .before .before .before .before .before .before .before .before .before .before .before .before .args .moves)) in
     let f = outcomeOf s free (q .left - 1) in
     let xs = movesHeld (worldOf s) (heldRecords s) (g, st) in
     let I = c .before .before .before .before .before .before .before .before .before .before .before .loop .inv in
     let R′ = ready-kept R _ (I .0) in
     let B = c .before .before .before .before .before .before .before .try-step .ensures .0 g (R′ .at) in
     let H = I .2 g (R .at) in
-    let Z = tried-more f free moves (c .before .before .before .before .before .before .before .before .before .before .before .before .before .before .before .before .before .before .before .before .args .before) xs (c .before .before .before .before .before .before .before .before .before .before .before .loop .k) (c .before .before .before .before .before .before .before .before .before .before .before .loop .cut) H (B .taken) (B .nth) (q .n) (q .d) (c .before .before .before .before .before .before .before .before .before .before .before .loop .trace) _ (c .before .before .before .before .before .before .before .try-step .result) (B .reported) (sym (c .before .before .found .ensures) ∙ c .before .if1 .left) in (
+    let Z = tried-more f free moves (c .before .before .before .before .before .before .before .before .before .before .before .before .before .before .before .before .before .before .before .before .before .args .before) xs (c .before .before .before .before .before .before .before .before .before .before .before .loop .k) (c .before .before .before .before .before .before .before .before .before .before .before .loop .cut) H (B .taken) (B .nth) (q .n) (q .d) (c .before .before .before .before .before .before .before .before .before .before .before .loop .trace) _ (c .before .before .before .before .before .before .before .try-step .result) (B .reported) (sym (c .before .before .found .ensures) ∙ c .before .if1 .left) in (
       kept-trans _ _ _ _ _ (I .0) (c .before .before .before .before .before .before .before .try-step .ensures .1) (omega arith),
       Z .0 ∙ I .1,
-      for-rest R (λ (g : Rest). Tried f free moves (c .before .before .before .before .before .before .before .before .before .before .before .before .before .before .before .before .before .before .before .before .args .before) (movesHeld (worldOf s) (heldRecords s) (g, st)) (c .before .before .before .before .before .before .before .before .before .before .before .loop .k + 1) (c .is-more .result))
-          (subst (Tried f free moves (c .before .before .before .before .before .before .before .before .before .before .before .before .before .before .before .before .before .before .before .before .args .before) xs (c .before .before .before .before .before .before .before .before .before .before .before .loop .k + 1)) (sym (c .is-more .ensures)) (Z .1)),
+      for-rest R (λ (g : Rest). Tried f free moves (c .before .before .before .before .before .before .before .before .before .before .before .before .before .before .before .before .before .before .before .before .before .args .before) (movesHeld (worldOf s) (heldRecords s) (g, st)) (c .before .before .before .before .before .before .before .before .before .before .before .loop .k + 1) (c .is-more .result))
+          (subst (Tried f free moves (c .before .before .before .before .before .before .before .before .before .before .before .before .before .before .before .before .before .before .before .before .before .args .before) xs (c .before .before .before .before .before .before .before .before .before .before .before .loop .k + 1)) (sym (c .is-more .ensures)) (Z .1)),
     )
 
 try-all-unfound-requires : (t : ℕ) → try-all-lts.Need-unfound-requires (try-all-claims t) (try-all-at t) try-all.Post try-all-Inv-loop try-all-μ-loop
@@ -444,86 +473,86 @@ try-all-same-length-4 t c = search needs
 
 try-all-returns-2 : (t : ℕ) → try-all-lts.Need-returns-2 (try-all-claims t) (try-all-at t) try-all.Post try-all-Inv-loop try-all-μ-loop
 try-all-returns-2 t c =
-    let x = c .before .before .before .before .before .before .before .before .before .before .before .pre .1 .1 .0 in
+    let x = c .before .before .before .before .before .before .before .before .before .before .before .before .pre .1 .1 .0 in
     let g = x .0 in
     let R = x .1 in
-    let s = now (c .before .before .before .before .before .before .before .before .before .before .before .args .s) in
-    let q = c .before .before .before .before .before .before .before .before .before .before .before .args .q in
-    let st = c .before .before .before .before .before .before .before .before .before .before .before .args .st in
-    let was = c .before .before .before .before .before .before .before .before .before .before .before .args .before in
-    let free = c .before .before .before .before .before .before .before .before .before .before .before .args .t .free in
-    let moves = drop (q .j) (now (c .before .before .before .before .before .before .before .before .before .before .before .args .moves)) in
+    let s = now (c .before .before .before .before .before .before .before .before .before .before .before .before .args .s) in
+    let q = c .before .before .before .before .before .before .before .before .before .before .before .before .args .q in
+    let st = c .before .before .before .before .before .before .before .before .before .before .before .before .args .st in
+    let was = c .before .before .before .before .before .before .before .before .before .before .before .before .args .before in
+    let free = c .before .before .before .before .before .before .before .before .before .before .before .before .args .t .free in
+    let moves = drop (q .j) (now (c .before .before .before .before .before .before .before .before .before .before .before .before .args .moves)) in
     let f = outcomeOf s free (q .left - 1) in
     let xs = movesHeld (worldOf s) (heldRecords s) (g, st) in
     let I = c .before .before .loop .inv in
     let Z = tried-all f free moves was xs (c .before .before .loop .k) (c .before .before .loop .cut) (I .2 g (R .at)) (omega (arith, c .before .loop-test .left, x .2, moves-length s st g)) in (
-      for-rest R (λ (g : Rest). Reported (q .n) (q .d) (now (c .before .before .before .before .before .before .before .before .before .before .before .args .trace)) (c .before .before .loop .trace) (c .unfound .result) (join (flagged was) (branchesOf s free (q .left) (g, st) moves)))
+      for-rest R (λ (g : Rest). Reported (q .n) (q .d) (now (c .before .before .before .before .before .before .before .before .before .before .before .before .args .trace)) (c .before .before .loop .trace) (c .unfound .result) (join (flagged was) (branchesOf s free (q .left) (g, st) moves)))
           (flag-reported (q .n) (q .d) (c .before .before .loop .cut) (sym Z) (c .unfound .ensures) (I .1)),
       I .0,
     )
 
 try-step-add-to : (t : ℕ) → try-step-lts.Need-add-to (try-step-claims t) (try-step-at t) try-step.Post
 try-step-add-to t c =
-    let T = c .before .before .before .before .before .before .before .before .before .before .before .pre .1 .0 .0 in
-    let S = c .before .before .before .before .before .before .before .before .before .before .before .pre .1 .0 .2 in
-    let x = c .before .before .before .before .before .before .before .before .before .before .before .pre .1 .1 .0 in
+    let T = c .before .before .before .before .before .before .before .before .before .before .before .before .pre .1 .0 .0 in
+    let S = c .before .before .before .before .before .before .before .before .before .before .before .before .pre .1 .0 .2 in
+    let x = c .before .before .before .before .before .before .before .before .before .before .before .before .pre .1 .1 .0 in
     let R = x .1 in
-    let y = c .before .before .before .before .before .before .before .before .before .before .before .pre .1 .1 .1 in
+    let y = c .before .before .before .before .before .before .before .before .before .before .before .before .pre .1 .1 .1 in
     let L = y .1 in
     let C = y .0 in
     omega (arith, in-frame R, next-inside R L, ready-small R, one-frame R)
 
 try-step-sub-step-rest : (t : ℕ) → try-step-lts.Need-sub-step-rest (try-step-claims t) (try-step-at t) try-step.Post
 try-step-sub-step-rest t c =
-    let T = c .before .before .before .before .before .before .before .before .before .before .before .pre .1 .0 .0 in
-    let f = fits-of (now (c .before .before .before .before .before .before .before .before .before .before .before .args .s)) (c .before .before .before .before .before .before .before .before .before .before .before .args .t .layout) (T .accepted, T .layout-is) in
+    let T = c .before .before .before .before .before .before .before .before .before .before .before .before .pre .1 .0 .0 in
+    let f = fits-of (now (c .before .before .before .before .before .before .before .before .before .before .before .before .args .s)) (c .before .before .before .before .before .before .before .before .before .before .before .before .args .t .layout) (T .accepted, T .layout-is) in
     omega (arith, f .at-formulas, f .at-effects, f .at-actions, f .at-programs, f .at-end, f .inside)
 
 try-step-part-step-rest-start : (t : ℕ) → try-step-lts.Need-part-step-rest-start (try-step-claims t) (try-step-at t) try-step.Post
 try-step-part-step-rest-start t c =
-    let T = c .before .before .before .before .before .before .before .before .before .before .before .pre .1 .0 .0 in
-    let f = fits-of (now (c .before .before .before .before .before .before .before .before .before .before .before .args .s)) (c .before .before .before .before .before .before .before .before .before .before .before .args .t .layout) (T .accepted, T .layout-is) in
+    let T = c .before .before .before .before .before .before .before .before .before .before .before .before .pre .1 .0 .0 in
+    let f = fits-of (now (c .before .before .before .before .before .before .before .before .before .before .before .before .args .s)) (c .before .before .before .before .before .before .before .before .before .before .before .before .args .t .layout) (T .accepted, T .layout-is) in
     omega (arith, f .at-formulas, f .at-effects, f .at-actions, f .at-programs, f .at-end, f .inside)
 
 try-step-part-step-rest-end : (t : ℕ) → try-step-lts.Need-part-step-rest-end (try-step-claims t) (try-step-at t) try-step.Post
 try-step-part-step-rest-end t c =
-    let T = c .before .before .before .before .before .before .before .before .before .before .before .pre .1 .0 .0 in
-    let f = fits-of (now (c .before .before .before .before .before .before .before .before .before .before .before .args .s)) (c .before .before .before .before .before .before .before .before .before .before .before .args .t .layout) (T .accepted, T .layout-is) in
+    let T = c .before .before .before .before .before .before .before .before .before .before .before .before .pre .1 .0 .0 in
+    let f = fits-of (now (c .before .before .before .before .before .before .before .before .before .before .before .before .args .s)) (c .before .before .before .before .before .before .before .before .before .before .before .before .args .t .layout) (T .accepted, T .layout-is) in
     omega (arith, f .at-formulas, f .at-effects, f .at-actions, f .at-programs, f .at-end, f .inside)
 
 try-step-add-step-rest : (t : ℕ) → try-step-lts.Need-add-step-rest (try-step-claims t) (try-step-at t) try-step.Post
 try-step-add-step-rest t c =
-    let T = c .before .before .before .before .before .before .before .before .before .before .before .before .before .before .pre .1 .0 .0 in
-    let S = c .before .before .before .before .before .before .before .before .before .before .before .before .before .before .pre .1 .0 .2 in
-    let x = c .before .before .before .before .before .before .before .before .before .before .before .before .before .before .pre .1 .1 .0 in
+    let T = c .before .before .before .before .before .before .before .before .before .before .before .before .before .before .before .pre .1 .0 .0 in
+    let S = c .before .before .before .before .before .before .before .before .before .before .before .before .before .before .before .pre .1 .0 .2 in
+    let x = c .before .before .before .before .before .before .before .before .before .before .before .before .before .before .before .pre .1 .1 .0 in
     let R = x .1 in
-    let y = c .before .before .before .before .before .before .before .before .before .before .before .before .before .before .pre .1 .1 .1 in
+    let y = c .before .before .before .before .before .before .before .before .before .before .before .before .before .before .before .pre .1 .1 .1 in
     let L = y .1 in
     let C = y .0 in
     omega (arith, in-frame R, next-inside R L, ready-small R, one-frame R)
 
 try-step-add-step-rest-2 : (t : ℕ) → try-step-lts.Need-add-step-rest-2 (try-step-claims t) (try-step-at t) try-step.Post
 try-step-add-step-rest-2 t c =
-    let T = c .before .before .before .before .before .before .before .before .before .before .before .before .before .before .pre .1 .0 .0 in
-    let S = c .before .before .before .before .before .before .before .before .before .before .before .before .before .before .pre .1 .0 .2 in
-    let x = c .before .before .before .before .before .before .before .before .before .before .before .before .before .before .pre .1 .1 .0 in
+    let T = c .before .before .before .before .before .before .before .before .before .before .before .before .before .before .before .pre .1 .0 .0 in
+    let S = c .before .before .before .before .before .before .before .before .before .before .before .before .before .before .before .pre .1 .0 .2 in
+    let x = c .before .before .before .before .before .before .before .before .before .before .before .before .before .before .before .pre .1 .1 .0 in
     let R = x .1 in
-    let y = c .before .before .before .before .before .before .before .before .before .before .before .before .before .before .pre .1 .1 .1 in
+    let y = c .before .before .before .before .before .before .before .before .before .before .before .before .before .before .before .pre .1 .1 .1 in
     let L = y .1 in
     let C = y .0 in
     omega (arith, in-frame R, next-inside R L, ready-small R, one-frame R)
 
 try-step-step-rest-requires : (t : ℕ) → try-step-lts.Need-step-rest-requires (try-step-claims t) (try-step-at t) try-step.Post
 try-step-step-rest-requires t c κs =
-    let T = c .before .before .before .before .before .before .before .before .before .before .before .before .before .before .pre .1 .0 .0 in
-    let S = c .before .before .before .before .before .before .before .before .before .before .before .before .before .before .pre .1 .0 .2 in
-    let x = c .before .before .before .before .before .before .before .before .before .before .before .before .before .before .pre .1 .1 .0 in
+    let T = c .before .before .before .before .before .before .before .before .before .before .before .before .before .before .before .pre .1 .0 .0 in
+    let S = c .before .before .before .before .before .before .before .before .before .before .before .before .before .before .before .pre .1 .0 .2 in
+    let x = c .before .before .before .before .before .before .before .before .before .before .before .before .before .before .before .pre .1 .1 .0 in
     let R = x .1 in
-    let y = c .before .before .before .before .before .before .before .before .before .before .before .before .before .before .pre .1 .1 .1 in
+    let y = c .before .before .before .before .before .before .before .before .before .before .before .before .before .before .before .pre .1 .1 .1 in
     let L = y .1 in
     let C = y .0 in
-    let s = now (c .before .before .before .before .before .before .before .before .before .before .before .before .before .before .args .s) in
-    let l = c .before .before .before .before .before .before .before .before .before .before .before .before .before .before .args .t .layout in
+    let s = now (c .before .before .before .before .before .before .before .before .before .before .before .before .before .before .before .args .s) in
+    let l = c .before .before .before .before .before .before .before .before .before .before .before .before .before .before .before .args .t .layout in
     let f = fits-of s l (T .accepted, T .layout-is) in
     let n = part-length s (l .programs) (l .end) (omega (arith, f .at-end)) (omega (arith, f .inside)) in
     ((omega (arith, n, f .at-end), f .some-record, f .p), asked T S R L)
@@ -539,22 +568,22 @@ try-step-same-length t c = search needs
 
 try-step-returns : (t : ℕ) → try-step-lts.Need-returns (try-step-claims t) (try-step-at t) try-step.Post
 try-step-returns t c =
-    let T = c .before .before .before .before .before .before .before .before .before .before .before .before .before .before .before .before .before .before .before .pre .1 .0 .0 in
-    let S = c .before .before .before .before .before .before .before .before .before .before .before .before .before .before .before .before .before .before .before .pre .1 .0 .2 in
-    let x = c .before .before .before .before .before .before .before .before .before .before .before .before .before .before .before .before .before .before .before .pre .1 .1 .0 in
+    let T = c .before .before .before .before .before .before .before .before .before .before .before .before .before .before .before .before .before .before .before .before .pre .1 .0 .0 in
+    let S = c .before .before .before .before .before .before .before .before .before .before .before .before .before .before .before .before .before .before .before .before .pre .1 .0 .2 in
+    let x = c .before .before .before .before .before .before .before .before .before .before .before .before .before .before .before .before .before .before .before .before .pre .1 .1 .0 in
     let R = x .1 in
-    let y = c .before .before .before .before .before .before .before .before .before .before .before .before .before .before .before .before .before .before .before .pre .1 .1 .1 in
+    let y = c .before .before .before .before .before .before .before .before .before .before .before .before .before .before .before .before .before .before .before .before .pre .1 .1 .1 in
     let L = y .1 in
     let C = y .0 in
     absurd (none-left T S R L (c .before .before .before .before .step-rest .ensures) _ _ (c .enum-told .given .1) (x .2))
 
 try-step-lets-pass-requires : (t : ℕ) → try-step-lts.Need-lets-pass-requires (try-step-claims t) (try-step-at t) try-step.Post
 try-step-lets-pass-requires t c κs =
-    let T = c .before .before .before .before .before .before .before .before .before .before .before .before .before .before .before .before .before .before .before .before .pre .1 .0 .0 in
-    let S = c .before .before .before .before .before .before .before .before .before .before .before .before .before .before .before .before .before .before .before .before .pre .1 .0 .2 in
-    let x = c .before .before .before .before .before .before .before .before .before .before .before .before .before .before .before .before .before .before .before .before .pre .1 .1 .0 in
+    let T = c .before .before .before .before .before .before .before .before .before .before .before .before .before .before .before .before .before .before .before .before .before .pre .1 .0 .0 in
+    let S = c .before .before .before .before .before .before .before .before .before .before .before .before .before .before .before .before .before .before .before .before .before .pre .1 .0 .2 in
+    let x = c .before .before .before .before .before .before .before .before .before .before .before .before .before .before .before .before .before .before .before .before .before .pre .1 .1 .0 in
     let R = x .1 in
-    let y = c .before .before .before .before .before .before .before .before .before .before .before .before .before .before .before .before .before .before .before .before .pre .1 .1 .1 in
+    let y = c .before .before .before .before .before .before .before .before .before .before .before .before .before .before .before .before .before .before .before .before .before .pre .1 .1 .1 in
     let L = y .1 in
     let C = y .0 in
     C .made
@@ -567,29 +596,29 @@ try-step-same-length-2 t c = search needs
 
 try-step-returns-2 : (t : ℕ) → try-step-lts.Need-returns-2 (try-step-claims t) (try-step-at t) try-step.Post
 try-step-returns-2 t c =
-    let T = c .before .before .before .before .before .before .before .before .before .before .before .before .before .before .before .before .before .before .before .before .before .before .before .pre .1 .0 .0 in
-    let S = c .before .before .before .before .before .before .before .before .before .before .before .before .before .before .before .before .before .before .before .before .before .before .before .pre .1 .0 .2 in
-    let x = c .before .before .before .before .before .before .before .before .before .before .before .before .before .before .before .before .before .before .before .before .before .before .before .pre .1 .1 .0 in
+    let T = c .before .before .before .before .before .before .before .before .before .before .before .before .before .before .before .before .before .before .before .before .before .before .before .before .pre .1 .0 .0 in
+    let S = c .before .before .before .before .before .before .before .before .before .before .before .before .before .before .before .before .before .before .before .before .before .before .before .before .pre .1 .0 .2 in
+    let x = c .before .before .before .before .before .before .before .before .before .before .before .before .before .before .before .before .before .before .before .before .before .before .before .before .pre .1 .1 .0 in
     let R = x .1 in
-    let y = c .before .before .before .before .before .before .before .before .before .before .before .before .before .before .before .before .before .before .before .before .before .before .before .pre .1 .1 .1 in
+    let y = c .before .before .before .before .before .before .before .before .before .before .before .before .before .before .before .before .before .before .before .before .before .before .before .before .pre .1 .1 .1 in
     let L = y .1 in
     let C = y .0 in
     let X = taken T S R L (c .before .before .before .before .before .before .before .before .step-rest .ensures) _ _ (c .before .before .before .before .turn .given .1) in
     let m = X .move .0 in
     let known = taken-known T S R L X in
-    let s = now (c .before .before .before .before .before .before .before .before .before .before .before .before .before .before .before .before .before .before .before .before .before .before .before .args .s) in
-    let free = c .before .before .before .before .before .before .before .before .before .before .before .before .before .before .before .before .before .before .before .before .before .before .before .args .t .free in
-    let moves = now (c .before .before .before .before .before .before .before .before .before .before .before .before .before .before .before .before .before .before .before .before .before .before .before .args .moves) in
+    let s = now (c .before .before .before .before .before .before .before .before .before .before .before .before .before .before .before .before .before .before .before .before .before .before .before .before .args .s) in
+    let free = c .before .before .before .before .before .before .before .before .before .before .before .before .before .before .before .before .before .before .before .before .before .before .before .before .args .t .free in
+    let moves = now (c .before .before .before .before .before .before .before .before .before .before .before .before .before .before .before .before .before .before .before .before .before .before .before .before .args .moves) in
     let held = sym (c .before .before .lets-pass .ensures m known (X .code)) ∙ not-true _ (c .before .if1 .taken) in
-    (branched-any R (subst (Branched s free moves (c .before .before .before .before .before .before .before .before .before .before .before .before .before .before .before .before .before .before .before .before .before .before .before .args .q) (c .before .before .before .before .before .before .before .before .before .before .before .before .before .before .before .before .before .before .before .before .before .before .before .args .st) (x .0) (c .before .before .before .before .before .before .before .before .before .before .before .before .before .before .before .before .before .before .before .before .before .before .before .args .cut) (c .before .before .before .before .before .before .before .before .before .before .before .before .before .before .before .before .before .before .before .before .before .before .before .args .k) (now (c .before .before .before .before .before .before .before .before .before .before .before .before .before .before .before .before .before .before .before .before .before .before .before .args .trace)) (now (c .before .before .before .before .before .before .before .before .before .before .before .before .before .before .before .before .before .before .before .before .before .before .before .args .trace))) (sym (c .unfound .ensures)) (back T S R L X free moves (now (c .before .before .before .before .before .before .before .before .before .before .before .before .before .before .before .before .before .before .before .before .before .before .before .args .trace)) (c .before .before .before .before .before .before .before .before .before .before .before .before .before .before .before .before .before .before .before .before .before .before .before .args .cut) held)), kept-less _ _ _ _ (X .kept) (omega arith))
+    (branched-any R (subst (Branched s free moves (c .before .before .before .before .before .before .before .before .before .before .before .before .before .before .before .before .before .before .before .before .before .before .before .before .args .q) (c .before .before .before .before .before .before .before .before .before .before .before .before .before .before .before .before .before .before .before .before .before .before .before .before .args .st) (x .0) (c .before .before .before .before .before .before .before .before .before .before .before .before .before .before .before .before .before .before .before .before .before .before .before .before .args .cut) (c .before .before .before .before .before .before .before .before .before .before .before .before .before .before .before .before .before .before .before .before .before .before .before .before .args .k) (now (c .before .before .before .before .before .before .before .before .before .before .before .before .before .before .before .before .before .before .before .before .before .before .before .before .args .trace)) (now (c .before .before .before .before .before .before .before .before .before .before .before .before .before .before .before .before .before .before .before .before .before .before .before .before .args .trace))) (sym (c .unfound .ensures)) (back T S R L X free moves (now (c .before .before .before .before .before .before .before .before .before .before .before .before .before .before .before .before .before .before .before .before .before .before .before .before .args .trace)) (c .before .before .before .before .before .before .before .before .before .before .before .before .before .before .before .before .before .before .before .before .before .before .before .before .args .cut) held)), kept-less _ _ _ _ (X .kept) (omega arith))
 
 try-step-state-after-requires : (t : ℕ) → try-step-lts.Need-state-after-requires (try-step-claims t) (try-step-at t) try-step.Post
 try-step-state-after-requires t c κs =
-    let T = c .before .before .before .before .before .before .before .before .before .before .before .before .before .before .before .before .before .before .before .before .before .before .before .pre .1 .0 .0 in
-    let S = c .before .before .before .before .before .before .before .before .before .before .before .before .before .before .before .before .before .before .before .before .before .before .before .pre .1 .0 .2 in
-    let x = c .before .before .before .before .before .before .before .before .before .before .before .before .before .before .before .before .before .before .before .before .before .before .before .pre .1 .1 .0 in
+    let T = c .before .before .before .before .before .before .before .before .before .before .before .before .before .before .before .before .before .before .before .before .before .before .before .before .pre .1 .0 .0 in
+    let S = c .before .before .before .before .before .before .before .before .before .before .before .before .before .before .before .before .before .before .before .before .before .before .before .before .pre .1 .0 .2 in
+    let x = c .before .before .before .before .before .before .before .before .before .before .before .before .before .before .before .before .before .before .before .before .before .before .before .before .pre .1 .1 .0 in
     let R = x .1 in
-    let y = c .before .before .before .before .before .before .before .before .before .before .before .before .before .before .before .before .before .before .before .before .before .before .before .pre .1 .1 .1 in
+    let y = c .before .before .before .before .before .before .before .before .before .before .before .before .before .before .before .before .before .before .before .before .before .before .before .before .pre .1 .1 .1 in
     let L = y .1 in
     let C = y .0 in
     let X = taken T S R L (c .before .before .before .before .before .before .before .before .step-rest .ensures) _ _ (c .before .before .before .before .turn .given .1) in
@@ -599,11 +628,11 @@ try-step-state-after-requires t c κs =
 
 try-step-write-state-requires : (t : ℕ) → try-step-lts.Need-write-state-requires (try-step-claims t) (try-step-at t) try-step.Post
 try-step-write-state-requires t c κs =
-    let T = c .before .before .before .before .before .before .before .before .before .before .before .before .before .before .before .before .before .before .before .before .before .before .before .before .pre .1 .0 .0 in
-    let S = c .before .before .before .before .before .before .before .before .before .before .before .before .before .before .before .before .before .before .before .before .before .before .before .before .pre .1 .0 .2 in
-    let x = c .before .before .before .before .before .before .before .before .before .before .before .before .before .before .before .before .before .before .before .before .before .before .before .before .pre .1 .1 .0 in
+    let T = c .before .before .before .before .before .before .before .before .before .before .before .before .before .before .before .before .before .before .before .before .before .before .before .before .before .pre .1 .0 .0 in
+    let S = c .before .before .before .before .before .before .before .before .before .before .before .before .before .before .before .before .before .before .before .before .before .before .before .before .before .pre .1 .0 .2 in
+    let x = c .before .before .before .before .before .before .before .before .before .before .before .before .before .before .before .before .before .before .before .before .before .before .before .before .before .pre .1 .1 .0 in
     let R = x .1 in
-    let y = c .before .before .before .before .before .before .before .before .before .before .before .before .before .before .before .before .before .before .before .before .before .before .before .before .pre .1 .1 .1 in
+    let y = c .before .before .before .before .before .before .before .before .before .before .before .before .before .before .before .before .before .before .before .before .before .before .before .before .before .pre .1 .1 .1 in
     let L = y .1 in
     let C = y .0 in
     let X = taken T S R L (c .before .before .before .before .before .before .before .before .before .step-rest .ensures) _ _ (c .before .before .before .before .before .turn .given .1) in
@@ -611,41 +640,30 @@ try-step-write-state-requires t c κs =
     let known = taken-known T S R L X in
     omega (arith, next-inside R L, X .kept .len, one-frame R)
 
-try-step-sub-t23 : (t : ℕ) → try-step-lts.Need-sub-t23 (try-step-claims t) (try-step-at t) try-step.Post
-try-step-sub-t23 t c =
-    let T = c .before .before .before .before .before .before .before .before .before .before .before .before .before .before .before .before .before .before .before .before .before .before .before .before .before .before .before .before .pre .1 .0 .0 in
-    let S = c .before .before .before .before .before .before .before .before .before .before .before .before .before .before .before .before .before .before .before .before .before .before .before .before .before .before .before .before .pre .1 .0 .2 in
-    let x = c .before .before .before .before .before .before .before .before .before .before .before .before .before .before .before .before .before .before .before .before .before .before .before .before .before .before .before .before .pre .1 .1 .0 in
+try-step-sub-t24 : (t : ℕ) → try-step-lts.Need-sub-t24 (try-step-claims t) (try-step-at t) try-step.Post
+try-step-sub-t24 t c =
+    let T = c .before .before .before .before .before .before .before .before .before .before .before .before .before .before .before .before .before .before .before .before .before .before .before .before .before .before .before .before .before .pre .1 .0 .0 in
+    let S = c .before .before .before .before .before .before .before .before .before .before .before .before .before .before .before .before .before .before .before .before .before .before .before .before .before .before .before .before .before .pre .1 .0 .2 in
+    let x = c .before .before .before .before .before .before .before .before .before .before .before .before .before .before .before .before .before .before .before .before .before .before .before .before .before .before .before .before .before .pre .1 .1 .0 in
     let R = x .1 in
-    let y = c .before .before .before .before .before .before .before .before .before .before .before .before .before .before .before .before .before .before .before .before .before .before .before .before .before .before .before .before .pre .1 .1 .1 in
+    let y = c .before .before .before .before .before .before .before .before .before .before .before .before .before .before .before .before .before .before .before .before .before .before .before .before .before .before .before .before .before .pre .1 .1 .1 in
     let L = y .1 in
     let C = y .0 in
     omega arith
 
 try-step-made-after-requires : (t : ℕ) → try-step-lts.Need-made-after-requires (try-step-claims t) (try-step-at t) try-step.Post
 try-step-made-after-requires t c κs =
-    let T = c .before .before .before .before .before .before .before .before .before .before .before .before .before .before .before .before .before .before .before .before .before .before .before .before .before .before .before .before .pre .1 .0 .0 in
-    let S = c .before .before .before .before .before .before .before .before .before .before .before .before .before .before .before .before .before .before .before .before .before .before .before .before .before .before .before .before .pre .1 .0 .2 in
-    let x = c .before .before .before .before .before .before .before .before .before .before .before .before .before .before .before .before .before .before .before .before .before .before .before .before .before .before .before .before .pre .1 .1 .0 in
+    let T = c .before .before .before .before .before .before .before .before .before .before .before .before .before .before .before .before .before .before .before .before .before .before .before .before .before .before .before .before .before .pre .1 .0 .0 in
+    let S = c .before .before .before .before .before .before .before .before .before .before .before .before .before .before .before .before .before .before .before .before .before .before .before .before .before .before .before .before .before .pre .1 .0 .2 in
+    let x = c .before .before .before .before .before .before .before .before .before .before .before .before .before .before .before .before .before .before .before .before .before .before .before .before .before .before .before .before .before .pre .1 .1 .0 in
     let R = x .1 in
-    let y = c .before .before .before .before .before .before .before .before .before .before .before .before .before .before .before .before .before .before .before .before .before .before .before .before .before .before .before .before .pre .1 .1 .1 in
+    let y = c .before .before .before .before .before .before .before .before .before .before .before .before .before .before .before .before .before .before .before .before .before .before .before .before .before .before .before .before .before .pre .1 .1 .1 in
     let L = y .1 in
     let C = y .0 in
     C .made
 
 try-step-entries-of-requires : (t : ℕ) → try-step-lts.Need-entries-of-requires (try-step-claims t) (try-step-at t) try-step.Post
 try-step-entries-of-requires t c κs = search needs
-
-try-step-add-t36 : (t : ℕ) → try-step-lts.Need-add-t36 (try-step-claims t) (try-step-at t) try-step.Post
-try-step-add-t36 t c =
-    let T = c .before .before .before .before .before .before .before .before .before .before .before .before .before .before .before .before .before .before .before .before .before .before .before .before .before .before .before .before .before .before .before .pre .1 .0 .0 in
-    let S = c .before .before .before .before .before .before .before .before .before .before .before .before .before .before .before .before .before .before .before .before .before .before .before .before .before .before .before .before .before .before .before .pre .1 .0 .2 in
-    let x = c .before .before .before .before .before .before .before .before .before .before .before .before .before .before .before .before .before .before .before .before .before .before .before .before .before .before .before .before .before .before .before .pre .1 .1 .0 in
-    let R = x .1 in
-    let y = c .before .before .before .before .before .before .before .before .before .before .before .before .before .before .before .before .before .before .before .before .before .before .before .before .before .before .before .before .before .before .before .pre .1 .1 .1 in
-    let L = y .1 in
-    let C = y .0 in
-    omega (arith, c .before .entries-of .ensures .0, C .few, C .deep)
 
 try-step-add-t37 : (t : ℕ) → try-step-lts.Need-add-t37 (try-step-claims t) (try-step-at t) try-step.Post
 try-step-add-t37 t c =
@@ -656,35 +674,46 @@ try-step-add-t37 t c =
     let y = c .before .before .before .before .before .before .before .before .before .before .before .before .before .before .before .before .before .before .before .before .before .before .before .before .before .before .before .before .before .before .before .before .pre .1 .1 .1 in
     let L = y .1 in
     let C = y .0 in
+    omega (arith, c .before .entries-of .ensures .0, C .few, C .deep)
+
+try-step-add-t38 : (t : ℕ) → try-step-lts.Need-add-t38 (try-step-claims t) (try-step-at t) try-step.Post
+try-step-add-t38 t c =
+    let T = c .before .before .before .before .before .before .before .before .before .before .before .before .before .before .before .before .before .before .before .before .before .before .before .before .before .before .before .before .before .before .before .before .before .pre .1 .0 .0 in
+    let S = c .before .before .before .before .before .before .before .before .before .before .before .before .before .before .before .before .before .before .before .before .before .before .before .before .before .before .before .before .before .before .before .before .before .pre .1 .0 .2 in
+    let x = c .before .before .before .before .before .before .before .before .before .before .before .before .before .before .before .before .before .before .before .before .before .before .before .before .before .before .before .before .before .before .before .before .before .pre .1 .1 .0 in
+    let R = x .1 in
+    let y = c .before .before .before .before .before .before .before .before .before .before .before .before .before .before .before .before .before .before .before .before .before .before .before .before .before .before .before .before .before .before .before .before .before .pre .1 .1 .1 in
+    let L = y .1 in
+    let C = y .0 in
     omega (arith, C .deep)
 
 try-step-explore-requires : (t : ℕ) → try-step-lts.Need-explore-requires (try-step-claims t) (try-step-at t) try-step.Post
 try-step-explore-requires t c κs =
-    let T = c .before .before .before .before .before .before .before .before .before .before .before .before .before .before .before .before .before .before .before .before .before .before .before .before .before .before .before .before .before .before .before .before .before .before .pre .1 .0 .0 in
-    let S = c .before .before .before .before .before .before .before .before .before .before .before .before .before .before .before .before .before .before .before .before .before .before .before .before .before .before .before .before .before .before .before .before .before .before .pre .1 .0 .2 in
-    let x = c .before .before .before .before .before .before .before .before .before .before .before .before .before .before .before .before .before .before .before .before .before .before .before .before .before .before .before .before .before .before .before .before .before .before .pre .1 .1 .0 in
+    let T = c .before .before .before .before .before .before .before .before .before .before .before .before .before .before .before .before .before .before .before .before .before .before .before .before .before .before .before .before .before .before .before .before .before .before .before .pre .1 .0 .0 in
+    let S = c .before .before .before .before .before .before .before .before .before .before .before .before .before .before .before .before .before .before .before .before .before .before .before .before .before .before .before .before .before .before .before .before .before .before .before .pre .1 .0 .2 in
+    let x = c .before .before .before .before .before .before .before .before .before .before .before .before .before .before .before .before .before .before .before .before .before .before .before .before .before .before .before .before .before .before .before .before .before .before .before .pre .1 .1 .0 in
     let R = x .1 in
-    let y = c .before .before .before .before .before .before .before .before .before .before .before .before .before .before .before .before .before .before .before .before .before .before .before .before .before .before .before .before .before .before .before .before .before .before .pre .1 .1 .1 in
+    let y = c .before .before .before .before .before .before .before .before .before .before .before .before .before .before .before .before .before .before .before .before .before .before .before .before .before .before .before .before .before .before .before .before .before .before .before .pre .1 .1 .1 in
     let L = y .1 in
     let C = y .0 in
     let X = taken T S R L (c .before .before .before .before .before .before .before .before .before .before .before .before .before .before .before .before .before .before .before .step-rest .ensures) _ _ (c .before .before .before .before .before .before .before .before .before .before .before .before .before .before .before .turn .given .1) in
     let m = X .move .0 in
     let known = taken-known T S R L X in
-    let s = now (c .before .before .before .before .before .before .before .before .before .before .before .before .before .before .before .before .before .before .before .before .before .before .before .before .before .before .before .before .before .before .before .before .before .before .args .s) in
-    let q = c .before .before .before .before .before .before .before .before .before .before .before .before .before .before .before .before .before .before .before .before .before .before .before .before .before .before .before .before .before .before .before .before .before .before .args .q in
-    let to = q .at + c .before .before .before .before .before .before .before .before .before .before .before .before .before .before .before .before .before .before .before .before .before .before .before .before .before .before .before .before .before .before .before .before .before .before .args .t .frame in
+    let s = now (c .before .before .before .before .before .before .before .before .before .before .before .before .before .before .before .before .before .before .before .before .before .before .before .before .before .before .before .before .before .before .before .before .before .before .before .args .s) in
+    let q = c .before .before .before .before .before .before .before .before .before .before .before .before .before .before .before .before .before .before .before .before .before .before .before .before .before .before .before .before .before .before .before .before .before .before .before .args .q in
+    let to = q .at + c .before .before .before .before .before .before .before .before .before .before .before .before .before .before .before .before .before .before .before .before .before .before .before .before .before .before .before .before .before .before .before .before .before .before .before .args .t .frame in
     let next = c .before .before .before .before .before .before .before .before .before .before .state-after .ensures (S .held-is) m (X .known) (X .code) in
     let P = subst (λ (z : State). StatePut z to (c .before .before .before .before .before .before .before .before .before .before .before .before .before .before .before .before .before .before .before .step-rest .last .1 .1 .1 .1 .1 .1 .1 .0) (c .before .before .before .before .before .before .before .before .before .write-state .last .0)) next (c .before .before .before .before .before .before .before .before .before .write-state .ensures) in
-    let C′ : Counts (now (c .before .before .before .before .before .before .before .before .before .before .before .before .before .before .before .before .before .before .before .before .before .before .before .before .before .before .before .before .before .before .before .before .before .before .args .moves)) (now (c .before .before .before .before .before .before .before .before .before .before .before .before .before .before .before .before .before .before .before .before .before .before .before .before .before .before .before .before .before .before .before .before .before .before .args .trace)) (record { at = to; left = q .left - 1; j = c .before .before .before .before .before .made-after .result; n = q .n + c .before .before .before .before .entries-of .result; d = q .d + 1 }) = record { made = c .before .before .before .before .before .made-after .ensures .0; traced = omega (arith, c .before .before .before .before .entries-of .ensures .0, C .traced); few = omega (arith, c .before .before .before .before .entries-of .ensures .0, C .few); deep = omega (arith, C .deep) } in
-    (omega (arith, c .before .before .before .before .before .before .before .before .before .before .before .before .before .before .before .before .before .before .before .before .before .before .before .before .before .before .before .before .before .before .before .before .before .before .pre .0), ((T, c .before .before .before .before .before .before .before .before .before .before .before .before .before .before .before .before .before .before .before .before .before .before .before .before .before .before .before .before .before .before .before .before .before .before .pre .1 .0 .1), ((leads X, stands-next T S R L X P, next-is-ready T S R L X P _ _ _), C′)))
+    let C′ : Counts (now (c .before .before .before .before .before .before .before .before .before .before .before .before .before .before .before .before .before .before .before .before .before .before .before .before .before .before .before .before .before .before .before .before .before .before .before .args .moves)) (now (c .before .before .before .before .before .before .before .before .before .before .before .before .before .before .before .before .before .before .before .before .before .before .before .before .before .before .before .before .before .before .before .before .before .before .before .args .trace)) (record { at = to; left = q .left - 1; j = c .before .before .before .before .before .made-after .result; n = q .n + c .before .before .before .before .entries-of .result; d = q .d + 1 }) = record { made = c .before .before .before .before .before .made-after .ensures .0; traced = omega (arith, c .before .before .before .before .entries-of .ensures .0, C .traced); few = omega (arith, c .before .before .before .before .entries-of .ensures .0, C .few); deep = omega (arith, C .deep) } in
+    (omega (arith, c .before .before .before .before .before .before .before .before .before .before .before .before .before .before .before .before .before .before .before .before .before .before .before .before .before .before .before .before .before .before .before .before .before .before .before .pre .0), ((T, c .before .before .before .before .before .before .before .before .before .before .before .before .before .before .before .before .before .before .before .before .before .before .before .before .before .before .before .before .before .before .before .before .before .before .before .pre .1 .0 .1), ((leads X, stands-next T S R L X P, next-is-ready T S R L X P _ _ _), C′)))
 
 try-step-note-requires : (t : ℕ) → try-step-lts.Need-note-requires (try-step-claims t) (try-step-at t) try-step.Post
 try-step-note-requires t c κs =
-    let T = c .before .before .before .before .before .before .before .before .before .before .before .before .before .before .before .before .before .before .before .before .before .before .before .before .before .before .before .before .before .before .before .before .before .before .before .before .before .before .before .before .pre .1 .0 .0 in
-    let S = c .before .before .before .before .before .before .before .before .before .before .before .before .before .before .before .before .before .before .before .before .before .before .before .before .before .before .before .before .before .before .before .before .before .before .before .before .before .before .before .before .pre .1 .0 .2 in
-    let x = c .before .before .before .before .before .before .before .before .before .before .before .before .before .before .before .before .before .before .before .before .before .before .before .before .before .before .before .before .before .before .before .before .before .before .before .before .before .before .before .before .pre .1 .1 .0 in
+    let T = c .before .before .before .before .before .before .before .before .before .before .before .before .before .before .before .before .before .before .before .before .before .before .before .before .before .before .before .before .before .before .before .before .before .before .before .before .before .before .before .before .before .pre .1 .0 .0 in
+    let S = c .before .before .before .before .before .before .before .before .before .before .before .before .before .before .before .before .before .before .before .before .before .before .before .before .before .before .before .before .before .before .before .before .before .before .before .before .before .before .before .before .before .pre .1 .0 .2 in
+    let x = c .before .before .before .before .before .before .before .before .before .before .before .before .before .before .before .before .before .before .before .before .before .before .before .before .before .before .before .before .before .before .before .before .before .before .before .before .before .before .before .before .before .pre .1 .1 .0 in
     let R = x .1 in
-    let y = c .before .before .before .before .before .before .before .before .before .before .before .before .before .before .before .before .before .before .before .before .before .before .before .before .before .before .before .before .before .before .before .before .before .before .before .before .before .before .before .before .pre .1 .1 .1 in
+    let y = c .before .before .before .before .before .before .before .before .before .before .before .before .before .before .before .before .before .before .before .before .before .before .before .before .before .before .before .before .before .before .before .before .before .before .before .before .before .before .before .before .before .pre .1 .1 .1 in
     let L = y .1 in
     let C = y .0 in
     let X = taken T S R L (c .before .before .before .before .before .before .before .before .before .before .before .before .before .before .before .before .before .before .before .before .before .before .before .before .before .step-rest .ensures) _ _ (c .before .before .before .before .before .before .before .before .before .before .before .before .before .before .before .before .before .before .before .before .before .turn .given .1) in
@@ -694,19 +723,19 @@ try-step-note-requires t c κs =
 
 try-step-same-length-3 : (t : ℕ) → try-step-lts.Need-same-length-3 (try-step-claims t) (try-step-at t) try-step.Post
 try-step-same-length-3 t c =
-    let T = c .before .before .before .before .before .before .before .before .before .before .before .before .before .before .before .before .before .before .before .before .before .before .before .before .before .before .before .before .before .before .before .before .before .before .before .before .before .before .before .before .before .before .before .pre .1 .0 .0 in
-    let S = c .before .before .before .before .before .before .before .before .before .before .before .before .before .before .before .before .before .before .before .before .before .before .before .before .before .before .before .before .before .before .before .before .before .before .before .before .before .before .before .before .before .before .before .pre .1 .0 .2 in
-    let x = c .before .before .before .before .before .before .before .before .before .before .before .before .before .before .before .before .before .before .before .before .before .before .before .before .before .before .before .before .before .before .before .before .before .before .before .before .before .before .before .before .before .before .before .pre .1 .1 .0 in
+    let T = c .before .before .before .before .before .before .before .before .before .before .before .before .before .before .before .before .before .before .before .before .before .before .before .before .before .before .before .before .before .before .before .before .before .before .before .before .before .before .before .before .before .before .before .before .pre .1 .0 .0 in
+    let S = c .before .before .before .before .before .before .before .before .before .before .before .before .before .before .before .before .before .before .before .before .before .before .before .before .before .before .before .before .before .before .before .before .before .before .before .before .before .before .before .before .before .before .before .before .pre .1 .0 .2 in
+    let x = c .before .before .before .before .before .before .before .before .before .before .before .before .before .before .before .before .before .before .before .before .before .before .before .before .before .before .before .before .before .before .before .before .before .before .before .before .before .before .before .before .before .before .before .before .pre .1 .1 .0 in
     let R = x .1 in
-    let y = c .before .before .before .before .before .before .before .before .before .before .before .before .before .before .before .before .before .before .before .before .before .before .before .before .before .before .before .before .before .before .before .before .before .before .before .before .before .before .before .before .before .before .before .pre .1 .1 .1 in
+    let y = c .before .before .before .before .before .before .before .before .before .before .before .before .before .before .before .before .before .before .before .before .before .before .before .before .before .before .before .before .before .before .before .before .before .before .before .before .before .before .before .before .before .before .before .before .pre .1 .1 .1 in
     let L = y .1 in
     let C = y .0 in
     let X = taken T S R L (c .before .before .before .before .before .before .before .before .before .before .before .before .before .before .before .before .before .before .before .before .before .before .before .before .before .before .before .before .step-rest .ensures) _ _ (c .before .before .before .before .before .before .before .before .before .before .before .before .before .before .before .before .before .before .before .before .before .before .before .before .turn .given .1) in
     let m = X .move .0 in
     let known = taken-known T S R L X in
-    let s = now (c .before .before .before .before .before .before .before .before .before .before .before .before .before .before .before .before .before .before .before .before .before .before .before .before .before .before .before .before .before .before .before .before .before .before .before .before .before .before .before .before .before .before .before .args .s) in
-    let q = c .before .before .before .before .before .before .before .before .before .before .before .before .before .before .before .before .before .before .before .before .before .before .before .before .before .before .before .before .before .before .before .before .before .before .before .before .before .before .before .before .before .before .before .args .q in
-    let to = q .at + c .before .before .before .before .before .before .before .before .before .before .before .before .before .before .before .before .before .before .before .before .before .before .before .before .before .before .before .before .before .before .before .before .before .before .before .before .before .before .before .before .before .before .before .args .t .frame in
+    let s = now (c .before .before .before .before .before .before .before .before .before .before .before .before .before .before .before .before .before .before .before .before .before .before .before .before .before .before .before .before .before .before .before .before .before .before .before .before .before .before .before .before .before .before .before .before .args .s) in
+    let q = c .before .before .before .before .before .before .before .before .before .before .before .before .before .before .before .before .before .before .before .before .before .before .before .before .before .before .before .before .before .before .before .before .before .before .before .before .before .before .before .before .before .before .before .before .args .q in
+    let to = q .at + c .before .before .before .before .before .before .before .before .before .before .before .before .before .before .before .before .before .before .before .before .before .before .before .before .before .before .before .before .before .before .before .before .before .before .before .before .before .before .before .before .before .before .before .before .args .t .frame in
     let next = c .before .before .before .before .before .before .before .before .before .before .before .before .before .before .before .before .before .before .before .state-after .ensures (S .held-is) m (X .known) (X .code) in
     let P = subst (λ (z : State). StatePut z to (c .before .before .before .before .before .before .before .before .before .before .before .before .before .before .before .before .before .before .before .before .before .before .before .before .before .before .before .before .step-rest .last .1 .1 .1 .1 .1 .1 .1 .0) (c .before .before .before .before .before .before .before .before .before .before .before .before .before .before .before .before .before .before .write-state .last .0)) next (c .before .before .before .before .before .before .before .before .before .before .before .before .before .before .before .before .before .before .write-state .ensures) in
     c .before .before .before .before .before .before .before .before .explore .ensures .1 .len ∙ kept-before T S R L X P .len
@@ -716,26 +745,26 @@ try-step-same-length-4 t c = search needs
 
 try-step-returns-3 : (t : ℕ) → try-step-lts.Need-returns-3 (try-step-claims t) (try-step-at t) try-step.Post
 try-step-returns-3 t c =
-    let T = c .before .before .before .before .before .before .before .before .before .before .before .before .before .before .before .before .before .before .before .before .before .before .before .before .before .before .before .before .before .before .before .before .before .before .before .before .before .before .before .before .before .before .before .pre .1 .0 .0 in
-    let S = c .before .before .before .before .before .before .before .before .before .before .before .before .before .before .before .before .before .before .before .before .before .before .before .before .before .before .before .before .before .before .before .before .before .before .before .before .before .before .before .before .before .before .before .pre .1 .0 .2 in
-    let x = c .before .before .before .before .before .before .before .before .before .before .before .before .before .before .before .before .before .before .before .before .before .before .before .before .before .before .before .before .before .before .before .before .before .before .before .before .before .before .before .before .before .before .before .pre .1 .1 .0 in
+    let T = c .before .before .before .before .before .before .before .before .before .before .before .before .before .before .before .before .before .before .before .before .before .before .before .before .before .before .before .before .before .before .before .before .before .before .before .before .before .before .before .before .before .before .before .before .pre .1 .0 .0 in
+    let S = c .before .before .before .before .before .before .before .before .before .before .before .before .before .before .before .before .before .before .before .before .before .before .before .before .before .before .before .before .before .before .before .before .before .before .before .before .before .before .before .before .before .before .before .before .pre .1 .0 .2 in
+    let x = c .before .before .before .before .before .before .before .before .before .before .before .before .before .before .before .before .before .before .before .before .before .before .before .before .before .before .before .before .before .before .before .before .before .before .before .before .before .before .before .before .before .before .before .before .pre .1 .1 .0 in
     let R = x .1 in
-    let y = c .before .before .before .before .before .before .before .before .before .before .before .before .before .before .before .before .before .before .before .before .before .before .before .before .before .before .before .before .before .before .before .before .before .before .before .before .before .before .before .before .before .before .before .pre .1 .1 .1 in
+    let y = c .before .before .before .before .before .before .before .before .before .before .before .before .before .before .before .before .before .before .before .before .before .before .before .before .before .before .before .before .before .before .before .before .before .before .before .before .before .before .before .before .before .before .before .before .pre .1 .1 .1 in
     let L = y .1 in
     let C = y .0 in
     let X = taken T S R L (c .before .before .before .before .before .before .before .before .before .before .before .before .before .before .before .before .before .before .before .before .before .before .before .before .before .before .before .before .step-rest .ensures) _ _ (c .before .before .before .before .before .before .before .before .before .before .before .before .before .before .before .before .before .before .before .before .before .before .before .before .turn .given .1) in
     let m = X .move .0 in
     let known = taken-known T S R L X in
-    let s = now (c .before .before .before .before .before .before .before .before .before .before .before .before .before .before .before .before .before .before .before .before .before .before .before .before .before .before .before .before .before .before .before .before .before .before .before .before .before .before .before .before .before .before .before .args .s) in
-    let q = c .before .before .before .before .before .before .before .before .before .before .before .before .before .before .before .before .before .before .before .before .before .before .before .before .before .before .before .before .before .before .before .before .before .before .before .before .before .before .before .before .before .before .before .args .q in
-    let to = q .at + c .before .before .before .before .before .before .before .before .before .before .before .before .before .before .before .before .before .before .before .before .before .before .before .before .before .before .before .before .before .before .before .before .before .before .before .before .before .before .before .before .before .before .before .args .t .frame in
+    let s = now (c .before .before .before .before .before .before .before .before .before .before .before .before .before .before .before .before .before .before .before .before .before .before .before .before .before .before .before .before .before .before .before .before .before .before .before .before .before .before .before .before .before .before .before .before .args .s) in
+    let q = c .before .before .before .before .before .before .before .before .before .before .before .before .before .before .before .before .before .before .before .before .before .before .before .before .before .before .before .before .before .before .before .before .before .before .before .before .before .before .before .before .before .before .before .before .args .q in
+    let to = q .at + c .before .before .before .before .before .before .before .before .before .before .before .before .before .before .before .before .before .before .before .before .before .before .before .before .before .before .before .before .before .before .before .before .before .before .before .before .before .before .before .before .before .before .before .before .args .t .frame in
     let next = c .before .before .before .before .before .before .before .before .before .before .before .before .before .before .before .before .before .before .before .state-after .ensures (S .held-is) m (X .known) (X .code) in
     let P = subst (λ (z : State). StatePut z to (c .before .before .before .before .before .before .before .before .before .before .before .before .before .before .before .before .before .before .before .before .before .before .before .before .before .before .before .before .step-rest .last .1 .1 .1 .1 .1 .1 .1 .0) (c .before .before .before .before .before .before .before .before .before .before .before .before .before .before .before .before .before .before .write-state .last .0)) next (c .before .before .before .before .before .before .before .before .before .before .before .before .before .before .before .before .before .before .write-state .ensures) in
-    let free = c .before .before .before .before .before .before .before .before .before .before .before .before .before .before .before .before .before .before .before .before .before .before .before .before .before .before .before .before .before .before .before .before .before .before .before .before .before .before .before .before .before .before .before .args .t .free in
-    let moves = now (c .before .before .before .before .before .before .before .before .before .before .before .before .before .before .before .before .before .before .before .before .before .before .before .before .before .before .before .before .before .before .before .before .before .before .before .before .before .before .before .before .before .before .before .args .moves) in
+    let free = c .before .before .before .before .before .before .before .before .before .before .before .before .before .before .before .before .before .before .before .before .before .before .before .before .before .before .before .before .before .before .before .before .before .before .before .before .before .before .before .before .before .before .before .before .args .t .free in
+    let moves = now (c .before .before .before .before .before .before .before .before .before .before .before .before .before .before .before .before .before .before .before .before .before .before .before .before .before .before .before .before .before .before .before .before .before .before .before .before .before .before .before .before .before .before .before .before .args .moves) in
     let pass = sym (c .before .before .before .before .before .before .before .before .before .before .before .before .before .before .before .before .before .before .before .before .before .before .lets-pass .ensures m known (X .code)) ∙ not-false _ (c .before .before .before .before .before .before .before .before .before .before .before .before .before .before .before .before .before .before .before .before .before .if1 .left) in
-    let Z = forth T S R L X free moves (now (c .before .before .before .before .before .before .before .before .before .before .before .before .before .before .before .before .before .before .before .before .before .before .before .before .before .before .before .before .before .before .before .before .before .before .before .before .before .before .before .before .before .before .before .args .trace)) (c .before .before .before .before .before .before .before .before .explore .last .1 .1 .1 .1 .0) (c .before .before .before .before .before .before .before .before .explore .result) (c .before .before .before .before .before .before .before .before .before .before .before .before .before .before .before .before .before .before .before .before .before .before .before .before .before .before .before .before .before .before .before .before .before .before .before .before .before .before .before .before .before .before .before .args .cut) (c .before .before .before .before .before .before .before .before .before .before .before .before .before .before .made-after .result) (q .n + c .before .before .before .before .before .before .before .before .before .before .before .before .before .entries-of .result) (q .d + 1) pass (c .before .before .before .before .before .before .before .before .before .before .before .before .before .before .made-after .ensures .1 m known (X .code)) (ap (λ (k : ℕ). q .n + k) (c .before .before .before .before .before .before .before .before .before .before .before .before .before .entries-of .ensures .1 m known (X .code))) refl (c .before .before .before .before .before .before .before .before .explore .ensures .0 (leads X) (stands-next T S R L X P)) in (
-      branched-any R (subst (λ (l : List ℕ). Branched s free moves q (c .before .before .before .before .before .before .before .before .before .before .before .before .before .before .before .before .before .before .before .before .before .before .before .before .before .before .before .before .before .before .before .before .before .before .before .before .before .before .before .before .before .before .before .args .st) (x .0) (c .before .before .before .before .before .before .before .before .before .before .before .before .before .before .before .before .before .before .before .before .before .before .before .before .before .before .before .before .before .before .before .before .before .before .before .before .before .before .before .before .before .before .before .args .cut) (c .before .before .before .before .before .before .before .before .before .before .before .before .before .before .before .before .before .before .before .before .before .before .before .before .before .before .before .before .before .before .before .before .before .before .before .before .before .before .before .before .before .before .before .args .k) (now (c .before .before .before .before .before .before .before .before .before .before .before .before .before .before .before .before .before .before .before .before .before .before .before .before .before .before .before .before .before .before .before .before .before .before .before .before .before .before .before .before .before .before .before .args .trace)) l (c .before .before .before .before .before .before .before .before .explore .result)) (sym (c .before .before .note .ensures m known (X .code))) Z),
+    let Z = forth T S R L X free moves (now (c .before .before .before .before .before .before .before .before .before .before .before .before .before .before .before .before .before .before .before .before .before .before .before .before .before .before .before .before .before .before .before .before .before .before .before .before .before .before .before .before .before .before .before .before .args .trace)) (c .before .before .before .before .before .before .before .before .explore .last .1 .1 .1 .1 .1 .0) (c .before .before .before .before .before .before .before .before .explore .result) (c .before .before .before .before .before .before .before .before .before .before .before .before .before .before .before .before .before .before .before .before .before .before .before .before .before .before .before .before .before .before .before .before .before .before .before .before .before .before .before .before .before .before .before .before .args .cut) (c .before .before .before .before .before .before .before .before .before .before .before .before .before .before .made-after .result) (q .n + c .before .before .before .before .before .before .before .before .before .before .before .before .before .entries-of .result) (q .d + 1) pass (c .before .before .before .before .before .before .before .before .before .before .before .before .before .before .made-after .ensures .1 m known (X .code)) (ap (λ (k : ℕ). q .n + k) (c .before .before .before .before .before .before .before .before .before .before .before .before .before .entries-of .ensures .1 m known (X .code))) refl (c .before .before .before .before .before .before .before .before .explore .ensures .0 (leads X) (stands-next T S R L X P)) in (
+      branched-any R (subst (λ (l : List ℕ). Branched s free moves q (c .before .before .before .before .before .before .before .before .before .before .before .before .before .before .before .before .before .before .before .before .before .before .before .before .before .before .before .before .before .before .before .before .before .before .before .before .before .before .before .before .before .before .before .before .args .st) (x .0) (c .before .before .before .before .before .before .before .before .before .before .before .before .before .before .before .before .before .before .before .before .before .before .before .before .before .before .before .before .before .before .before .before .before .before .before .before .before .before .before .before .before .before .before .before .args .cut) (c .before .before .before .before .before .before .before .before .before .before .before .before .before .before .before .before .before .before .before .before .before .before .before .before .before .before .before .before .before .before .before .before .before .before .before .before .before .before .before .before .before .before .before .before .args .k) (now (c .before .before .before .before .before .before .before .before .before .before .before .before .before .before .before .before .before .before .before .before .before .before .before .before .before .before .before .before .before .before .before .before .before .before .before .before .before .before .before .before .before .before .before .before .args .trace)) l (c .before .before .before .before .before .before .before .before .explore .result)) (sym (c .before .before .note .ensures m known (X .code))) Z),
       kept-trans _ _ _ _ _ (kept-before T S R L X P) (c .before .before .before .before .before .before .before .before .explore .ensures .1) (omega arith),
     )
 
@@ -743,22 +772,29 @@ pub +explore+try-all+try-step-spec : {M : Type 1} → statement M
 +explore+try-all+try-step-spec = close μ-explore μ-try-all μ-try-step (λ t. explore-lts.spec (explore-claims t)
     (explore-at t)
     explore.Post
-    (explore-add-no-end-here t)
-    (explore-no-end-here-requires t)
-    (explore-same-length t)
-    (explore-returns t)
     (explore-read-state-requires t)
     (explore-slice-aggregate-truths-of t)
     (explore-truths-of-requires t)
+    (explore-slice-aggregate-finals-of t)
+    (explore-slice-aggregate-finals-of-2 t)
+    (explore-finals-of-requires t)
+    (explore-slice-aggregate-final-rest t)
+    (explore-add-final-rest t)
+    (explore-final-rest-requires t)
+    (explore-is-over-requires t)
+    (explore-last-outcome-requires t)
+    (explore-same-length t)
+    (explore-returns t)
     (explore-slice-aggregate-tally-of t)
     (explore-slice-aggregate-tally-of-2 t)
     (explore-slice-aggregate-tally-of-3 t)
+    (explore-slice-aggregate-tally-of-4 t)
     (explore-tally-of-requires t)
     (explore-slice-aggregate-total-rest t)
     (explore-slice-aggregate-total-rest-2 t)
     (explore-add-total-rest t)
     (explore-total-rest-requires t)
-    (explore-is-over-requires t)
+    (explore-is-over-requires-2 t)
     (explore-same-length-2 t)
     (explore-returns-2 t)
     (explore-unfound-requires t)
@@ -813,11 +849,11 @@ pub +explore+try-all+try-step-spec : {M : Type 1} → statement M
     (try-step-returns-2 t)
     (try-step-state-after-requires t)
     (try-step-write-state-requires t)
-    (try-step-sub-t23 t)
+    (try-step-sub-t24 t)
     (try-step-made-after-requires t)
     (try-step-entries-of-requires t)
-    (try-step-add-t36 t)
     (try-step-add-t37 t)
+    (try-step-add-t38 t)
     (try-step-explore-requires t)
     (try-step-note-requires t)
     (try-step-same-length-3 t)

@@ -2,14 +2,11 @@
 use denote.Ref.{now}
 use native.Mathlib.Omega.{arith}
 use mathlib.Core.Bool.{Bool}
-use mathlib.Core.Path.{subst}
-use Rattle.records.specs.Records.{programAt}
-use Rattle.sheet.specs.Layout.{layoutOf, programsIn}
 use Rattle.sheet.specs.declared.Layout.{Layout}
-use Rattle.held.specs.Extended.{table}
 use Rattle.leaves.specs.Tallies.{places}
 use Rattle.leaves.specs.Endable.{Endable}
 use Rattle.search.proofs.Seen.{fits-of, part-length}
+use Rattle.search.proofs.Room.{runs, of-task}
 use Rattle.search.proofs.endable_of.Statement.{statement}
 use Rattle.search.proofs.endable_of.Tie as tie
 
@@ -43,10 +40,8 @@ endables-requires c κs =
 returns : tie.Need-returns
 returns c =
     let s = now (c .before .before .before .before .args .s) in
-    let p = c .before .before .before .before .pre in
     let r = c .endables .result in
-    let X : Layout → Bool → Type 0 = λ l b. Endable (table b (programAt (programsIn s l)) (l .p)) (places b (l .p)) r in
-    subst (λ (b : Bool). X (layoutOf s) b) (p .interrupts-are) (subst (λ (l : Layout). X l (c .before .before .before .before .args .t .interrupts)) (p .layout-is) (c .endables .ensures))
+    (of-task (c .before .before .before .before .pre) (λ (l : Layout) (b : Bool). Endable (runs s l b) (places b (l .p)) r) (c .endables .ensures .0), c .endables .ensures .1)
 
 pub endable-of-spec : {M : Type 1} → statement M
 endable-of-spec =

@@ -11,7 +11,6 @@ use Rattle.records.specs.Records.{fluentAt}
 use Rattle.records.specs.Table.{upTo}
 use Rattle.records.specs.declared.Fluent.{Fluent}
 use Rattle.records.proofs.Fills.{Filled, start, more}
-use Rattle.golog.specs.declared.State.{State}
 use borrow.Author.Needs.{needs}
 use Rattle.search.proofs.initial.Statement.{statement}
 use Rattle.search.proofs.initial.Tie as tie

@@ -1,12 +1,9 @@
 use denote.Ref.{now}
 use Prim.Native.Nat.{ℕ}
 use native.Mathlib.Omega.{arith}
-use mathlib.Core.List.{List}
 use mathlib.Core.Option.{Option}
-use mathlib.Core.Path.{_≡_, sym, _∙_, ap, subst}
-use lib.ListN.{length}
-use Rattle.sheet.specs.Layout.{layoutOf, Fits, formulasIn, effectsIn, actionsIn}
-use Rattle.sheet.specs.Check.{Accepts}
+use mathlib.Core.Path.{sym, _∙_, ap}
+use Rattle.sheet.specs.Layout.{layoutOf, formulasIn, effectsIn, actionsIn}
 use Rattle.sheet.specs.declared.Layout.{Layout}
 use Rattle.sheet.proofs.Accepted.{laid}
 use Rattle.golog.specs.World.{after}

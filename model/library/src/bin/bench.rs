@@ -34,6 +34,10 @@ fn families() -> Vec<Family> {
             sheets: acts.map(|(acts, bound)| (format!("{acts} acts"), branching(acts, 64, bound))).into(),
         },
         Family {
+            name: "branching, an end in doubt",
+            sheets: acts.map(|(acts, bound)| (format!("{acts} acts"), in_doubt(acts, bound))).into(),
+        },
+        Family {
             name: "branching, one act shared",
             sheets: acts.map(|(acts, bound)| (format!("{acts} acts"), branching(acts, 1, bound))).into(),
         },
@@ -82,6 +86,16 @@ fn branching(acts: usize, different: usize, bound: u16) -> Vec<u8> {
         (0..acts.min(different)).map(|i| source.action("set it", TRUE, [value.gets(i % 16)])).collect();
     let choices = choice(actions.iter().cycle().take(acts).cloned());
     source.sheet(&sequence([star(choices), test(FALSE)]))
+}
+
+/// The same with a loop at the end that ends in some state, but in none that is reached: nothing can be left out, so every
+/// transition is made.
+fn in_doubt(acts: usize, bound: u16) -> Vec<u8> {
+    let mut source = Source::new("branching", bound);
+    let value = source.fluent("value", 16, 0);
+    let actions: Vec<_> = (0..acts.min(64)).map(|i| source.action("set it", TRUE, [value.gets(i % 15)])).collect();
+    let choices = choice(actions.iter().cycle().take(acts).cloned());
+    source.sheet(&sequence([star(choices), repeat_while(!value.is(15), test(FALSE))]))
 }
 
 /// The iteration of two acts in sequence: every copy that was begun can go on.
@@ -173,7 +187,7 @@ fn timed<T>(call: impl FnOnce() -> T) -> Measured<T> {
 fn main() {
     println!("Buffers are not cleared before a call of the library: they hold garbage. Putting it there is not timed;");
     println!("the zeros that the library leaves are its own work, and are timed. The least time of all calls counts.");
-    println!("Growth: the library's time for one transition, that of the family's first row being 1.");
+    println!("Transitions: those that the model follows. Growth: the library's time for one of them, the family's first row being 1.");
     for Family { name, sheets } in families() {
         println!();
         println!(

@@ -19,7 +19,7 @@ use std::process::ExitCode;
 use std::{env, fs};
 
 /// Sheets, unless COUNT says otherwise: about two minutes.
-const COUNT: usize = 60_000;
+const COUNT: usize = 120_000;
 /// Of a sheet that is planned, the most runs of at most D + 1 transitions.
 const MOST_RUNS: usize = 3_000;
 

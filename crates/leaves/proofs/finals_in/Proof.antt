@@ -1,0 +1,91 @@
+-- The table is gone through upwards, by the law of Skipping: each turn puts what the record is, whatever state is seen so. Assumes nothing.
+use mathlib.Core.Path.{_≡_}
+use mathlib.Core.Bool.{Bool}
+use Prim.Native.Nat.{ℕ, _+_, _-_, _<_}
+use native.Mathlib.Omega.{arith}
+use lib.ListN.{length, length-set}
+use Rattle.records.specs.Records.{programAt}
+use Rattle.golog.specs.declared.State.{State}
+use Rattle.golog.specs.World.{World}
+use Rattle.held.specs.Extended.{table}
+use Rattle.leaves.specs.Tallies.{places, Sees}
+use Rattle.leaves.proofs.Skipping.{Done, first, next}
+use borrow.Author.Needs.{needs}
+use Rattle.leaves.proofs.finals_in.Statement.{statement}
+use Rattle.leaves.proofs.finals_in.Tie as tie
+
+abbrev Inv-loop : tie.InvT-loop
+Inv-loop programs n interrupts skips held running finals₀ m i₀ finals i =
+    (length finals ≡ 260)
+    × ((W : World) (s : State) (can : ℕ → Bool) → Sees W s (table interrupts (programAt programs) n) (places interrupts n) held can running → Done W s (table interrupts (programAt programs) n) (places interrupts n) finals₀ finals i)
+
+abbrev μ-loop : tie.MeasureT-loop
+μ-loop programs n interrupts skips held running finals₀ m i₀ finals i = m - i
+
+places-of-requires : tie.Need-places-of-requires Inv-loop μ-loop
+places-of-requires c κs = search needs
+
+skip-in-requires : tie.Need-skip-in-requires Inv-loop μ-loop
+skip-in-requires c κs = search needs
+
+loop-holds : tie.Need-loop-holds Inv-loop μ-loop
+loop-holds c =
+    let e = c .before .places-of .ensures .0 in
+    let z = c .before .before .before .before .before .before .pre .1 in
+    (z .2, λ W s can S. rw (c .skip-in .ensures, e) (first (z .1)))
+
+record-at-requires : tie.Need-record-at-requires Inv-loop μ-loop
+record-at-requires c κs = search needs
+
+final-at-requires : tie.Need-final-at-requires Inv-loop μ-loop
+final-at-requires c κs = search needs
+
+slice-write-finals : tie.Need-slice-write-finals Inv-loop μ-loop
+slice-write-finals c = search needs
+
+add-skip-in : tie.Need-add-skip-in Inv-loop μ-loop
+add-skip-in c = search needs
+
+skip-in-requires-2 : tie.Need-skip-in-requires-2 Inv-loop μ-loop
+skip-in-requires-2 c κs = search needs
+
+loop-less : tie.Need-loop-less Inv-loop μ-loop
+loop-less c =
+    let e = c .before .before .before .before .before .before .before .places-of .ensures .0 in
+    let o = c .before .before .before .before .before .before .before .before .before .before .before .before .pre .1 .1 .onward (c .before .before .before .before .before .loop .i + 1) (omega (arith, e)) in
+    rw (c .skip-in2 .ensures, e) (omega (arith, o, e))
+
+loop-again : tie.Need-loop-again Inv-loop μ-loop
+loop-again c =
+    let e = c .before .before .before .before .before .before .before .places-of .ensures .0 in
+    let z = c .before .before .before .before .before .before .before .before .before .before .before .before .pre .1 in
+    let v = c .before .before .before .before .before .loop .inv in
+    let l : c .before .before .before .before .before .loop .i < places (c .before .before .before .before .before .before .before .before .before .before .before .before .args .interrupts) (c .before .before .before .before .before .before .before .before .before .before .before .before .args .n) = omega (arith, e) in (
+      simp length-set (v .0),
+      λ W s can S. rw (c .skip-in2 .ensures, e) (next (z .1) (z .0) (v .1 W s can S) l (S .each _ l) (S .runs) (omega arith) (rw (c .before .before .before .record-at .ensures .0) at (c .before .final-at .ensures))),
+    )
+
+same-length : tie.Need-same-length Inv-loop μ-loop
+same-length c = search needs
+
+returns : tie.Need-returns Inv-loop μ-loop
+returns c = λ W s can S i h. c .before .loop .inv .1 W s can S .right i (omega arith) h
+
+pub finals-in-spec : {M : Type 1} → statement M
+finals-in-spec =
+    tie.close
+    (tie.spec
+    Inv-loop
+    μ-loop
+    places-of-requires
+    skip-in-requires
+    loop-holds
+    record-at-requires
+    final-at-requires
+    slice-write-finals
+    add-skip-in
+    skip-in-requires-2
+    loop-less
+    loop-again
+    same-length
+    returns)

@@ -1,0 +1,79 @@
+-- The table is filled downwards, by the law of Skipping: a record without doubt is settled, by that of Doubts. Assumes nothing.
+use mathlib.Core.Path.{_≡_, sym, _∙_}
+use denote.Ref.{now}
+use mathlib.Core.Logic.{inl, inr, ⊎-elim}
+use Prim.Native.Nat.{_-_, _≤_}
+use native.Mathlib.Omega.{arith}
+use lib.ListN.{length, length-set, length-replicate}
+use Rattle.records.specs.Records.{programAt}
+use Rattle.held.specs.Extended.{table}
+use Rattle.leaves.proofs.Doubts.{settled}
+use Rattle.leaves.proofs.Skipping.{From, none, more, all}
+use borrow.Author.Needs.{needs}
+use Rattle.leaves.proofs.skips.Statement.{statement}
+use Rattle.leaves.proofs.skips.Tie as tie
+
+abbrev Inv-loop : tie.InvT-loop
+Inv-loop programs n interrupts endable m sure skips₀ first₀ i₀ skips first i =
+    (i ≤ m) × (length skips ≡ 261) × From (table interrupts (programAt programs) n) m endable skips first i
+
+abbrev μ-loop : tie.MeasureT-loop
+μ-loop programs n interrupts endable m sure skips₀ first₀ i₀ skips first i = i
+
+places-of-requires : tie.Need-places-of-requires Inv-loop μ-loop
+places-of-requires c κs = search needs
+
+sures-requires : tie.Need-sures-requires Inv-loop μ-loop
+sures-requires c κs = search needs
+
+loop-holds : tie.Need-loop-holds Inv-loop μ-loop
+loop-holds c = (search needs, length-replicate 261 (c .before .places-of .result), none)
+
+sub-i : tie.Need-sub-i Inv-loop μ-loop
+sub-i c = search needs
+
+slice-aggregate-doubt-at : tie.Need-slice-aggregate-doubt-at Inv-loop μ-loop
+slice-aggregate-doubt-at c = search needs
+
+doubt-at-requires : tie.Need-doubt-at-requires Inv-loop μ-loop
+doubt-at-requires c κs = search needs
+
+mul-skips : tie.Need-mul-skips Inv-loop μ-loop
+mul-skips c = search needs
+
+array-write-skips : tie.Need-array-write-skips Inv-loop μ-loop
+array-write-skips c = search needs
+
+loop-less : tie.Need-loop-less Inv-loop μ-loop
+loop-less c = search needs
+
+loop-again : tie.Need-loop-again Inv-loop μ-loop
+loop-again c =
+    let v = c .before .before .before .before .loop .inv in
+    let S = settled _ (now (c .before .before .before .before .before .before .before .before .before .args .endable)) (c .before .before .before .before .before .sures .result) (c .before .before .before .before .before .before .before .before .before .pre .1 .1) (c .before .before .before .before .before .sures .ensures) (c .before .before .before .before .loop .i - 1) (omega (arith, c .before .before .before .before .before .before .places-of .ensures .0)) in
+    (omega arith, simp length-set (v .1), more (omega arith) (omega arith) (v .2) (⊎-elim (λ w. inl (w .1)) (λ w. inr (w .1, S (sym (c .before .doubt-at .ensures) ∙ w .0 .left))) (c .if1 .came)))
+
+returns : tie.Need-returns Inv-loop μ-loop
+returns c =
+    let v = c .before .loop .inv in
+    let e = c .before .before .before .places-of .ensures .0 in
+    let z : c .before .loop .i ≡ 0 = omega arith in
+    rw (← e) (all (rw z at (v .2)))
+
+pub skips-spec : {M : Type 1} → statement M
+skips-spec =
+    tie.close
+    (tie.spec
+    Inv-loop
+    μ-loop
+    places-of-requires
+    sures-requires
+    loop-holds
+    sub-i
+    slice-aggregate-doubt-at
+    doubt-at-requires
+    mul-skips
+    array-write-skips
+    loop-less
+    loop-again
+    returns)

@@ -1,0 +1,61 @@
+-- The table that runs is that of the sheet's layout. Assumes nothing.
+use denote.Ref.{now}
+use native.Mathlib.Omega.{arith}
+use mathlib.Core.Bool.{Bool}
+use Rattle.sheet.specs.declared.Layout.{Layout}
+use Rattle.held.specs.Rest.{AllLower}
+use Rattle.demands.proofs.Held.{all-lower}
+use Rattle.leaves.specs.Tallies.{places}
+use Rattle.leaves.specs.Endable.{Endable, Skips}
+use Rattle.search.proofs.Seen.{fits-of, part-length}
+use Rattle.search.proofs.Room.{runs, by-task, of-task}
+use Rattle.search.proofs.skips_of.Statement.{statement}
+use Rattle.search.proofs.skips_of.Tie as tie
+
+sub-skips : tie.Need-sub-skips
+sub-skips c =
+    let p = c .before .before .before .pre .0 in
+    let f = fits-of (now (c .before .before .before .args .s)) (c .before .before .before .args .t .layout) (p .accepted, p .layout-is) in
+    omega (arith, f .at-formulas, f .at-effects, f .at-actions, f .at-programs, f .at-end, f .inside)
+
+part-skips-start : tie.Need-part-skips-start
+part-skips-start c =
+    let p = c .before .before .before .pre .0 in
+    let f = fits-of (now (c .before .before .before .args .s)) (c .before .before .before .args .t .layout) (p .accepted, p .layout-is) in
+    omega (arith, f .at-formulas, f .at-effects, f .at-actions, f .at-programs, f .at-end, f .inside)
+
+part-skips-end : tie.Need-part-skips-end
+part-skips-end c =
+    let p = c .before .before .before .pre .0 in
+    let f = fits-of (now (c .before .before .before .args .s)) (c .before .before .before .args .t .layout) (p .accepted, p .layout-is) in
+    omega (arith, f .at-formulas, f .at-effects, f .at-actions, f .at-programs, f .at-end, f .inside)
+
+skips-requires : tie.Need-skips-requires
+skips-requires c κs =
+    let s = now (c .before .before .before .before .args .s) in
+    let endable = now (c .before .before .before .before .args .endable) in
+    let l = c .before .before .before .before .args .t .layout in
+    let p = c .before .before .before .before .pre .0 in
+    let f = fits-of s l (p .accepted, p .layout-is) in
+    let n = part-length s (l .programs) (l .end) (omega (arith, f .at-end)) (omega (arith, f .inside)) in (
+      (omega (arith, n, f .at-end), f .some-record, f .p),
+      (
+        by-task p (λ (l : Layout) (b : Bool). AllLower (runs s l b)) (all-lower s (p .accepted)),
+        by-task p (λ (l : Layout) (b : Bool). Endable (runs s l b) (places b (l .p)) endable) (c .before .before .before .before .pre .1),
+      ),
+    )
+
+returns : tie.Need-returns
+returns c =
+    let s = now (c .before .before .before .before .before .args .s) in
+    let endable = now (c .before .before .before .before .before .args .endable) in
+    let p = c .before .before .before .before .before .pre .0 in
+    record {
+      may-end = c .before .before .before .before .before .pre .1;
+      full = c .before .before .before .before .before .pre .2;
+      skipping = of-task p (λ (l : Layout) (b : Bool). Skips (runs s l b) (places b (l .p)) endable (c .skips .result)) (c .skips .ensures);
+    }
+
+pub skips-of-spec : {M : Type 1} → statement M
+skips-of-spec =
+    tie.close (tie.spec sub-skips part-skips-start part-skips-end skips-requires returns)
