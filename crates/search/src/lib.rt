@@ -25,6 +25,7 @@ ghost use Rattle.search.specs.Frames.{Config, Stands, Tasked, MayEnd, Ma
 ghost use Rattle.search.specs.Moves.{Known, Action, passes, leftOver, entries, noted};
 use golog::State;
 use sheet::Layout;
+use steps::Setting;
 use steps::Turn;
 
 // What a search comes to: a run that ends final, of n moves and t transitions; none at all; none within the bound.
@@ -341,19 +342,13 @@ fn try_step(
     let a = l.programs;
     let b = l.end;
     let to = q.at + t.frame;
-    let turn = steps::step_rest(
-        &s[a..b],
-        l.p,
-        t.interrupts,
-        held,
-        st.running,
-        finals,
-        counts,
-        work,
-        q.at + 64,
-        to + 64,
-        k,
-    );
+    let v = Setting {
+        n: l.p,
+        interrupts: t.interrupts,
+        running: st.running,
+    };
+    let from = q.at + 64;
+    let turn = steps::step_rest(&s[a..b], v, held, finals, counts, work, from, to + 64, k);
     let Turn::Made { entry, size: _ } = turn else {
         return Outcome::Nothing;
     };

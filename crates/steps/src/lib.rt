@@ -14,6 +14,13 @@ ghost use Rattle.steps.specs.Laid.{codeOf, view, CanLay, LaysRecord, pas
 ghost use Rattle.steps.specs.Stepped.{CanStepRecord, StepsRecord, CanStep, StepsRest, EndsRight, RoomFor};
 use records::Program;
 
+// How a program table is read: the number of its records, whether there are interrupts, and whether they run.
+pub struct Setting {
+    pub n: usize,
+    pub interrupts: bool,
+    pub running: bool,
+}
+
 // The kind of the construct that what part a leaves stands in; 0 where it stands alone.
 fn tag_a(kind: usize) -> u32
     ensures { λ r. ⌜ r ≡ tagA kind ⌝ }
@@ -113,21 +120,19 @@ pub struct Laid {
 // Lays out the k-th transition of record i at `to`: its own, or one of part a, or of part b, by how many part a has.
 fn lay_record(
     programs: &[u8],
-    n: usize,
-    interrupts: bool,
+    v: Setting,
     held: &[bool],
-    running: bool,
     counts: &[u32],
     work: &mut [u32],
     i: usize,
     to: usize,
     k: usize,
 ) -> Laid
-    requires { ⌜ (8 * n ≤ length (now programs)) × (1 ≤ n) × (n ≤ 256) ⌝ }
-    requires { ⌜ CanLay (view (now programs) n interrupts (now held) running (now counts)) (now work) i to k ⌝ }
-    ensures { λ r. ⌜ LaysRecord (view (now (programs .entry)) n interrupts (now (held .entry)) running (now (counts .entry))) i k to (now (work .entry)) (now (work .exit)) (r .entry) (r .size) ⌝ }
+    requires { ⌜ (8 * v .n ≤ length (now programs)) × (1 ≤ v .n) × (v .n ≤ 256) ⌝ }
+    requires { ⌜ CanLay (view (now programs) (v .n) (v .interrupts) (now held) (v .running) (now counts)) (now work) i to k ⌝ }
+    ensures { λ r. ⌜ LaysRecord (view (now (programs .entry)) (v .n) (v .interrupts) (now (held .entry)) (v .running) (now (counts .entry))) i k to (now (work .entry)) (now (work .exit)) (r .entry) (r .size) ⌝ }
 {
-    let r = leaves::record_at(programs, n, interrupts, i);
+    let r = leaves::record_at(programs, v.n, v.interrupts, i);
     if r.kind < 3 {
         words::put_node(work, to, 0, 0, 1);
         return Laid {
@@ -135,21 +140,10 @@ fn lay_record(
             size: 1,
         };
     }
-    let first = leaves::first_count(r, held, running, counts);
+    let first = leaves::first_count(r, held, v.running, counts);
     if k < first {
         let at = to + past_words(tag_a(r.kind) == 0, 3);
-        let x = lay_record(
-            programs,
-            n,
-            interrupts,
-            held,
-            running,
-            counts,
-            work,
-            r.a,
-            at,
-            k,
-        );
+        let x = lay_record(programs, v, held, counts, work, r.a, at, k);
         let size = wrap_a(work, to, r, i, x.size);
         return Laid {
             entry: x.entry,
@@ -157,18 +151,7 @@ fn lay_record(
         };
     }
     let at = to + past_words(tag_b(r.kind) == 0, 6);
-    let x = lay_record(
-        programs,
-        n,
-        interrupts,
-        held,
-        running,
-        counts,
-        work,
-        r.b,
-        at,
-        k - first,
-    );
+    let x = lay_record(programs, v, held, counts, work, r.b, at, k - first);
     let size = wrap_b(work, to, r, x.size);
     Laid {
         entry: x.entry,
@@ -191,10 +174,8 @@ fn wide(x: u32) -> usize
 // The k-th transition of record i.
 fn step_record(
     programs: &[u8],
-    n: usize,
-    interrupts: bool,
+    v: Setting,
     held: &[bool],
-    running: bool,
     finals: &[bool],
     counts: &[u32],
     work: &mut [u32],
@@ -202,24 +183,13 @@ fn step_record(
     to: usize,
     k: usize,
 ) -> Turn
-    requires { ⌜ (8 * n ≤ length (now programs)) × (1 ≤ n) × (n ≤ 256) ⌝ }
-    requires { ⌜ CanStepRecord (view (now programs) n interrupts (now held) running (now counts)) (now finals) (now work) i to ⌝ }
-    ensures { λ r. ⌜ StepsRecord (view (now (programs .entry)) n interrupts (now (held .entry)) running (now (counts .entry))) (now (finals .entry)) i k to (now (work .entry)) (now (work .exit)) r ⌝ }
+    requires { ⌜ (8 * v .n ≤ length (now programs)) × (1 ≤ v .n) × (v .n ≤ 256) ⌝ }
+    requires { ⌜ CanStepRecord (view (now programs) (v .n) (v .interrupts) (now held) (v .running) (now counts)) (now finals) (now work) i to ⌝ }
+    ensures { λ r. ⌜ StepsRecord (view (now (programs .entry)) (v .n) (v .interrupts) (now (held .entry)) (v .running) (now (counts .entry))) (now (finals .entry)) i k to (now (work .entry)) (now (work .exit)) r ⌝ }
 {
     let count = wide(leaves::count_in(counts, i));
     if k < count {
-        let x = lay_record(
-            programs,
-            n,
-            interrupts,
-            held,
-            running,
-            counts,
-            work,
-            i,
-            to,
-            k,
-        );
+        let x = lay_record(programs, v, held, counts, work, i, to, k);
         return Turn::Made {
             entry: x.entry,
             size: x.size,
@@ -280,10 +250,8 @@ fn end_right(
 // it is final where there is none. A part is copied only once the transition is made.
 pub fn step_rest(
     programs: &[u8],
-    n: usize,
-    interrupts: bool,
+    v: Setting,
     held: &[bool],
-    running: bool,
     finals: &[bool],
     counts: &[u32],
     work: &mut [u32],
@@ -291,9 +259,9 @@ pub fn step_rest(
     to: usize,
     k: usize,
 ) -> Turn
-    requires { ⌜ (8 * n ≤ length (now programs)) × (1 ≤ n) × (n ≤ 256) ⌝ }
-    requires { ⌜ CanStep (view (now programs) n interrupts (now held) running (now counts)) (now finals) (now work) from to ⌝ }
-    ensures { λ r. ⌜ StepsRest (view (now (programs .entry)) n interrupts (now (held .entry)) running (now (counts .entry))) (now (finals .entry)) from k to (now (work .entry)) (now (work .exit)) r ⌝ }
+    requires { ⌜ (8 * v .n ≤ length (now programs)) × (1 ≤ v .n) × (v .n ≤ 256) ⌝ }
+    requires { ⌜ CanStep (view (now programs) (v .n) (v .interrupts) (now held) (v .running) (now counts)) (now finals) (now work) from to ⌝ }
+    ensures { λ r. ⌜ StepsRest (view (now (programs .entry)) (v .n) (v .interrupts) (now (held .entry)) (v .running) (now (counts .entry))) (now (finals .entry)) from k to (now (work .entry)) (now (work .exit)) r ⌝ }
 {
     let tag = words::tag_at(work, from);
     if tag == 0 {
@@ -301,36 +269,12 @@ pub fn step_rest(
     }
     if tag == 1 {
         let i = words::record_at(work, from);
-        return step_record(
-            programs,
-            n,
-            interrupts,
-            held,
-            running,
-            finals,
-            counts,
-            work,
-            i,
-            to,
-            k,
-        );
+        return step_record(programs, v, held, finals, counts, work, i, to, k);
     }
     let left = from + 3;
     let size_left = words::size_at(work, left);
     let right = left + 3 * size_left;
-    let t = step_rest(
-        programs,
-        n,
-        interrupts,
-        held,
-        running,
-        finals,
-        counts,
-        work,
-        left,
-        to + 3,
-        k,
-    );
+    let t = step_rest(programs, v, held, finals, counts, work, left, to + 3, k);
     match t {
         Turn::Made { entry, size } => {
             let m = words::size_at(work, right);
@@ -348,19 +292,7 @@ pub fn step_rest(
                 };
             }
             let at = to + past_words(tag == 3, 3 + 3 * size_left);
-            let u = step_rest(
-                programs,
-                n,
-                interrupts,
-                held,
-                running,
-                finals,
-                counts,
-                work,
-                right,
-                at,
-                j,
-            );
+            let u = step_rest(programs, v, held, finals, counts, work, right, at, j);
             return end_right(work, left, to, tag, size_left, done, u);
         }
     }

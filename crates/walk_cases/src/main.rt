@@ -17,6 +17,7 @@ use search::Place;
 use search::Task;
 use sheet::Checked;
 use sheet::Layout;
+use steps::Setting;
 use steps::Turn;
 
 fn wide(x: u8) -> usize {
@@ -63,19 +64,12 @@ fn walk(s: &[u8], choices: &[u8], work: &mut [u32], t: Task, q: Place)
     let a = l.programs;
     let b = l.end;
     let to = q.at + t.frame;
-    let turn = steps::step_rest(
-        &s[a..b],
-        l.p,
-        t.interrupts,
-        &held,
-        st.running,
-        &finals,
-        &counts,
-        work,
-        from,
-        to + 64,
-        k,
-    );
+    let v = Setting {
+        n: l.p,
+        interrupts: t.interrupts,
+        running: st.running,
+    };
+    let turn = steps::step_rest(&s[a..b], v, &held, &finals, &counts, work, from, to + 64, k);
     let Turn::Made { entry, size: _ } = turn else {
         return;
     };

@@ -502,37 +502,37 @@ try-step-add-to t c =
     let C = y .0 in
     omega (arith, in-frame R, next-inside R L, ready-small R, one-frame R)
 
-try-step-sub-step-rest : (t : ℕ) → try-step-lts.Need-sub-step-rest (try-step-claims t) (try-step-at t) try-step.Post
-try-step-sub-step-rest t c =
-    let T = c .before .before .before .before .before .before .before .before .before .before .before .before .pre .1 .0 .0 in
-    let f = fits-of (now (c .before .before .before .before .before .before .before .before .before .before .before .before .args .s)) (c .before .before .before .before .before .before .before .before .before .before .before .before .args .t .layout) (T .accepted, T .layout-is) in
-    omega (arith, f .at-formulas, f .at-effects, f .at-actions, f .at-programs, f .at-end, f .inside)
-
-try-step-part-step-rest-start : (t : ℕ) → try-step-lts.Need-part-step-rest-start (try-step-claims t) (try-step-at t) try-step.Post
-try-step-part-step-rest-start t c =
-    let T = c .before .before .before .before .before .before .before .before .before .before .before .before .pre .1 .0 .0 in
-    let f = fits-of (now (c .before .before .before .before .before .before .before .before .before .before .before .before .args .s)) (c .before .before .before .before .before .before .before .before .before .before .before .before .args .t .layout) (T .accepted, T .layout-is) in
-    omega (arith, f .at-formulas, f .at-effects, f .at-actions, f .at-programs, f .at-end, f .inside)
-
-try-step-part-step-rest-end : (t : ℕ) → try-step-lts.Need-part-step-rest-end (try-step-claims t) (try-step-at t) try-step.Post
-try-step-part-step-rest-end t c =
-    let T = c .before .before .before .before .before .before .before .before .before .before .before .before .pre .1 .0 .0 in
-    let f = fits-of (now (c .before .before .before .before .before .before .before .before .before .before .before .before .args .s)) (c .before .before .before .before .before .before .before .before .before .before .before .before .args .t .layout) (T .accepted, T .layout-is) in
-    omega (arith, f .at-formulas, f .at-effects, f .at-actions, f .at-programs, f .at-end, f .inside)
-
-try-step-add-step-rest : (t : ℕ) → try-step-lts.Need-add-step-rest (try-step-claims t) (try-step-at t) try-step.Post
-try-step-add-step-rest t c =
-    let T = c .before .before .before .before .before .before .before .before .before .before .before .before .before .before .before .pre .1 .0 .0 in
-    let S = c .before .before .before .before .before .before .before .before .before .before .before .before .before .before .before .pre .1 .0 .2 in
-    let x = c .before .before .before .before .before .before .before .before .before .before .before .before .before .before .before .pre .1 .1 .0 in
+try-step-add-from : (t : ℕ) → try-step-lts.Need-add-from (try-step-claims t) (try-step-at t) try-step.Post
+try-step-add-from t c =
+    let T = c .before .before .before .before .before .before .before .before .before .before .before .before .before .pre .1 .0 .0 in
+    let S = c .before .before .before .before .before .before .before .before .before .before .before .before .before .pre .1 .0 .2 in
+    let x = c .before .before .before .before .before .before .before .before .before .before .before .before .before .pre .1 .1 .0 in
     let R = x .1 in
-    let y = c .before .before .before .before .before .before .before .before .before .before .before .before .before .before .before .pre .1 .1 .1 in
+    let y = c .before .before .before .before .before .before .before .before .before .before .before .before .before .pre .1 .1 .1 in
     let L = y .1 in
     let C = y .0 in
     omega (arith, in-frame R, next-inside R L, ready-small R, one-frame R)
 
-try-step-add-step-rest-2 : (t : ℕ) → try-step-lts.Need-add-step-rest-2 (try-step-claims t) (try-step-at t) try-step.Post
-try-step-add-step-rest-2 t c =
+try-step-sub-step-rest : (t : ℕ) → try-step-lts.Need-sub-step-rest (try-step-claims t) (try-step-at t) try-step.Post
+try-step-sub-step-rest t c =
+    let T = c .before .before .before .before .before .before .before .before .before .before .before .before .before .pre .1 .0 .0 in
+    let f = fits-of (now (c .before .before .before .before .before .before .before .before .before .before .before .before .before .args .s)) (c .before .before .before .before .before .before .before .before .before .before .before .before .before .args .t .layout) (T .accepted, T .layout-is) in
+    omega (arith, f .at-formulas, f .at-effects, f .at-actions, f .at-programs, f .at-end, f .inside)
+
+try-step-part-step-rest-start : (t : ℕ) → try-step-lts.Need-part-step-rest-start (try-step-claims t) (try-step-at t) try-step.Post
+try-step-part-step-rest-start t c =
+    let T = c .before .before .before .before .before .before .before .before .before .before .before .before .before .pre .1 .0 .0 in
+    let f = fits-of (now (c .before .before .before .before .before .before .before .before .before .before .before .before .before .args .s)) (c .before .before .before .before .before .before .before .before .before .before .before .before .before .args .t .layout) (T .accepted, T .layout-is) in
+    omega (arith, f .at-formulas, f .at-effects, f .at-actions, f .at-programs, f .at-end, f .inside)
+
+try-step-part-step-rest-end : (t : ℕ) → try-step-lts.Need-part-step-rest-end (try-step-claims t) (try-step-at t) try-step.Post
+try-step-part-step-rest-end t c =
+    let T = c .before .before .before .before .before .before .before .before .before .before .before .before .before .pre .1 .0 .0 in
+    let f = fits-of (now (c .before .before .before .before .before .before .before .before .before .before .before .before .before .args .s)) (c .before .before .before .before .before .before .before .before .before .before .before .before .before .args .t .layout) (T .accepted, T .layout-is) in
+    omega (arith, f .at-formulas, f .at-effects, f .at-actions, f .at-programs, f .at-end, f .inside)
+
+try-step-add-step-rest : (t : ℕ) → try-step-lts.Need-add-step-rest (try-step-claims t) (try-step-at t) try-step.Post
+try-step-add-step-rest t c =
     let T = c .before .before .before .before .before .before .before .before .before .before .before .before .before .before .before .pre .1 .0 .0 in
     let S = c .before .before .before .before .before .before .before .before .before .before .before .before .before .before .before .pre .1 .0 .2 in
     let x = c .before .before .before .before .before .before .before .before .before .before .before .before .before .before .before .pre .1 .1 .0 in
@@ -640,8 +640,8 @@ try-step-write-state-requires t c κs =
     let known = taken-known T S R L X in
     omega (arith, next-inside R L, X .kept .len, one-frame R)
 
-try-step-sub-t24 : (t : ℕ) → try-step-lts.Need-sub-t24 (try-step-claims t) (try-step-at t) try-step.Post
-try-step-sub-t24 t c =
+try-step-sub-t26 : (t : ℕ) → try-step-lts.Need-sub-t26 (try-step-claims t) (try-step-at t) try-step.Post
+try-step-sub-t26 t c =
     let T = c .before .before .before .before .before .before .before .before .before .before .before .before .before .before .before .before .before .before .before .before .before .before .before .before .before .before .before .before .before .pre .1 .0 .0 in
     let S = c .before .before .before .before .before .before .before .before .before .before .before .before .before .before .before .before .before .before .before .before .before .before .before .before .before .before .before .before .before .pre .1 .0 .2 in
     let x = c .before .before .before .before .before .before .before .before .before .before .before .before .before .before .before .before .before .before .before .before .before .before .before .before .before .before .before .before .before .pre .1 .1 .0 in
@@ -665,8 +665,8 @@ try-step-made-after-requires t c κs =
 try-step-entries-of-requires : (t : ℕ) → try-step-lts.Need-entries-of-requires (try-step-claims t) (try-step-at t) try-step.Post
 try-step-entries-of-requires t c κs = search needs
 
-try-step-add-t37 : (t : ℕ) → try-step-lts.Need-add-t37 (try-step-claims t) (try-step-at t) try-step.Post
-try-step-add-t37 t c =
+try-step-add-t39 : (t : ℕ) → try-step-lts.Need-add-t39 (try-step-claims t) (try-step-at t) try-step.Post
+try-step-add-t39 t c =
     let T = c .before .before .before .before .before .before .before .before .before .before .before .before .before .before .before .before .before .before .before .before .before .before .before .before .before .before .before .before .before .before .before .before .pre .1 .0 .0 in
     let S = c .before .before .before .before .before .before .before .before .before .before .before .before .before .before .before .before .before .before .before .before .before .before .before .before .before .before .before .before .before .before .before .before .pre .1 .0 .2 in
     let x = c .before .before .before .before .before .before .before .before .before .before .before .before .before .before .before .before .before .before .before .before .before .before .before .before .before .before .before .before .before .before .before .before .pre .1 .1 .0 in
@@ -676,8 +676,8 @@ try-step-add-t37 t c =
     let C = y .0 in
     omega (arith, c .before .entries-of .ensures .0, C .few, C .deep)
 
-try-step-add-t38 : (t : ℕ) → try-step-lts.Need-add-t38 (try-step-claims t) (try-step-at t) try-step.Post
-try-step-add-t38 t c =
+try-step-add-t40 : (t : ℕ) → try-step-lts.Need-add-t40 (try-step-claims t) (try-step-at t) try-step.Post
+try-step-add-t40 t c =
     let T = c .before .before .before .before .before .before .before .before .before .before .before .before .before .before .before .before .before .before .before .before .before .before .before .before .before .before .before .before .before .before .before .before .before .pre .1 .0 .0 in
     let S = c .before .before .before .before .before .before .before .before .before .before .before .before .before .before .before .before .before .before .before .before .before .before .before .before .before .before .before .before .before .before .before .before .before .pre .1 .0 .2 in
     let x = c .before .before .before .before .before .before .before .before .before .before .before .before .before .before .before .before .before .before .before .before .before .before .before .before .before .before .before .before .before .before .before .before .before .pre .1 .1 .0 in
@@ -703,7 +703,7 @@ try-step-explore-requires t c κs =
     let q = c .before .before .before .before .before .before .before .before .before .before .before .before .before .before .before .before .before .before .before .before .before .before .before .before .before .before .before .before .before .before .before .before .before .before .before .args .q in
     let to = q .at + c .before .before .before .before .before .before .before .before .before .before .before .before .before .before .before .before .before .before .before .before .before .before .before .before .before .before .before .before .before .before .before .before .before .before .before .args .t .frame in
     let next = c .before .before .before .before .before .before .before .before .before .before .state-after .ensures (S .held-is) m (X .known) (X .code) in
-    let P = subst (λ (z : State). StatePut z to (c .before .before .before .before .before .before .before .before .before .before .before .before .before .before .before .before .before .before .before .step-rest .last .1 .1 .1 .1 .1 .1 .1 .0) (c .before .before .before .before .before .before .before .before .before .write-state .last .0)) next (c .before .before .before .before .before .before .before .before .before .write-state .ensures) in
+    let P = subst (λ (z : State). StatePut z to (c .before .before .before .before .before .before .before .before .before .before .before .before .before .before .before .before .before .before .before .step-rest .last .1 .1 .1 .1 .1 .0) (c .before .before .before .before .before .before .before .before .before .write-state .last .0)) next (c .before .before .before .before .before .before .before .before .before .write-state .ensures) in
     let C′ : Counts (now (c .before .before .before .before .before .before .before .before .before .before .before .before .before .before .before .before .before .before .before .before .before .before .before .before .before .before .before .before .before .before .before .before .before .before .before .args .moves)) (now (c .before .before .before .before .before .before .before .before .before .before .before .before .before .before .before .before .before .before .before .before .before .before .before .before .before .before .before .before .before .before .before .before .before .before .before .args .trace)) (record { at = to; left = q .left - 1; j = c .before .before .before .before .before .made-after .result; n = q .n + c .before .before .before .before .entries-of .result; d = q .d + 1 }) = record { made = c .before .before .before .before .before .made-after .ensures .0; traced = omega (arith, c .before .before .before .before .entries-of .ensures .0, C .traced); few = omega (arith, c .before .before .before .before .entries-of .ensures .0, C .few); deep = omega (arith, C .deep) } in
     (omega (arith, c .before .before .before .before .before .before .before .before .before .before .before .before .before .before .before .before .before .before .before .before .before .before .before .before .before .before .before .before .before .before .before .before .before .before .before .pre .0), ((T, c .before .before .before .before .before .before .before .before .before .before .before .before .before .before .before .before .before .before .before .before .before .before .before .before .before .before .before .before .before .before .before .before .before .before .before .pre .1 .0 .1), ((leads X, stands-next T S R L X P, next-is-ready T S R L X P _ _ _), C′)))
 
@@ -737,7 +737,7 @@ try-step-same-length-3 t c =
     let q = c .before .before .before .before .before .before .before .before .before .before .before .before .before .before .before .before .before .before .before .before .before .before .before .before .before .before .before .before .before .before .before .before .before .before .before .before .before .before .before .before .before .before .before .before .args .q in
     let to = q .at + c .before .before .before .before .before .before .before .before .before .before .before .before .before .before .before .before .before .before .before .before .before .before .before .before .before .before .before .before .before .before .before .before .before .before .before .before .before .before .before .before .before .before .before .before .args .t .frame in
     let next = c .before .before .before .before .before .before .before .before .before .before .before .before .before .before .before .before .before .before .before .state-after .ensures (S .held-is) m (X .known) (X .code) in
-    let P = subst (λ (z : State). StatePut z to (c .before .before .before .before .before .before .before .before .before .before .before .before .before .before .before .before .before .before .before .before .before .before .before .before .before .before .before .before .step-rest .last .1 .1 .1 .1 .1 .1 .1 .0) (c .before .before .before .before .before .before .before .before .before .before .before .before .before .before .before .before .before .before .write-state .last .0)) next (c .before .before .before .before .before .before .before .before .before .before .before .before .before .before .before .before .before .before .write-state .ensures) in
+    let P = subst (λ (z : State). StatePut z to (c .before .before .before .before .before .before .before .before .before .before .before .before .before .before .before .before .before .before .before .before .before .before .before .before .before .before .before .before .step-rest .last .1 .1 .1 .1 .1 .0) (c .before .before .before .before .before .before .before .before .before .before .before .before .before .before .before .before .before .before .write-state .last .0)) next (c .before .before .before .before .before .before .before .before .before .before .before .before .before .before .before .before .before .before .write-state .ensures) in
     c .before .before .before .before .before .before .before .before .explore .ensures .1 .len ∙ kept-before T S R L X P .len
 
 try-step-same-length-4 : (t : ℕ) → try-step-lts.Need-same-length-4 (try-step-claims t) (try-step-at t) try-step.Post
@@ -759,7 +759,7 @@ try-step-returns-3 t c =
     let q = c .before .before .before .before .before .before .before .before .before .before .before .before .before .before .before .before .before .before .before .before .before .before .before .before .before .before .before .before .before .before .before .before .before .before .before .before .before .before .before .before .before .before .before .before .args .q in
     let to = q .at + c .before .before .before .before .before .before .before .before .before .before .before .before .before .before .before .before .before .before .before .before .before .before .before .before .before .before .before .before .before .before .before .before .before .before .before .before .before .before .before .before .before .before .before .before .args .t .frame in
     let next = c .before .before .before .before .before .before .before .before .before .before .before .before .before .before .before .before .before .before .before .state-after .ensures (S .held-is) m (X .known) (X .code) in
-    let P = subst (λ (z : State). StatePut z to (c .before .before .before .before .before .before .before .before .before .before .before .before .before .before .before .before .before .before .before .before .before .before .before .before .before .before .before .before .step-rest .last .1 .1 .1 .1 .1 .1 .1 .0) (c .before .before .before .before .before .before .before .before .before .before .before .before .before .before .before .before .before .before .write-state .last .0)) next (c .before .before .before .before .before .before .before .before .before .before .before .before .before .before .before .before .before .before .write-state .ensures) in
+    let P = subst (λ (z : State). StatePut z to (c .before .before .before .before .before .before .before .before .before .before .before .before .before .before .before .before .before .before .before .before .before .before .before .before .before .before .before .before .step-rest .last .1 .1 .1 .1 .1 .0) (c .before .before .before .before .before .before .before .before .before .before .before .before .before .before .before .before .before .before .write-state .last .0)) next (c .before .before .before .before .before .before .before .before .before .before .before .before .before .before .before .before .before .before .write-state .ensures) in
     let free = c .before .before .before .before .before .before .before .before .before .before .before .before .before .before .before .before .before .before .before .before .before .before .before .before .before .before .before .before .before .before .before .before .before .before .before .before .before .before .before .before .before .before .before .before .args .t .free in
     let moves = now (c .before .before .before .before .before .before .before .before .before .before .before .before .before .before .before .before .before .before .before .before .before .before .before .before .before .before .before .before .before .before .before .before .before .before .before .before .before .before .before .before .before .before .before .before .args .moves) in
     let pass = sym (c .before .before .before .before .before .before .before .before .before .before .before .before .before .before .before .before .before .before .before .before .before .before .lets-pass .ensures m known (X .code)) ∙ not-false _ (c .before .before .before .before .before .before .before .before .before .before .before .before .before .before .before .before .before .before .before .before .before .if1 .left) in
@@ -833,11 +833,11 @@ pub +explore+try-all+try-step-spec : {M : Type 1} → statement M
     (try-step-at t)
     try-step.Post
     (try-step-add-to t)
+    (try-step-add-from t)
     (try-step-sub-step-rest t)
     (try-step-part-step-rest-start t)
     (try-step-part-step-rest-end t)
     (try-step-add-step-rest t)
-    (try-step-add-step-rest-2 t)
     (try-step-step-rest-requires t)
     (try-step-enum-known-turn t)
     (try-step-enum-told t)
@@ -849,11 +849,11 @@ pub +explore+try-all+try-step-spec : {M : Type 1} → statement M
     (try-step-returns-2 t)
     (try-step-state-after-requires t)
     (try-step-write-state-requires t)
-    (try-step-sub-t24 t)
+    (try-step-sub-t26 t)
     (try-step-made-after-requires t)
     (try-step-entries-of-requires t)
-    (try-step-add-t37 t)
-    (try-step-add-t38 t)
+    (try-step-add-t39 t)
+    (try-step-add-t40 t)
     (try-step-explore-requires t)
     (try-step-note-requires t)
     (try-step-same-length-3 t)

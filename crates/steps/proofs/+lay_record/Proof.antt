@@ -21,7 +21,7 @@ use Rattle.steps.proofs.+lay_record.{statement}
 use Rattle.steps.proofs.+lay_record.Tie.{close}
 
 abbrev μ-lay-record : Measures 4 lay-record-kinds.ps ℕ
-μ-lay-record κs a = a .1 .1 .1 .1 .1 .1 .1 .0
+μ-lay-record κs a = a .1 .1 .1 .1 .1 .0
 
 abbrev lay-record-at : ℕ → In 4 lay-record-kinds.ps
 lay-record-at t =
@@ -86,7 +86,7 @@ lay-record-lay-record-requires : (t : ℕ) → lay-record-lts.Need-lay-record-re
 lay-record-lay-record-requires t c κs = (omega (arith, a-falls ((c .before .before .before .before .before .before .before .before .before .before .before .before .pre .1 .1) .counted) _ ((c .before .before .before .before .before .before .before .before .before .before .before .before .pre .1 .1) .inside) ((c .before .before .before .before .before .before .before .before .before .before .before .before .pre .1 .1) .low) _ (c .before .before .before .before .before .before .before .record-at .ensures .0) (c .before .before .before .before .before .if1 .left) _ (c .before .before .before .before .first-count .ensures .0) _ (c .before .before .before .if2 .taken), c .before .before .before .before .before .before .before .before .before .before .before .before .pre .0), (c .before .before .before .before .before .before .before .before .before .before .before .before .pre .1 .0, a-can ((c .before .before .before .before .before .before .before .before .before .before .before .before .pre .1 .1) .counted) _ ((c .before .before .before .before .before .before .before .before .before .before .before .before .pre .1 .1) .inside) ((c .before .before .before .before .before .before .before .before .before .before .before .before .pre .1 .1) .low) _ (c .before .before .before .before .before .before .before .record-at .ensures .0) (c .before .before .before .before .before .if1 .left) _ (c .before .before .before .before .first-count .ensures .0) _ (c .before .before .before .if2 .taken) ((c .before .before .before .before .before .before .before .before .before .before .before .before .pre .1 .1) .room) (c .before .past-words .ensures .1)))
 
 lay-record-wrap-a-requires : (t : ℕ) → lay-record-lts.Need-wrap-a-requires (claims t) (lay-record-at t) lay-record.Post
-lay-record-wrap-a-requires t c κs = (a-room ((c .before .before .before .before .before .before .before .before .before .before .before .before .before .before .before .before .pre .1 .1) .counted) _ ((c .before .before .before .before .before .before .before .before .before .before .before .before .before .before .before .before .pre .1 .1) .inside) ((c .before .before .before .before .before .before .before .before .before .before .before .before .before .before .before .before .pre .1 .1) .low) _ (c .before .before .before .before .before .before .before .before .before .before .before .record-at .ensures .0) (c .before .before .before .before .before .before .before .before .before .if1 .left) _ (c .before .before .before .before .before .before .before .before .first-count .ensures .0) _ (c .before .before .before .before .before .before .before .if2 .taken) ((c .before .before .before .before .before .before .before .before .before .before .before .before .before .before .before .before .pre .1 .1) .room) (c .before .before .before .lay-record .ensures _ _ ((c .before .before .before .before .before .before .before .before .before .before .before .before .before .before .before .before .pre .1 .1) .counted)), (many-few (c .before .before .before .before .before .before .before .before .before .before .before .before .before .before .before .before .args .interrupts) (c .before .before .before .before .before .before .before .before .before .before .before .before .before .before .before .before .args .n) _ (c .before .before .before .before .before .before .before .before .before .before .before .before .before .before .before .before .pre .1 .0 .2) ((c .before .before .before .before .before .before .before .before .before .before .before .before .before .before .before .before .pre .1 .1) .inside), c .before .before .before .before .before .before .before .before .before .before .before .record-at .ensures .1 .1))
+lay-record-wrap-a-requires t c κs = (a-room ((c .before .before .before .before .before .before .before .before .before .before .before .before .before .before .before .before .pre .1 .1) .counted) _ ((c .before .before .before .before .before .before .before .before .before .before .before .before .before .before .before .before .pre .1 .1) .inside) ((c .before .before .before .before .before .before .before .before .before .before .before .before .before .before .before .before .pre .1 .1) .low) _ (c .before .before .before .before .before .before .before .before .before .before .before .record-at .ensures .0) (c .before .before .before .before .before .before .before .before .before .if1 .left) _ (c .before .before .before .before .before .before .before .before .first-count .ensures .0) _ (c .before .before .before .before .before .before .before .if2 .taken) ((c .before .before .before .before .before .before .before .before .before .before .before .before .before .before .before .before .pre .1 .1) .room) (c .before .before .before .lay-record .ensures _ _ ((c .before .before .before .before .before .before .before .before .before .before .before .before .before .before .before .before .pre .1 .1) .counted)), (many-few (c .before .before .before .before .before .before .before .before .before .before .before .before .before .before .before .before .args .v .interrupts) (c .before .before .before .before .before .before .before .before .before .before .before .before .before .before .before .before .args .v .n) _ (c .before .before .before .before .before .before .before .before .before .before .before .before .before .before .before .before .pre .1 .0 .2) ((c .before .before .before .before .before .before .before .before .before .before .before .before .before .before .before .before .pre .1 .1) .inside), c .before .before .before .before .before .before .before .before .before .before .before .record-at .ensures .1 .1))
 
 lay-record-same-length-2 : (t : ℕ) → lay-record-lts.Need-same-length-2 (claims t) (lay-record-at t) lay-record.Post
 lay-record-same-length-2 t c = search needs

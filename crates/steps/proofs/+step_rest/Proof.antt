@@ -24,7 +24,7 @@ use Rattle.steps.proofs.+step_rest.{statement}
 use Rattle.steps.proofs.+step_rest.Tie.{close}
 
 abbrev μ-step-rest : Measures 5 step-rest-kinds.ps ℕ
-μ-step-rest κs a = sizeAt (a .1 .1 .1 .1 .1 .1 .1 .0 .now) (a .1 .1 .1 .1 .1 .1 .1 .1 .0)
+μ-step-rest κs a = sizeAt (a .1 .1 .1 .1 .1 .0 .now) (a .1 .1 .1 .1 .1 .1 .0)
 
 abbrev step-rest-at : ℕ → In 5 step-rest-kinds.ps
 step-rest-at t = and 5 step-rest-kinds.ps (is 5 step-rest-kinds.ps μ-step-rest t) step-rest.Pre
@@ -105,11 +105,11 @@ step-rest-size-at-requires-2 t c κs = let X = split (c .before .before .before 
 step-rest-join-requires : (t : ℕ) → step-rest-lts.Need-join-requires (claims t) (step-rest-at t) step-rest.Post
 step-rest-join-requires t c κs = let X = split (c .before .before .before .before .before .before .before .before .before .before .before .before .before .before .before .before .before .before .before .before .before .pre .1 .1) (c .before .before .before .before .before .before .before .before .before .before .before .before .before .before .tag-at .ensures) (c .before .before .before .before .before .before .before .before .before .before .before .before .before .if1 .left) (c .before .before .before .before .before .before .before .before .before .before .before .before .if2 .left) (c .before .before .before .before .before .before .before .before .before .before .size-at .ensures) in let F = c .before .before .before .before .before .before .before .before .step-rest .ensures _ _ (X .tabled) (X .parts .l) (X .parts .l-at) in let R = made-room X (X .tabled) F (c .before .before .before .before .t .given .1) (c .before .size-at2 .ensures) in (R .0, (X .parts .three, R .1))
 
-step-rest-add-t42 : (t : ℕ) → step-rest-lts.Need-add-t42 (claims t) (step-rest-at t) step-rest.Post
-step-rest-add-t42 t c = let X = split (c .before .before .before .before .before .before .before .before .before .before .before .before .before .before .before .before .before .before .before .before .before .before .before .before .pre .1 .1) (c .before .before .before .before .before .before .before .before .before .before .before .before .before .before .before .before .before .tag-at .ensures) (c .before .before .before .before .before .before .before .before .before .before .before .before .before .before .before .before .if1 .left) (c .before .before .before .before .before .before .before .before .before .before .before .before .before .before .before .if2 .left) (c .before .before .before .before .before .before .before .before .before .before .before .before .before .size-at .ensures) in let F = c .before .before .before .before .before .before .before .before .before .before .before .step-rest .ensures _ _ (X .tabled) (X .parts .l) (X .parts .l-at) in let R = made-room X (X .tabled) F (c .before .before .before .before .before .before .before .t .given .1) (c .before .before .before .before .size-at2 .ensures) in omega (arith, R .0 .inside, R .0 .small)
+step-rest-add-t40 : (t : ℕ) → step-rest-lts.Need-add-t40 (claims t) (step-rest-at t) step-rest.Post
+step-rest-add-t40 t c = let X = split (c .before .before .before .before .before .before .before .before .before .before .before .before .before .before .before .before .before .before .before .before .before .before .before .before .pre .1 .1) (c .before .before .before .before .before .before .before .before .before .before .before .before .before .before .before .before .before .tag-at .ensures) (c .before .before .before .before .before .before .before .before .before .before .before .before .before .before .before .before .if1 .left) (c .before .before .before .before .before .before .before .before .before .before .before .before .before .before .before .if2 .left) (c .before .before .before .before .before .before .before .before .before .before .before .before .before .size-at .ensures) in let F = c .before .before .before .before .before .before .before .before .before .before .before .step-rest .ensures _ _ (X .tabled) (X .parts .l) (X .parts .l-at) in let R = made-room X (X .tabled) F (c .before .before .before .before .before .before .before .t .given .1) (c .before .before .before .before .size-at2 .ensures) in omega (arith, R .0 .inside, R .0 .small)
 
-step-rest-add-t43 : (t : ℕ) → step-rest-lts.Need-add-t43 (claims t) (step-rest-at t) step-rest.Post
-step-rest-add-t43 t c = let X = split (c .before .before .before .before .before .before .before .before .before .before .before .before .before .before .before .before .before .before .before .before .before .before .before .before .pre .1 .1) (c .before .before .before .before .before .before .before .before .before .before .before .before .before .before .before .before .before .tag-at .ensures) (c .before .before .before .before .before .before .before .before .before .before .before .before .before .before .before .before .if1 .left) (c .before .before .before .before .before .before .before .before .before .before .before .before .before .before .before .if2 .left) (c .before .before .before .before .before .before .before .before .before .before .before .before .before .size-at .ensures) in let F = c .before .before .before .before .before .before .before .before .before .before .before .step-rest .ensures _ _ (X .tabled) (X .parts .l) (X .parts .l-at) in let R = made-room X (X .tabled) F (c .before .before .before .before .before .before .before .t .given .1) (c .before .before .before .before .size-at2 .ensures) in omega (arith, R .0 .inside, R .0 .small)
+step-rest-add-t41 : (t : ℕ) → step-rest-lts.Need-add-t41 (claims t) (step-rest-at t) step-rest.Post
+step-rest-add-t41 t c = let X = split (c .before .before .before .before .before .before .before .before .before .before .before .before .before .before .before .before .before .before .before .before .before .before .before .before .pre .1 .1) (c .before .before .before .before .before .before .before .before .before .before .before .before .before .before .before .before .before .tag-at .ensures) (c .before .before .before .before .before .before .before .before .before .before .before .before .before .before .before .before .if1 .left) (c .before .before .before .before .before .before .before .before .before .before .before .before .before .before .before .if2 .left) (c .before .before .before .before .before .before .before .before .before .before .before .before .before .size-at .ensures) in let F = c .before .before .before .before .before .before .before .before .before .before .before .step-rest .ensures _ _ (X .tabled) (X .parts .l) (X .parts .l-at) in let R = made-room X (X .tabled) F (c .before .before .before .before .before .before .before .t .given .1) (c .before .before .before .before .size-at2 .ensures) in omega (arith, R .0 .inside, R .0 .small)
 
 step-rest-same-length-3 : (t : ℕ) → step-rest-lts.Need-same-length-3 (claims t) (step-rest-at t) step-rest.Post
 step-rest-same-length-3 t c = search needs
@@ -176,8 +176,8 @@ pub +step-rest-spec : {M : Type 1} → statement M
     (step-rest-enum-known-t t)
     (step-rest-size-at-requires-2 t)
     (step-rest-join-requires t)
-    (step-rest-add-t42 t)
-    (step-rest-add-t43 t)
+    (step-rest-add-t40 t)
+    (step-rest-add-t41 t)
     (step-rest-same-length-3 t)
     (step-rest-returns-3 t)
     (step-rest-enum-known-t-2 t)

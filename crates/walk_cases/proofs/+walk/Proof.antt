@@ -261,11 +261,11 @@ walk-write-state-requires t c κs =
     let X = taken T S R L (c .before .before .before .before .before .before .before .before .before .step-rest .ensures) _ _ (c .before .before .before .before .before .turn .given .1) in
     omega (arith, next-inside R L, X .kept .len, one-frame R)
 
-walk-sub-t73 : (t : ℕ) → walk-lts.Need-sub-t73 (claims t) (walk-at t) walk.Post
-walk-sub-t73 t c = omega (arith, c .before .before .before .before .before .before .before .before .before .before .before .before .before .before .before .before .before .before .before .before .before .before .if1 .left)
+walk-sub-t74 : (t : ℕ) → walk-lts.Need-sub-t74 (claims t) (walk-at t) walk.Post
+walk-sub-t74 t c = omega (arith, c .before .before .before .before .before .before .before .before .before .before .before .before .before .before .before .before .before .before .before .before .before .before .if1 .left)
 
-walk-add-t58 : (t : ℕ) → walk-lts.Need-add-t58 (claims t) (walk-at t) walk.Post
-walk-add-t58 t c = omega (arith, c .before .before .before .before .before .before .before .before .before .before .before .before .before .before .before .before .before .before .before .before .before .before .before .before .before .before .before .before .before .before .before .before .before .before .before .before .before .before .before .before .before .before .before .before .before .before .before .before .before .before .before .before .before .before .before .before .before .before .before .before .pre .1 .1 .1)
+walk-add-t59 : (t : ℕ) → walk-lts.Need-add-t59 (claims t) (walk-at t) walk.Post
+walk-add-t59 t c = omega (arith, c .before .before .before .before .before .before .before .before .before .before .before .before .before .before .before .before .before .before .before .before .before .before .before .before .before .before .before .before .before .before .before .before .before .before .before .before .before .before .before .before .before .before .before .before .before .before .before .before .before .before .before .before .before .before .before .before .before .before .before .before .pre .1 .1 .1)
 
 walk-walk-requires : (t : ℕ) → walk-lts.Need-walk-requires (claims t) (walk-at t) walk.Post
 walk-walk-requires t c κs =
@@ -276,7 +276,7 @@ walk-walk-requires t c κs =
     let X = taken T S R L (c .before .before .before .before .before .before .before .before .before .before .before .before .before .before .before .step-rest .ensures) _ _ (c .before .before .before .before .before .before .before .before .before .before .before .turn .given .1) in
     let to = c .before .before .before .before .before .before .before .before .before .before .before .before .before .before .before .before .before .before .before .before .before .before .before .before .before .before .before .before .before .before .before .before .before .before .before .before .before .before .before .before .before .before .before .before .before .before .before .before .before .before .before .before .before .before .before .before .before .before .before .before .before .args .q .at + c .before .before .before .before .before .before .before .before .before .before .before .before .before .before .before .before .before .before .before .before .before .before .before .before .before .before .before .before .before .before .before .before .before .before .before .before .before .before .before .before .before .before .before .before .before .before .before .before .before .before .before .before .before .before .before .before .before .before .before .before .before .args .t .frame in
     let next = c .before .before .before .before .before .before .state-after .ensures (S .held-is) (X .move .0) (X .known) (X .code) in
-    let P = subst (λ (z : State). StatePut z to (c .before .before .before .before .before .before .before .before .before .before .before .before .before .before .before .step-rest .last .1 .1 .1 .1 .1 .1 .1 .0) (c .before .before .before .before .before .write-state .last .0)) next (c .before .before .before .before .before .write-state .ensures) in
+    let P = subst (λ (z : State). StatePut z to (c .before .before .before .before .before .before .before .before .before .before .before .before .before .before .before .step-rest .last .1 .1 .1 .1 .1 .0) (c .before .before .before .before .before .write-state .last .0)) next (c .before .before .before .before .before .write-state .ensures) in
     (omega (arith, L, c .before .before .before .before .before .before .before .before .before .before .before .before .before .before .before .before .before .before .before .before .before .before .before .before .before .before .before .before .before .before .before .before .before .before .before .before .before .before .before .before .before .before .before .before .before .before .before .before .before .before .before .before .before .before .before .before .before .before .before .before .before .pre .0), (T, ((leads X, stands-next T S R L X P, next-is-ready T S R L X P _ _ _), omega (arith, L, c .before .before .before .before .before .before .before .before .before .before .before .before .before .before .before .before .before .before .before .before .before .before .before .before .before .before .before .before .before .before .before .before .before .before .before .before .before .before .before .before .before .before .before .before .before .before .before .before .before .before .before .before .before .before .before .before .before .before .before .before .before .pre .1 .1 .1))))
 
 walk-same-length-3 : (t : ℕ) → walk-lts.Need-same-length-3 (claims t) (walk-at t) walk.Post
@@ -288,7 +288,7 @@ walk-same-length-3 t c =
     let X = taken T S R L (c .before .before .before .before .before .before .before .before .before .before .before .before .before .before .before .before .before .before .step-rest .ensures) _ _ (c .before .before .before .before .before .before .before .before .before .before .before .before .before .before .turn .given .1) in
     let to = c .before .before .before .before .before .before .before .before .before .before .before .before .before .before .before .before .before .before .before .before .before .before .before .before .before .before .before .before .before .before .before .before .before .before .before .before .before .before .before .before .before .before .before .before .before .before .before .before .before .before .before .before .before .before .before .before .before .before .before .before .before .before .before .before .args .q .at + c .before .before .before .before .before .before .before .before .before .before .before .before .before .before .before .before .before .before .before .before .before .before .before .before .before .before .before .before .before .before .before .before .before .before .before .before .before .before .before .before .before .before .before .before .before .before .before .before .before .before .before .before .before .before .before .before .before .before .before .before .before .before .before .before .args .t .frame in
     let next = c .before .before .before .before .before .before .before .before .before .state-after .ensures (S .held-is) (X .move .0) (X .known) (X .code) in
-    let P = subst (λ (z : State). StatePut z to (c .before .before .before .before .before .before .before .before .before .before .before .before .before .before .before .before .before .before .step-rest .last .1 .1 .1 .1 .1 .1 .1 .0) (c .before .before .before .before .before .before .before .before .write-state .last .0)) next (c .before .before .before .before .before .before .before .before .write-state .ensures) in
+    let P = subst (λ (z : State). StatePut z to (c .before .before .before .before .before .before .before .before .before .before .before .before .before .before .before .before .before .before .step-rest .last .1 .1 .1 .1 .1 .0) (c .before .before .before .before .before .before .before .before .write-state .last .0)) next (c .before .before .before .before .before .before .before .before .write-state .ensures) in
     c .before .before .walk .ensures ∙ kept-before T S R L X P .len
 
 walk-returns-3 : (t : ℕ) → walk-lts.Need-returns-3 (claims t) (walk-at t) walk.Post
@@ -300,7 +300,7 @@ walk-returns-3 t c =
     let X = taken T S R L (c .before .before .before .before .before .before .before .before .before .before .before .before .before .before .before .before .before .before .step-rest .ensures) _ _ (c .before .before .before .before .before .before .before .before .before .before .before .before .before .before .turn .given .1) in
     let to = c .before .before .before .before .before .before .before .before .before .before .before .before .before .before .before .before .before .before .before .before .before .before .before .before .before .before .before .before .before .before .before .before .before .before .before .before .before .before .before .before .before .before .before .before .before .before .before .before .before .before .before .before .before .before .before .before .before .before .before .before .before .before .before .before .args .q .at + c .before .before .before .before .before .before .before .before .before .before .before .before .before .before .before .before .before .before .before .before .before .before .before .before .before .before .before .before .before .before .before .before .before .before .before .before .before .before .before .before .before .before .before .before .before .before .before .before .before .before .before .before .before .before .before .before .before .before .before .before .before .before .before .before .args .t .frame in
     let next = c .before .before .before .before .before .before .before .before .before .state-after .ensures (S .held-is) (X .move .0) (X .known) (X .code) in
-    let P = subst (λ (z : State). StatePut z to (c .before .before .before .before .before .before .before .before .before .before .before .before .before .before .before .before .before .before .step-rest .last .1 .1 .1 .1 .1 .1 .1 .0) (c .before .before .before .before .before .before .before .before .write-state .last .0)) next (c .before .before .before .before .before .before .before .before .write-state .ensures) in
+    let P = subst (λ (z : State). StatePut z to (c .before .before .before .before .before .before .before .before .before .before .before .before .before .before .before .before .before .before .step-rest .last .1 .1 .1 .1 .1 .0) (c .before .before .before .before .before .before .before .before .write-state .last .0)) next (c .before .before .before .before .before .before .before .before .write-state .ensures) in
     c .before .before .walk .ensures ∙ kept-before T S R L X P .len
 
 pub +walk-spec : {M : Type 1} → statement M
@@ -351,8 +351,8 @@ pub +walk-spec : {M : Type 1} → statement M
     (walk-slice-aggregate-state-after t)
     (walk-state-after-requires t)
     (walk-write-state-requires t)
-    (walk-sub-t73 t)
-    (walk-add-t58 t)
+    (walk-sub-t74 t)
+    (walk-add-t59 t)
     (walk-walk-requires t)
     (walk-same-length-3 t)
     (walk-returns-3 t)
