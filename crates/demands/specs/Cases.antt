@@ -1,4 +1,4 @@
--- The thirteen worked cases of document 01, "A quay of three sections", as questions about whole sheets in bytes. Assumes nothing.
+-- The thirteen worked cases of document 01 (its example of three sections), as questions about whole sheets in bytes. Assumes nothing.
 use Prim.Native.Nat.{ℕ, suc, _+_, _*_}
 use mathlib.Core.Bool.{Bool, true, false, cond, _&&_, Bool·beq}
 use mathlib.Core.List.{List, [], _∷_, _++_}

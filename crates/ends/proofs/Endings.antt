@@ -1,7 +1,7 @@
 -- A remaining program that is final in some state may be, by the table of what may be; and where a transition leaves one that is final in
 -- some state, the tables say that one may. Assumes nothing.
 use mathlib.Core.Path.{_≡_, refl, sym, ap, ap₂, _∙_}
-use mathlib.Core.Bool.{Bool, true, false, not, cond, _&&_, _||_}
+use mathlib.Core.Bool.{Bool, true, false, not, cond, _&&_}
 use mathlib.Core.List.{List, [], _∷_, map, List·Memᴰ, List·Memᴰ·not-nil, List·Memᴰ·append-cases, Memᴰ·of-map}
 use mathlib.Core.Logic.{⊎-elim}
 use Prim.Native.Nat.{ℕ}
@@ -10,6 +10,7 @@ use lib.Dec.{eqb}
 use lib.ListN.{length, getD}
 use borrow.Author.Tests.{ne-eqb}
 use Rattle.records.specs.declared.Program.{Program}
+use Rattle.records.proofs.Truth.{and-left, and-right, and-both, or-left, or-right}
 use Rattle.golog.specs.declared.State.{State}
 use Rattle.golog.specs.World.{World}
 use Rattle.runs.specs.Guide.{only}
@@ -22,24 +23,6 @@ use Rattle.leaves.specs.Endable.{Endable}
 use Rattle.leaves.proofs.Entries.{counts-exact}
 use Rattle.ends.specs.Ends.{finalIn, countIn, soonIn, Within}
 use Rattle.ends.proofs.Tabled.{within-leaf, within-left, within-right, final-in, count-in}
-
-first-of : (x y : Bool) → (x && y) ≡ true → x ≡ true
-first-of true y e = refl
-first-of false y e = e
-
-second-of : (x y : Bool) → (x && y) ≡ true → y ≡ true
-second-of true y e = e
-second-of false y e = cc
-
-both-true : (x y : Bool) → x ≡ true → y ≡ true → (x && y) ≡ true
-both-true x y p q = ap (λ (z : Bool). z && y) p ∙ q
-
-or-left : (x y : Bool) → x ≡ true → (x || y) ≡ true
-or-left x y p = ap (λ (z : Bool). z || y) p
-
-or-right : (x y : Bool) → y ≡ true → (x || y) ≡ true
-or-right true y p = refl
-or-right false y p = p
 
 in-only : (b : Bool) (xs : List Move) (x : Move) → List·Memᴰ x (only b xs) → (b ≡ true) × List·Memᴰ x xs
 in-only true xs x k = (refl, k)
@@ -55,9 +38,9 @@ module _ (W : World) (p : ℕ → Program) (m : ℕ) (endable : List Bool) (E : 
   final-endable s gone H f = refl
   final-endable s (leaf i) H f = E W s i (within-leaf H .0) f
   final-endable s (node tag l r) H f =
-      both-true (finalIn endable l) (finalIn endable r)
-      (final-endable s l (within-left H) (first-of (restFinal W s p l) (restFinal W s p r) f))
-      (final-endable s r (within-right H) (second-of (restFinal W s p l) (restFinal W s p r) f))
+      and-both (finalIn endable l) (finalIn endable r)
+      (final-endable s l (within-left H) (and-left (restFinal W s p l) (restFinal W s p r) f))
+      (final-endable s r (within-right H) (and-right (restFinal W s p l) (restFinal W s p r) f))
 
   -- the left part may be final where the right one goes and is left final
   left-endable :
@@ -69,8 +52,8 @@ module _ (W : World) (p : ℕ → Program) (m : ℕ) (endable : List Bool) (E : 
       go : (b : Bool) → cond b (restFinal W s p l) (cond (eqb tag 8) true idle) ≡ true → restFinal W t p (cond b g (node tag l g)) ≡ true → (finalIn endable l ≡ true) × (restFinal W t p g ≡ true)
       go true y f = (final-endable s l H y, f)
       go false y f = (
-        final-endable t l H (first-of (restFinal W t p l) (restFinal W t p g) f),
-        second-of (restFinal W t p l) (restFinal W t p g) f,
+        final-endable t l H (and-left (restFinal W t p l) (restFinal W t p g) f),
+        and-right (restFinal W t p l) (restFinal W t p g) f,
       )
 
   module _ (low : AllLower p) (s : State) where
@@ -94,16 +77,16 @@ module _ (W : World) (p : ℕ → Program) (m : ℕ) (endable : List Bool) (E : 
         let y = Memᴰ·of-map (onRest (λ (g : Rest). node tag g r)) (restSteps W s p l) k in
         let f′ : restFinal W t p (node tag (y .0 .1) r) ≡ true = ap (λ (z : Move). restFinal W t p (z .1)) (y .2) ∙ f in
         or-left first second
-        (both-true (soonIn finals endable counts l) (finalIn endable r)
-        (L (y .0) (y .1) t (first-of (restFinal W t p (y .0 .1)) (restFinal W t p r) f′))
-        (final-endable t r Hr (second-of (restFinal W t p (y .0 .1)) (restFinal W t p r) f′))))
+        (and-both (soonIn finals endable counts l) (finalIn endable r)
+        (L (y .0) (y .1) t (and-left (restFinal W t p (y .0 .1)) (restFinal W t p r) f′))
+        (final-endable t r Hr (and-right (restFinal W t p (y .0 .1)) (restFinal W t p r) f′))))
         (λ (k : List·Memᴰ x (map (onRest (wrapRight tag l)) (only (goesRight tag (restFinal W s p l) (isNone (restSteps W s p l))) (restSteps W s p r)))).
         let y = Memᴰ·of-map (onRest (wrapRight tag l)) (only (goesRight tag (restFinal W s p l) (isNone (restSteps W s p l))) (restSteps W s p r)) k in
         let o = in-only (goesRight tag (restFinal W s p l) (isNone (restSteps W s p l))) (restSteps W s p r) (y .0) (y .1) in
         let f′ : restFinal W t p (wrapRight tag l (y .0 .1)) ≡ true = ap (λ (z : Move). restFinal W t p (z .1)) (y .2) ∙ f in
         let e = left-endable s t tag l (y .0 .1) (isNone (restSteps W s p l)) Hl (o .0) f′ in
         or-right first second
-        (both-true (goes && finalIn endable l) (soonIn finals endable counts r) (both-true goes (finalIn endable l) (goes-by tag l Hl ∙ o .0) (e .0))
+        (and-both (goes && finalIn endable l) (soonIn finals endable counts r) (and-both goes (finalIn endable l) (goes-by tag l Hl ∙ o .0) (e .0))
         (R (y .0) (o .1) t (e .1))))
         (List·Memᴰ·append-cases (map (onRest (λ (g : Rest). node tag g r)) (restSteps W s p l)) k)
 

@@ -43,6 +43,11 @@ module _ (finals : List Bool) where
     pub final-first : x ≡ false → false ≡ finalIn finals g
     final-first z = ap (λ (b : Bool). b && finalIn finals r) (sym z) ∙ final-both refl
 
+-- what is added is no more than there is
+pub part-few : (b : Bool) (n : ℕ) → cond b n 0 ≤ n
+part-few true n = omega arith
+part-few false n = omega arith
+
 module _ (finals endable : List Bool) (counts : List ℕ) where
   pub total-gone : {g : Rest} → g ≡ gone → Totalled finals endable counts g (record { done = true; endable = true; count = 0; soon = false })
   unfolding countIn soonIn
@@ -66,10 +71,6 @@ module _ (finals endable : List Bool) (counts : List ℕ) where
         soon-is = ap (λ (n : ℕ). not (eqb n 0)) k ∙ ap (soonIn finals endable counts) (sym e);
         few = omega (arith, ap nodes e);
       }
-
-  part-few : (b : Bool) (n : ℕ) → cond b n 0 ≤ n
-  part-few true n = omega arith
-  part-few false n = omega arith
 
   module _ {g l r : Rest} {tag : ℕ} (e : g ≡ node tag l r) {x y : Totals} (F : Totalled finals endable counts l x) (G : Totalled finals endable counts r y) where
     pub total-few : x .count + y .count ≤ 4294967295 * nodes g

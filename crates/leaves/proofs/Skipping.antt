@@ -23,7 +23,7 @@ use Rattle.held.proofs.Entries.{hasA, lower-a, lower-b, leaf-step}
 use Rattle.leaves.specs.Tallies.{SeesRecord, finalBy}
 use Rattle.leaves.specs.Endable.{Settled, Skips}
 use Rattle.leaves.proofs.Seen.{final-seen}
-use Rattle.leaves.proofs.Written.{written}
+use Rattle.records.proofs.Written.{written}
 
 -- those from i up to j are settled
 pub record Jump (p : ℕ → Program) (m : ℕ) (endable : List Bool) (i j : ℕ) : Type 0 where

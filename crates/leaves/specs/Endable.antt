@@ -11,35 +11,32 @@ use Rattle.golog.specs.World.{World}
 use Rattle.held.specs.Leaves.{leafOf}
 use Rattle.leaves.specs.Tallies.{Sees}
 
--- by kind: ea, eb, its parts may be
-unfoldable pub endableOf : (kind : ℕ) (ea eb : Bool) → Bool
-endableOf kind ea eb =
+-- by kind, where a and b say it of its parts: with `most`, whether it may be final in some state; without, whether it is in every one
+unfoldable pub boundOf : (most : Bool) (kind : ℕ) (a b : Bool) → Bool
+boundOf most kind a b =
     getD
-    (true ∷ false ∷ false ∷ (ea && eb) ∷ (ea || eb) ∷ true ∷ (ea || eb) ∷ true ∷ (ea && eb) ∷ (ea && eb) ∷ true ∷ true ∷ [])
+    (
+    true ∷ false ∷ false ∷ (a && b) ∷ (a || b) ∷ true ∷ ((a && b) || (most && (a || b))) ∷ (most || a) ∷ (a && b) ∷ (a && b)
+    ∷ true ∷ most ∷ []
+    )
     kind true
 
 -- by what is tabled of lower records
-unfoldable pub endableBy : Program → (endable : List Bool) → Bool
-endableBy r endable = endableOf (r .kind) (getD endable (r .a) true) (getD endable (r .b) true)
+unfoldable pub boundBy : (most : Bool) → Program → (marks : List Bool) → Bool
+boundBy most r marks = boundOf most (r .kind) (getD marks (r .a) true) (getD marks (r .b) true)
 
 -- of the first m records of p, each that is final in some state is marked
 abbrev pub Endable : (p : ℕ → Program) (m : ℕ) (endable : List Bool) → Type 0
 Endable p m endable = (W : World) (s : State) (i : ℕ) → i < m → leafOf W s p i .final ≡ true → getD endable i true ≡ true
 
--- by kind: sa, sb, its parts are final in every state
-unfoldable pub sureOf : (kind : ℕ) (sa sb : Bool) → Bool
-sureOf kind sa sb =
-    getD
-    (true ∷ false ∷ false ∷ (sa && sb) ∷ (sa || sb) ∷ true ∷ (sa && sb) ∷ sa ∷ (sa && sb) ∷ (sa && sb) ∷ true ∷ false ∷ [])
-    kind true
-
--- by what is tabled of lower records
-unfoldable pub sureBy : Program → (sure : List Bool) → Bool
-sureBy r sure = sureOf (r .kind) (getD sure (r .a) true) (getD sure (r .b) true)
-
 -- of the first m records of p, each that is marked is final in every state
 abbrev pub Sure : (p : ℕ → Program) (m : ℕ) (sure : List Bool) → Type 0
 Sure p m sure = (W : World) (s : State) (i : ℕ) → i < m → getD sure i true ≡ true → leafOf W s p i .final ≡ true
+
+-- which of the two a table is
+abbrev pub Bounds : (most : Bool) (p : ℕ → Program) (m : ℕ) (marks : List Bool) → Type 0
+Bounds true p m marks = Endable p m marks
+Bounds false p m marks = Sure p m marks
 
 -- whether the finality of record i depends on the state: in some it may be final, and not in every one
 abbrev pub doubtBy : (endable sure : List Bool) (i : ℕ) → Bool

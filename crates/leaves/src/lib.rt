@@ -9,7 +9,7 @@ ghost use Rattle.held.specs.Kinds.{usesA};
 ghost use Rattle.held.specs.Rest.{AllLower};
 ghost use Rattle.held.specs.Extended.{empty, virtual, table};
 ghost use Rattle.leaves.specs.Tallies.{cap, places, possibleIn, Tallied, finalBy, countBy, firstBy};
-ghost use Rattle.leaves.specs.Endable.{endableBy, Endable, sureBy, Sure, doubtBy, Skips, Decides};
+ghost use Rattle.leaves.specs.Endable.{boundBy, Endable, Bounds, doubtBy, Skips, Decides};
 use records::Program;
 
 // Whether record a is final: past the end stands nil, which is.
@@ -262,75 +262,41 @@ pub fn tallies(
     }
 }
 
-// Whether a record may be final in some state, from those before it.
-fn endable_at(r: Program, endable: &[bool]) -> bool
-    ensures { λ f. ⌜ f ≡ endableBy r (now (endable .entry)) ⌝ }
+// From those before it, with `most`, whether a record may be final in some state; without, whether it is in every one.
+fn bound_at(r: Program, most: bool, marks: &[bool]) -> bool
+    ensures { λ f. ⌜ f ≡ boundBy most r (now (marks .entry)) ⌝ }
 {
     let kind = r.kind;
     match kind {
         1 => false,
         2 => false,
-        3 => both_final(endable, r.a, r.b),
-        4 => final_in(endable, r.a) | final_in(endable, r.b),
-        6 => final_in(endable, r.a) | final_in(endable, r.b),
-        8 => both_final(endable, r.a, r.b),
-        9 => both_final(endable, r.a, r.b),
+        3 => both_final(marks, r.a, r.b),
+        4 => final_in(marks, r.a) | final_in(marks, r.b),
+        6 => { both_final(marks, r.a, r.b) | most & (final_in(marks, r.a) | final_in(marks, r.b)) }
+        7 => most | final_in(marks, r.a),
+        8 => both_final(marks, r.a, r.b),
+        9 => both_final(marks, r.a, r.b),
+        11 => most,
         _ => true,
     }
 }
 
-// Whether each record of the table that runs may be final in some state.
-pub fn endables(programs: &[u8], n: usize, interrupts: bool) -> [bool; 260]
-    requires { ⌜ (8 * n ≤ length (now programs)) × (1 ≤ n) × (n ≤ 256) ⌝ }
-    ensures { λ r. ⌜ Endable (table interrupts (programAt (now (programs .entry))) n) (places interrupts n) r × (length r ≡ 260) ⌝ }
-{
-    let m = places_of(n, interrupts);
-    let mut endable = [true; 260];
-    let mut i = 0;
-    while i < m {
-        let r = record_at(programs, n, interrupts, i);
-        let f = endable_at(r, &endable);
-        endable[i] = f;
-        i += 1;
-    }
-    endable
-}
-
-// Whether a record is final in every state, from those before it.
-fn sure_at(r: Program, sure: &[bool]) -> bool
-    ensures { λ f. ⌜ f ≡ sureBy r (now (sure .entry)) ⌝ }
-{
-    let kind = r.kind;
-    match kind {
-        1 => false,
-        2 => false,
-        3 => both_final(sure, r.a, r.b),
-        4 => final_in(sure, r.a) | final_in(sure, r.b),
-        6 => both_final(sure, r.a, r.b),
-        7 => final_in(sure, r.a),
-        8 => both_final(sure, r.a, r.b),
-        9 => both_final(sure, r.a, r.b),
-        11 => false,
-        _ => true,
-    }
-}
-
-// Which records of the table that runs are final in every state.
-fn sures(programs: &[u8], n: usize, interrupts: bool) -> [bool; 260]
+// With `most`, which records of the table that runs may be final in some state; without, which are in every one.
+pub fn bounds(programs: &[u8], n: usize, interrupts: bool, most: bool) -> [bool; 260]
     requires { ⌜ (8 * n ≤ length (now programs)) × (1 ≤ n) × (n ≤ 256) ⌝ }
     requires { ⌜ AllLower (table interrupts (programAt (now programs)) n) ⌝ }
-    ensures { λ r. ⌜ Sure (table interrupts (programAt (now (programs .entry))) n) (places interrupts n) r ⌝ }
+    ensures { λ r. ⌜ Bounds most (table interrupts (programAt (now (programs .entry))) n) (places interrupts n) r × (length r ≡ 260) ⌝ }
 {
     let m = places_of(n, interrupts);
-    let mut sure = [true; 260];
+    let mut marks = [true; 260];
     let mut i = 0;
     while i < m {
         let r = record_at(programs, n, interrupts, i);
-        let f = sure_at(r, &sure);
-        sure[i] = f;
+        let f = bound_at(r, most, &marks);
+        marks[i] = f;
         i += 1;
     }
-    sure
+    marks
 }
 
 // Whether a record's finality depends on the state.
@@ -347,7 +313,7 @@ pub fn skips(programs: &[u8], n: usize, interrupts: bool, endable: &[bool]) -> [
     ensures { λ r. ⌜ Skips (table interrupts (programAt (now (programs .entry))) n) (places interrupts n) (now (endable .entry)) r ⌝ }
 {
     let m = places_of(n, interrupts);
-    let sure = sures(programs, n, interrupts);
+    let sure = bounds(programs, n, interrupts, false);
     let mut skips = [m; 261];
     let mut first = m;
     let mut i = m;

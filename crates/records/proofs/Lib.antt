@@ -1,2 +1,4 @@
 pub mod Fills
 pub mod Scan
+pub mod Truth
+pub mod Written

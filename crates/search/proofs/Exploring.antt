@@ -14,6 +14,7 @@ use lib.ListN.{length, length-map}
 use Rattle.sheet.specs.Layout.{layoutOf}
 use Rattle.state.specs.Truths as truths
 use Rattle.golog.specs.declared.State.{State}
+use Rattle.records.proofs.Truth.{is-false}
 use Rattle.golog.specs.World.{after}
 use Rattle.runs.specs.Search.{Verdict, plan, nothing, more, isPlan, anyStep, tries, unless}
 use Rattle.runs.specs.Guide.{isNil, movesG}
@@ -123,10 +124,6 @@ module _ (s : List ℕ) (free : Bool) (st : State) (g : Rest) (moves : List ℕ)
         next-plan (movesHeld W p) (finalHeld W p) free moves (movesHeld W p (g, st))
         (λ x k. let r = Memᴰ·of-map (λ (x : Move). (x .0, (x .1, after W (x .0) st))) (restSteps W st p g) k in ap (λ (q : Option ℕ × Held). finalHeld W p (q .1)) (sym (r .2)) ∙ h (r .0) (r .1) _) in
         more-reported n d trace cut _ c (ap isPlan (onward left y (omega arith)) ∙ ap (λ (k : ℕ). isPlan (branchesOf s free k (g, st) moves)) z ∙ v)
-
-is-false : (b : Bool) → (b ≡ true → ⊥) → b ≡ false
-is-false true h = absurd (h refl)
-is-false false h = refl
 
 differ : (b : Bool) → b ≡ true → b ≡ false → ⊥
 differ b y z = let q : _≡_ {A = ℕ} 0 1 = let p : true ≡ false = sym y ∙ z in cc in omega arith

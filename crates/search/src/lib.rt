@@ -244,7 +244,7 @@ pub fn endable_of(s: &[u8], t: Task) -> [bool; 260]
     let l = t.layout;
     let a = l.programs;
     let b = l.end;
-    leaves::endables(&s[a..b], l.p, t.interrupts)
+    leaves::bounds(&s[a..b], l.p, t.interrupts, true)
 }
 
 // From each record of a sheet on, the first whose finality depends on the state.
@@ -258,6 +258,7 @@ pub fn skips_of(s: &[u8], t: Task, endable: &[bool]) -> [usize; 261]
     leaves::skips(&s[a..b], l.p, t.interrupts, endable)
 }
 
+// Makes one table the same as another.
 fn copy_flags(from: &[bool], to: &mut [bool])
     requires { ⌜ length (now to) ≡ length (now from) ⌝ }
     ensures { λ _. ⌜ now (to .exit) ≡ now (from .entry) ⌝ }

@@ -1,12 +1,13 @@
 -- The steps of a check in rising order, and what its tests tell. Assumes nothing.
-use mathlib.Core.Path.{_≡_, refl, sym, _∙_, ap}
-use mathlib.Core.Bool.{Bool, true, false, cond, _&&_}
+use mathlib.Core.Path.{_≡_, refl, _∙_, ap}
+use mathlib.Core.Bool.{Bool, true, false, _&&_}
 use mathlib.Core.List.{List}
 use Prim.Native.Nat.{ℕ, _+_, _≤_, _<_, _-_}
 use native.Mathlib.Omega.{arith}
 use borrow.Author.Tests.{lt-ltb, le-ltb, eq-eqb, ne-eqb, leb-true, eqb-true}
 use lib.ListN.{length}
-use lib.Dec.{leb, ltb, eqb}
+use lib.Dec.{leb, eqb}
+use Rattle.records.proofs.Truth.{and-left, and-right}
 use Rattle.records.specs.declared.Program.{Program}
 use Rattle.height.specs.Height.{heightOf}
 use Rattle.height.specs.Work.{levels, workWords}
@@ -36,17 +37,6 @@ module _ (p : ℕ → Program) (n d h : ℕ) (e : h ≡ heightOf p n) where
   pub low-enough : {w : ℕ} → h ≤ 16 → w ≡ workWords (levels p n) d → Accepted w ≡ heightChecked p n d
   unfolding heightChecked
   low-enough l v = rw (← e) (simp (le-ltb 16 h l) (ap Accepted v))
-
-pub and-left : (a b : Bool) → (a && b) ≡ true → a ≡ true
-and-left true b e = refl
-and-left false b e = e
-
-pub and-right : (a b : Bool) → (a && b) ≡ true → b ≡ true
-and-right true b e = e
-and-right false b e = absurd-of e
-  where
-    absurd-of : false ≡ true → b ≡ true
-    absurd-of e = cc
 
 pub within : (t : Trailer) → limitsOk t ≡ true → Within t
 unfolding limitsOk

@@ -1,4 +1,4 @@
-// Walks worked cases of document 01 ("A quay of three sections") transition by transition, through the functions that the search is
+// Walks worked cases of document 01 (its example of three sections) transition by transition, through the functions that the search is
 // made of, and writes each configuration and each transition taken.
 ghost use mathlib.Core.Path.{_≡_};
 ghost use Prim.Native.Nat.{_+_, _≤_};

@@ -1,9 +1,10 @@
 -- Field by field. Assumes nothing.
 use mathlib.Core.Path.{ap₂, _∙_, ap}
-use mathlib.Core.Bool.{Bool, true, false, cond, _&&_, _||_}
-use Prim.Native.Nat.{ℕ, _+_, _≤_}
+use mathlib.Core.Bool.{Bool, cond, _&&_, _||_}
+use Prim.Native.Nat.{ℕ, _+_}
 use native.Mathlib.Omega.{arith}
 use Rattle.ends.specs.declared.Totals.{Totals}
+use Rattle.ends.proofs.Parts.{part-few}
 use borrow.Author.Needs.{needs}
 use Rattle.ends.proofs.join_totals.Statement.{statement}
 use Rattle.ends.proofs.join_totals.Tie as tie
@@ -16,10 +17,6 @@ made l r k b = record {
   count = l .count + k;
   soon = (l .soon && r .endable) || (b && l .endable && r .soon);
 }
-
-part-few : (b : Bool) (n : ℕ) → cond b n 0 ≤ n
-part-few true n = omega arith
-part-few false n = omega arith
 
 goes-right-requires : tie.Need-goes-right-requires
 goes-right-requires c κs = search needs

@@ -1,4 +1,4 @@
--- The table is filled downwards, by the law of Skipping: a record without doubt is settled, by that of Doubts. Assumes nothing.
+-- The table is filled downwards, by the law of Skipping: a record without doubt is settled, by that of Marking. Assumes nothing.
 use mathlib.Core.Path.{_≡_, sym, _∙_}
 use denote.Ref.{now}
 use mathlib.Core.Logic.{inl, inr, ⊎-elim}
@@ -7,7 +7,7 @@ use native.Mathlib.Omega.{arith}
 use lib.ListN.{length, length-set, length-replicate}
 use Rattle.records.specs.Records.{programAt}
 use Rattle.held.specs.Extended.{table}
-use Rattle.leaves.proofs.Doubts.{settled}
+use Rattle.leaves.proofs.Marking.{settled}
 use Rattle.leaves.proofs.Skipping.{From, none, more, all}
 use borrow.Author.Needs.{needs}
 use Rattle.leaves.proofs.skips.Statement.{statement}
@@ -23,8 +23,8 @@ abbrev μ-loop : tie.MeasureT-loop
 places-of-requires : tie.Need-places-of-requires Inv-loop μ-loop
 places-of-requires c κs = search needs
 
-sures-requires : tie.Need-sures-requires Inv-loop μ-loop
-sures-requires c κs = search needs
+bounds-requires : tie.Need-bounds-requires Inv-loop μ-loop
+bounds-requires c κs = search needs
 
 loop-holds : tie.Need-loop-holds Inv-loop μ-loop
 loop-holds c = (search needs, length-replicate 261 (c .before .places-of .result), none)
@@ -50,7 +50,7 @@ loop-less c = search needs
 loop-again : tie.Need-loop-again Inv-loop μ-loop
 loop-again c =
     let v = c .before .before .before .before .loop .inv in
-    let S = settled _ (now (c .before .before .before .before .before .before .before .before .before .args .endable)) (c .before .before .before .before .before .sures .result) (c .before .before .before .before .before .before .before .before .before .pre .1 .1) (c .before .before .before .before .before .sures .ensures) (c .before .before .before .before .loop .i - 1) (omega (arith, c .before .before .before .before .before .before .places-of .ensures .0)) in
+    let S = settled _ (now (c .before .before .before .before .before .before .before .before .before .args .endable)) (c .before .before .before .before .before .bounds .result) (c .before .before .before .before .before .before .before .before .before .pre .1 .1) (c .before .before .before .before .before .bounds .ensures .0) (c .before .before .before .before .loop .i - 1) (omega (arith, c .before .before .before .before .before .before .places-of .ensures .0)) in
     (omega arith, simp length-set (v .1), more (omega arith) (omega arith) (v .2) (⊎-elim (λ w. inl (w .1)) (λ w. inr (w .1, S (sym (c .before .doubt-at .ensures) ∙ w .0 .left))) (c .if1 .came)))
 
 returns : tie.Need-returns Inv-loop μ-loop
@@ -67,7 +67,7 @@ skips-spec =
     Inv-loop
     μ-loop
     places-of-requires
-    sures-requires
+    bounds-requires
     loop-holds
     sub-i
     slice-aggregate-doubt-at

@@ -2,12 +2,12 @@
 use denote.Ref.{now}
 use mathlib.Core.Bool.{Bool, false}
 use mathlib.Core.List.{List}
-use mathlib.Core.Path.{_≡_, sym, _∙_, subst}
+use mathlib.Core.Path.{_≡_, sym, _∙_, ap}
 use Prim.Native.Nat.{ℕ, _+_, _-_, _≤_, _<_}
-use native.Mathlib.Decide.{decLt}
 use native.Mathlib.Omega.{arith}
 use lib.ListN.{length, getD, set, length-set}
-use lib.Seq.{getD-set-same, getD-set-other, ext-getD}
+use lib.Seq.{ext-getD}
+use Rattle.records.proofs.Written.{written}
 use Rattle.search.proofs.copy_flags.Statement.{statement}
 use Rattle.search.proofs.copy_flags.Tie as tie
 
@@ -17,10 +17,7 @@ Same l m i = (k : ℕ) → k < i → getD m k false ≡ getD l k false
 
 same-more : (l m : List Bool) (i : ℕ) → Same l m i → i < length m → Same l (set m i (getD l i false)) (i + 1)
 same-more l m i S h k j =
-    elim (decLt k i) [
-      | yes u ↦ getD-set-other m i k (getD l i false) false (λ (e : k ≡ i). omega arith) ∙ S k u
-      | no u ↦ let e : i ≡ k = omega arith in subst (λ (k : ℕ). getD (set m i (getD l i false)) k false ≡ getD l k false) e (getD-set-same m i (getD l i false) false h)
-    ]
+    written (λ (x : Bool). x ≡ getD l k false) false m i (getD l i false) h k (λ n. S k (omega (arith, n))) (λ e. ap (λ (a : ℕ). getD l a false) (sym e))
 
 abbrev Inv-loop : tie.InvT-loop
 Inv-loop «from» to₀ i₀ to i = (i ≤ length «from») × (length to ≡ length «from») × Same «from» to i

@@ -1,14 +1,15 @@
--- By kind. Assumes nothing.
+-- In each arm the kind is known, so the column has one entry there, which the arm computes; the kinds that no arm names stand at true or
+-- past it. Assumes nothing.
 use mathlib.Core.Path.{_≡_, refl}
 use mathlib.Core.Bool.{true}
 use Prim.Native.Nat.{ℕ}
 use denote.Ref.{now}
 use Rattle.held.proofs.Columns.{by-kind}
 use Rattle.held.proofs.Entries.{fields}
-use Rattle.leaves.specs.Endable.{sureOf, sureBy}
+use Rattle.leaves.specs.Endable.{boundOf, boundBy}
 use borrow.Author.Needs.{needs}
-use Rattle.leaves.proofs.sure_at.Statement.{statement}
-use Rattle.leaves.proofs.sure_at.Tie as tie
+use Rattle.leaves.proofs.bound_at.Statement.{statement}
+use Rattle.leaves.proofs.bound_at.Tie as tie
 
 both-final-requires : tie.Need-both-final-requires
 both-final-requires c κs = search needs
@@ -25,6 +26,12 @@ both-final-requires-2 c κs = search needs
 final-in-requires-3 : tie.Need-final-in-requires-3
 final-in-requires-3 c κs = search needs
 
+final-in-requires-4 : tie.Need-final-in-requires-4
+final-in-requires-4 c κs = search needs
+
+final-in-requires-5 : tie.Need-final-in-requires-5
+final-in-requires-5 c κs = search needs
+
 both-final-requires-3 : tie.Need-both-final-requires-3
 both-final-requires-3 c κs = search needs
 
@@ -32,52 +39,52 @@ both-final-requires-4 : tie.Need-both-final-requires-4
 both-final-requires-4 c κs = search needs
 
 returns : tie.Need-returns
-unfolding sureBy sureOf
+unfolding boundBy boundOf
 returns c = rw (c .match .keys1) (cc)
 
 returns-2 : tie.Need-returns-2
-unfolding sureBy sureOf
+unfolding boundBy boundOf
 returns-2 c = rw (c .match .keys2) (cc)
 
 returns-3 : tie.Need-returns-3
-unfolding sureBy sureOf
+unfolding boundBy boundOf
 returns-3 c = rw (c .before .match .keys3) (cc)
 
 returns-4 : tie.Need-returns-4
-unfolding sureBy sureOf
+unfolding boundBy boundOf
 returns-4 c = rw (c .before .before .match .keys4) (cc)
 
 returns-5 : tie.Need-returns-5
-unfolding sureBy sureOf
-returns-5 c = rw (c .before .match .keys5) (cc)
+unfolding boundBy boundOf
+returns-5 c = rw (c .before .before .before .match .keys5) (cc)
 
 returns-6 : tie.Need-returns-6
-unfolding sureBy sureOf
+unfolding boundBy boundOf
 returns-6 c = rw (c .before .match .keys6) (cc)
 
 returns-7 : tie.Need-returns-7
-unfolding sureBy sureOf
+unfolding boundBy boundOf
 returns-7 c = rw (c .before .match .keys7) (cc)
 
 returns-8 : tie.Need-returns-8
-unfolding sureBy sureOf
+unfolding boundBy boundOf
 returns-8 c = rw (c .before .match .keys8) (cc)
 
 returns-9 : tie.Need-returns-9
-unfolding sureBy sureOf
+unfolding boundBy boundOf
 returns-9 c = rw (c .match .keys9) (cc)
 
 returns-10 : tie.Need-returns-10
-unfolding sureBy sureOf
+unfolding boundBy boundOf
 returns-10 c =
     let a = c .before .before .args in
     let r = c .match .rest in
-    by-kind (λ (k : ℕ). a .r .kind ≡ k → true ≡ sureBy (fields k (a .r .a) (a .r .b) (a .r .c)) (now (a .sure)))
+    by-kind (λ (k : ℕ). a .r .kind ≡ k → true ≡ boundBy (a .most) (fields k (a .r .a) (a .r .b) (a .r .c)) (now (a .marks)))
     (λ e. refl) (λ e. absurd (r .0 .0 .0 .0 .0 .0 .0 .0 .1 e)) (λ e. absurd (r .0 .0 .0 .0 .0 .0 .0 .1 e)) (λ e. absurd (r .0 .0 .0 .0 .0 .0 .1 e)) (λ e. absurd (r .0 .0 .0 .0 .0 .1 e)) (λ e. refl) (λ e. absurd (r .0 .0 .0 .0 .1 e)) (λ e. absurd (r .0 .0 .0 .1 e)) (λ e. absurd (r .0 .0 .1 e)) (λ e. absurd (r .0 .1 e)) (λ e. refl) (λ e. absurd (r .1 e)) (λ k e. refl)
     (a .r .kind) refl
 
-pub sure-at-spec : {M : Type 1} → statement M
-sure-at-spec =
+pub bound-at-spec : {M : Type 1} → statement M
+bound-at-spec =
     tie.close
     (tie.spec
     both-final-requires
@@ -85,6 +92,8 @@ sure-at-spec =
     final-in-requires-2
     both-final-requires-2
     final-in-requires-3
+    final-in-requires-4
+    final-in-requires-5
     both-final-requires-3
     both-final-requires-4
     returns
