@@ -6,7 +6,7 @@ use Rattle.words.proofs.Standing.{gone-at, leaf-at}
 use Rattle.words.proofs.Reading.{sizeAt, holds-room, holds-left, left-room, left-less, holds-right, right-room, right-less, parts-of}
 use Rattle.ends.proofs.Parts.{final-gone, final-leaf, final-second, final-first}
 use Prim.Native.Nat.{ℕ, _<_}
-use borrow.Fn.Kinds.{In}
+use borrow.Fn.Kinds.{In, Out}
 use borrow.Fn.PlainCycle.{Measures, is, falls, and}
 use Rattle.ends.proofs.final_rest.Reads as final-rest
 use Rattle.ends.proofs.final_rest.Kinds as final-rest-kinds
@@ -49,44 +49,103 @@ final-rest-tag-at-requires t c κs = holds-room (c .before .before .pre .1)
 final-rest-returns : (t : ℕ) → final-rest-lts.Need-returns (claims t) (final-rest-at t) final-rest.Post
 final-rest-returns t c g h = final-gone _ (gone-at _ _ _ (c .before .tag-at .ensures) g h (c .if1 .taken))
 
+-- Places: what stands before a need, by name. Written by `named`: run it again when the code changes.
+module _ {k : final-rest-lts.Claims} {p : In 2 final-rest-kinds.ps} {q : Out 2 final-rest-kinds.ps final-rest-kinds.r} where
+  abbrev start-from-else2 : final-rest-lts.Else2 k p q → final-rest-lts.Start k p q
+  start-from-else2 c = c .before .before .before .before .before
+
+  abbrev start-from-then2 : final-rest-lts.Then2 k p q → final-rest-lts.Start k p q
+  start-from-then2 c = c .before .before .before .before .before
+
 final-rest-record-at-requires : (t : ℕ) → final-rest-lts.Need-record-at-requires (claims t) (final-rest-at t) final-rest.Post
-final-rest-record-at-requires t c κs = holds-room (c .before .before .before .before .before .pre .1)
+final-rest-record-at-requires t c κs = holds-room (start-from-then2 c .pre .1)
 
 final-rest-final-in-requires : (t : ℕ) → final-rest-lts.Need-final-in-requires (claims t) (final-rest-at t) final-rest.Post
 final-rest-final-in-requires t c κs = search needs
 
 final-rest-returns-2 : (t : ℕ) → final-rest-lts.Need-returns-2 (claims t) (final-rest-at t) final-rest.Post
-final-rest-returns-2 t c g h = final-leaf _ (leaf-at _ _ _ (c .before .before .before .before .tag-at .ensures) g h (c .before .before .if2 .taken)) (c .before .record-at .ensures) (c .final-in .ensures)
+final-rest-returns-2 t c g h = final-leaf _ (leaf-at _ _ _ (c .before .before .before .before .tag-at .ensures) g h (c .before .before .if2 .taken)) (c .before .record-at .ensures)
+    (c .final-in .ensures)
 
 final-rest-add-size-at : (t : ℕ) → final-rest-lts.Need-add-size-at (claims t) (final-rest-at t) final-rest.Post
-final-rest-add-size-at t c = let h = left-room (c .before .before .before .before .before .pre .1) (c .before .before .tag-at .ensures) (c .before .if1 .left) (c .if2 .left) in omega arith
+final-rest-add-size-at t c = let h = left-room (start-from-else2 c .pre .1) (c .before .before .tag-at .ensures) (c .before .if1 .left) (c .if2 .left) in omega arith
 
 final-rest-size-at-requires : (t : ℕ) → final-rest-lts.Need-size-at-requires (claims t) (final-rest-at t) final-rest.Post
-final-rest-size-at-requires t c κs = left-room (c .before .before .before .before .before .pre .1) (c .before .before .tag-at .ensures) (c .before .if1 .left) (c .if2 .left)
+final-rest-size-at-requires t c κs = left-room (start-from-else2 c .pre .1) (c .before .before .tag-at .ensures) (c .before .if1 .left) (c .if2 .left)
 
 final-rest-add-final-rest : (t : ℕ) → final-rest-lts.Need-add-final-rest (claims t) (final-rest-at t) final-rest.Post
-final-rest-add-final-rest t c = let h = left-room (c .before .before .before .before .before .before .pre .1) (c .before .before .before .tag-at .ensures) (c .before .before .if1 .left) (c .before .if2 .left) in omega arith
+final-rest-add-final-rest t c =
+    let at-tag-at = c .before .before .before in
+    let at-start = at-tag-at .before .before .before in
+    let h = left-room (at-start .pre .1) (at-tag-at .tag-at .ensures) (c .before .before .if1 .left) (c .before .if2 .left) in
+    omega arith
 
 final-rest-final-rest-requires : (t : ℕ) → final-rest-lts.Need-final-rest-requires (claims t) (final-rest-at t) final-rest.Post
-final-rest-final-rest-requires t c κs = (left-less (c .before .before .before .before .before .before .pre .1) (c .before .before .before .tag-at .ensures) (c .before .before .if1 .left) (c .before .if2 .left) (c .before .before .before .before .before .before .pre .0), holds-left (c .before .before .before .before .before .before .pre .1) (c .before .before .before .tag-at .ensures) (c .before .before .if1 .left) (c .before .if2 .left))
+final-rest-final-rest-requires t c κs =
+    let at-if2 = c .before in
+    let at-if1 = at-if2 .before in
+    let at-tag-at = at-if1 .before in
+    let at-start = at-tag-at .before .before .before in (
+      left-less (at-start .pre .1) (at-tag-at .tag-at .ensures) (at-if1 .if1 .left) (at-if2 .if2 .left) (at-start .pre .0),
+      holds-left (at-start .pre .1) (at-tag-at .tag-at .ensures) (at-if1 .if1 .left) (at-if2 .if2 .left),
+    )
 
 final-rest-add-final-rest-2 : (t : ℕ) → final-rest-lts.Need-add-final-rest-2 (claims t) (final-rest-at t) final-rest.Post
-final-rest-add-final-rest-2 t c = let h = left-room (c .before .before .before .before .before .before .before .before .pre .1) (c .before .before .before .before .before .tag-at .ensures) (c .before .before .before .before .if1 .left) (c .before .before .before .if2 .left) in omega arith
+final-rest-add-final-rest-2 t c =
+    let at-if2 = c .before .before .before in
+    let at-if1 = at-if2 .before in
+    let at-tag-at = at-if1 .before in
+    let at-start = at-tag-at .before .before .before in
+    let h = left-room (at-start .pre .1) (at-tag-at .tag-at .ensures) (at-if1 .if1 .left) (at-if2 .if2 .left) in
+    omega arith
 
 final-rest-mul-final-rest : (t : ℕ) → final-rest-lts.Need-mul-final-rest (claims t) (final-rest-at t) final-rest.Post
-final-rest-mul-final-rest t c = let h = right-room (c .before .before .before .before .before .before .before .before .pre .1) (c .before .before .before .before .before .tag-at .ensures) (c .before .before .before .before .if1 .left) (c .before .before .before .if2 .left) (c .before .before .size-at .ensures) in omega arith
+final-rest-mul-final-rest t c =
+    let at-if2 = c .before .before .before in
+    let at-if1 = at-if2 .before in
+    let at-tag-at = at-if1 .before in
+    let at-start = at-tag-at .before .before .before in
+    let h = right-room (at-start .pre .1) (at-tag-at .tag-at .ensures) (at-if1 .if1 .left) (at-if2 .if2 .left) (c .before .before .size-at .ensures) in
+    omega arith
 
 final-rest-add-final-rest-3 : (t : ℕ) → final-rest-lts.Need-add-final-rest-3 (claims t) (final-rest-at t) final-rest.Post
-final-rest-add-final-rest-3 t c = let h = right-room (c .before .before .before .before .before .before .before .before .pre .1) (c .before .before .before .before .before .tag-at .ensures) (c .before .before .before .before .if1 .left) (c .before .before .before .if2 .left) (c .before .before .size-at .ensures) in omega arith
+final-rest-add-final-rest-3 t c =
+    let at-if2 = c .before .before .before in
+    let at-if1 = at-if2 .before in
+    let at-tag-at = at-if1 .before in
+    let at-start = at-tag-at .before .before .before in
+    let h = right-room (at-start .pre .1) (at-tag-at .tag-at .ensures) (at-if1 .if1 .left) (at-if2 .if2 .left) (c .before .before .size-at .ensures) in
+    omega arith
 
 final-rest-final-rest-requires-2 : (t : ℕ) → final-rest-lts.Need-final-rest-requires-2 (claims t) (final-rest-at t) final-rest.Post
-final-rest-final-rest-requires-2 t c κs = (right-less (c .before .before .before .before .before .before .before .before .pre .1) (c .before .before .before .before .before .tag-at .ensures) (c .before .before .before .before .if1 .left) (c .before .before .before .if2 .left) (c .before .before .size-at .ensures) (c .before .before .before .before .before .before .before .before .pre .0), holds-right (c .before .before .before .before .before .before .before .before .pre .1) (c .before .before .before .before .before .tag-at .ensures) (c .before .before .before .before .if1 .left) (c .before .before .before .if2 .left) (c .before .before .size-at .ensures))
+final-rest-final-rest-requires-2 t c κs =
+    let at-size-at = c .before .before in
+    let at-if2 = at-size-at .before in
+    let at-if1 = at-if2 .before in
+    let at-tag-at = at-if1 .before in
+    let at-start = at-tag-at .before .before .before in (
+      right-less (at-start .pre .1) (at-tag-at .tag-at .ensures) (at-if1 .if1 .left) (at-if2 .if2 .left) (at-size-at .size-at .ensures) (at-start .pre .0),
+      holds-right (at-start .pre .1) (at-tag-at .tag-at .ensures) (at-if1 .if1 .left) (at-if2 .if2 .left) (at-size-at .size-at .ensures),
+    )
 
 final-rest-returns-3 : (t : ℕ) → final-rest-lts.Need-returns-3 (claims t) (final-rest-at t) final-rest.Post
-final-rest-returns-3 t c g h = let P = parts-of (c .before .before .before .before .before .before .before .before .before .pre .1) (c .before .before .before .before .before .before .tag-at .ensures) (c .before .before .before .before .before .if1 .left) (c .before .before .before .before .if2 .left) (c .before .before .before .size-at .ensures) g h in final-second _ (P .is) (c .before .before .final-rest .ensures (P .l) (P .l-at)) (c .before .if3 .taken) (c .final-rest2 .ensures (P .r) (P .r-at))
+final-rest-returns-3 t c g h =
+    let at-size-at = c .before .before .before in
+    let at-if2 = at-size-at .before in
+    let at-if1 = at-if2 .before in
+    let at-tag-at = at-if1 .before in
+    let at-start = at-tag-at .before .before .before in
+    let P = parts-of (at-start .pre .1) (at-tag-at .tag-at .ensures) (at-if1 .if1 .left) (at-if2 .if2 .left) (at-size-at .size-at .ensures) g h in
+    final-second _ (P .is) (c .before .before .final-rest .ensures (P .l) (P .l-at)) (c .before .if3 .taken) (c .final-rest2 .ensures (P .r) (P .r-at))
 
 final-rest-returns-4 : (t : ℕ) → final-rest-lts.Need-returns-4 (claims t) (final-rest-at t) final-rest.Post
-final-rest-returns-4 t c g h = let P = parts-of (c .before .before .before .before .before .before .before .before .pre .1) (c .before .before .before .before .before .tag-at .ensures) (c .before .before .before .before .if1 .left) (c .before .before .before .if2 .left) (c .before .before .size-at .ensures) g h in final-first _ (P .is) (c .before .final-rest .ensures (P .l) (P .l-at)) (c .if3 .left)
+final-rest-returns-4 t c g h =
+    let at-if2 = c .before .before .before in
+    let at-if1 = at-if2 .before in
+    let at-tag-at = at-if1 .before in
+    let at-start = at-tag-at .before .before .before in
+    let P = parts-of (at-start .pre .1) (at-tag-at .tag-at .ensures) (at-if1 .if1 .left) (at-if2 .if2 .left) (c .before .before .size-at .ensures) g h in
+    final-first _ (P .is) (c .before .final-rest .ensures (P .l) (P .l-at)) (c .if3 .left)
 
 pub +final-rest-spec : {M : Type 1} → statement M
 +final-rest-spec = close μ-final-rest λ t. final-rest-lts.spec (claims t)

@@ -8,7 +8,7 @@ use Rattle.words.proofs.Reading.{sizeAt, holds-room, holds-left, left-room, lef
 use Rattle.ends.specs.Ends.{Totalled}
 use Rattle.ends.proofs.Parts.{total-gone, total-leaf, total-few, total-node}
 use Prim.Native.Nat.{ℕ, _<_}
-use borrow.Fn.Kinds.{In}
+use borrow.Fn.Kinds.{In, Out}
 use borrow.Fn.PlainCycle.{Measures, is, falls, and}
 use Rattle.ends.proofs.total_rest.Reads as total-rest
 use Rattle.ends.proofs.total_rest.Kinds as total-rest-kinds
@@ -60,8 +60,19 @@ total-rest-tag-at-requires t c κs = holds-room (c .before .before .before .befo
 total-rest-returns : (t : ℕ) → total-rest-lts.Need-returns (claims t) (total-rest-at t) total-rest.Post
 total-rest-returns t c g h = total-gone _ _ _ (gone-at _ _ _ (c .before .tag-at .ensures) g h (c .if1 .taken))
 
+-- Places: what stands before a need, by name. Written by `named`: run it again when the code changes.
+module _ {k : total-rest-lts.Claims} {p : In 4 total-rest-kinds.ps} {q : Out 4 total-rest-kinds.ps total-rest-kinds.r} where
+  abbrev start-from-tag-at : total-rest-lts.After-tag-at k p q → total-rest-lts.Start k p q
+  start-from-tag-at c = c .before .before .before .before .before
+
+  abbrev start-from-else2 : total-rest-lts.Else2 k p q → total-rest-lts.Start k p q
+  start-from-else2 c = start-from-tag-at (c .before .before)
+
+  abbrev start-from-then2 : total-rest-lts.Then2 k p q → total-rest-lts.Start k p q
+  start-from-then2 c = start-from-tag-at (c .before .before)
+
 total-rest-record-at-requires : (t : ℕ) → total-rest-lts.Need-record-at-requires (claims t) (total-rest-at t) total-rest.Post
-total-rest-record-at-requires t c κs = holds-room (c .before .before .before .before .before .before .before .pre .1 .0)
+total-rest-record-at-requires t c κs = holds-room (start-from-then2 c .pre .1 .0)
 
 total-rest-count-in-requires : (t : ℕ) → total-rest-lts.Need-count-in-requires (claims t) (total-rest-at t) total-rest.Post
 total-rest-count-in-requires t c κs = search needs
@@ -76,37 +87,92 @@ total-rest-final-in-requires-2 : (t : ℕ) → total-rest-lts.Need-final-in-requ
 total-rest-final-in-requires-2 t c κs = search needs
 
 total-rest-returns-2 : (t : ℕ) → total-rest-lts.Need-returns-2 (claims t) (total-rest-at t) total-rest.Post
-total-rest-returns-2 t c g h = total-leaf _ _ _ (leaf-at _ _ _ (c .before .before .before .before .before .before .before .tag-at .ensures) g h (c .before .before .before .before .before .if2 .taken)) (c .before .before .before .before .record-at .ensures) (c .before .before .wide .ensures .0 ∙ c .before .before .before .count-in .ensures) (c .before .before .wide .ensures .1) (c .before .final-in .ensures) (c .final-in2 .ensures)
+total-rest-returns-2 t c g h =
+    let at-wide = c .before .before in
+    let at-count-in = at-wide .before in
+    let at-record-at = at-count-in .before in
+    let at-if2 = at-record-at .before in
+    let at-tag-at = at-if2 .before .before in
+    total-leaf _ _ _ (leaf-at _ _ _ (at-tag-at .tag-at .ensures) g h (at-if2 .if2 .taken)) (at-record-at .record-at .ensures) (at-wide .wide .ensures .0 ∙ at-count-in .count-in .ensures)
+    (at-wide .wide .ensures .1) (c .before .final-in .ensures) (c .final-in2 .ensures)
 
 total-rest-add-size-at : (t : ℕ) → total-rest-lts.Need-add-size-at (claims t) (total-rest-at t) total-rest.Post
-total-rest-add-size-at t c = let h = left-room (c .before .before .before .before .before .before .before .pre .1 .0) (c .before .before .tag-at .ensures) (c .before .if1 .left) (c .if2 .left) in omega arith
+total-rest-add-size-at t c = let h = left-room (start-from-else2 c .pre .1 .0) (c .before .before .tag-at .ensures) (c .before .if1 .left) (c .if2 .left) in omega arith
 
 total-rest-size-at-requires : (t : ℕ) → total-rest-lts.Need-size-at-requires (claims t) (total-rest-at t) total-rest.Post
-total-rest-size-at-requires t c κs = left-room (c .before .before .before .before .before .before .before .pre .1 .0) (c .before .before .tag-at .ensures) (c .before .if1 .left) (c .if2 .left)
+total-rest-size-at-requires t c κs = left-room (start-from-else2 c .pre .1 .0) (c .before .before .tag-at .ensures) (c .before .if1 .left) (c .if2 .left)
 
 total-rest-add-total-rest : (t : ℕ) → total-rest-lts.Need-add-total-rest (claims t) (total-rest-at t) total-rest.Post
-total-rest-add-total-rest t c = let h = left-room (c .before .before .before .before .before .before .before .before .pre .1 .0) (c .before .before .before .tag-at .ensures) (c .before .before .if1 .left) (c .before .if2 .left) in omega arith
+total-rest-add-total-rest t c =
+    let at-tag-at = c .before .before .before in
+    let at-start = start-from-tag-at at-tag-at in
+    let h = left-room (at-start .pre .1 .0) (at-tag-at .tag-at .ensures) (c .before .before .if1 .left) (c .before .if2 .left) in
+    omega arith
 
 total-rest-total-rest-requires : (t : ℕ) → total-rest-lts.Need-total-rest-requires (claims t) (total-rest-at t) total-rest.Post
-total-rest-total-rest-requires t c κs = (left-less (c .before .before .before .before .before .before .before .before .pre .1 .0) (c .before .before .before .tag-at .ensures) (c .before .before .if1 .left) (c .before .if2 .left) (c .before .before .before .before .before .before .before .before .pre .0), (holds-left (c .before .before .before .before .before .before .before .before .pre .1 .0) (c .before .before .before .tag-at .ensures) (c .before .before .if1 .left) (c .before .if2 .left), c .before .before .before .before .before .before .before .before .pre .1 .1))
+total-rest-total-rest-requires t c κs =
+    let at-if2 = c .before in
+    let at-if1 = at-if2 .before in
+    let at-tag-at = at-if1 .before in
+    let at-start = start-from-tag-at at-tag-at in (
+      left-less (at-start .pre .1 .0) (at-tag-at .tag-at .ensures) (at-if1 .if1 .left) (at-if2 .if2 .left) (at-start .pre .0),
+      (holds-left (at-start .pre .1 .0) (at-tag-at .tag-at .ensures) (at-if1 .if1 .left) (at-if2 .if2 .left), at-start .pre .1 .1),
+    )
 
 total-rest-add-total-rest-2 : (t : ℕ) → total-rest-lts.Need-add-total-rest-2 (claims t) (total-rest-at t) total-rest.Post
-total-rest-add-total-rest-2 t c = let h = left-room (c .before .before .before .before .before .before .before .before .before .pre .1 .0) (c .before .before .before .before .tag-at .ensures) (c .before .before .before .if1 .left) (c .before .before .if2 .left) in omega arith
+total-rest-add-total-rest-2 t c =
+    let at-if1 = c .before .before .before in
+    let at-tag-at = at-if1 .before in
+    let at-start = start-from-tag-at at-tag-at in
+    let h = left-room (at-start .pre .1 .0) (at-tag-at .tag-at .ensures) (at-if1 .if1 .left) (c .before .before .if2 .left) in
+    omega arith
 
 total-rest-mul-total-rest : (t : ℕ) → total-rest-lts.Need-mul-total-rest (claims t) (total-rest-at t) total-rest.Post
-total-rest-mul-total-rest t c = let h = right-room (c .before .before .before .before .before .before .before .before .before .pre .1 .0) (c .before .before .before .before .tag-at .ensures) (c .before .before .before .if1 .left) (c .before .before .if2 .left) (c .before .size-at .ensures) in omega arith
+total-rest-mul-total-rest t c =
+    let at-if1 = c .before .before .before in
+    let at-tag-at = at-if1 .before in
+    let at-start = start-from-tag-at at-tag-at in
+    let h = right-room (at-start .pre .1 .0) (at-tag-at .tag-at .ensures) (at-if1 .if1 .left) (c .before .before .if2 .left) (c .before .size-at .ensures) in
+    omega arith
 
 total-rest-add-total-rest-3 : (t : ℕ) → total-rest-lts.Need-add-total-rest-3 (claims t) (total-rest-at t) total-rest.Post
-total-rest-add-total-rest-3 t c = let h = right-room (c .before .before .before .before .before .before .before .before .before .pre .1 .0) (c .before .before .before .before .tag-at .ensures) (c .before .before .before .if1 .left) (c .before .before .if2 .left) (c .before .size-at .ensures) in omega arith
+total-rest-add-total-rest-3 t c =
+    let at-if1 = c .before .before .before in
+    let at-tag-at = at-if1 .before in
+    let at-start = start-from-tag-at at-tag-at in
+    let h = right-room (at-start .pre .1 .0) (at-tag-at .tag-at .ensures) (at-if1 .if1 .left) (c .before .before .if2 .left) (c .before .size-at .ensures) in
+    omega arith
 
 total-rest-total-rest-requires-2 : (t : ℕ) → total-rest-lts.Need-total-rest-requires-2 (claims t) (total-rest-at t) total-rest.Post
-total-rest-total-rest-requires-2 t c κs = (right-less (c .before .before .before .before .before .before .before .before .before .pre .1 .0) (c .before .before .before .before .tag-at .ensures) (c .before .before .before .if1 .left) (c .before .before .if2 .left) (c .before .size-at .ensures) (c .before .before .before .before .before .before .before .before .before .pre .0), (holds-right (c .before .before .before .before .before .before .before .before .before .pre .1 .0) (c .before .before .before .before .tag-at .ensures) (c .before .before .before .if1 .left) (c .before .before .if2 .left) (c .before .size-at .ensures), c .before .before .before .before .before .before .before .before .before .pre .1 .1))
+total-rest-total-rest-requires-2 t c κs =
+    let at-size-at = c .before in
+    let at-if2 = at-size-at .before in
+    let at-if1 = at-if2 .before in
+    let at-tag-at = at-if1 .before in
+    let at-start = start-from-tag-at at-tag-at in (
+      right-less (at-start .pre .1 .0) (at-tag-at .tag-at .ensures) (at-if1 .if1 .left) (at-if2 .if2 .left) (at-size-at .size-at .ensures) (at-start .pre .0),
+      (holds-right (at-start .pre .1 .0) (at-tag-at .tag-at .ensures) (at-if1 .if1 .left) (at-if2 .if2 .left) (at-size-at .size-at .ensures), at-start .pre .1 .1),
+    )
 
 total-rest-join-totals-requires : (t : ℕ) → total-rest-lts.Need-join-totals-requires (claims t) (total-rest-at t) total-rest.Post
-total-rest-join-totals-requires t c κs = let H = c .before .before .before .before .before .before .before .before .before .before .pre .1 .0 in let P = parts-of (c .before .before .before .before .before .before .before .before .before .before .pre .1 .0) (c .before .before .before .before .before .tag-at .ensures) (c .before .before .before .before .if1 .left) (c .before .before .before .if2 .left) (c .before .before .size-at .ensures) (H .rest) (H .at) in omega (arith, total-few _ _ _ (P .is) (c .before .total-rest .ensures (P .l) (P .l-at)) (c .total-rest2 .ensures (P .r) (P .r-at)), at-room (H .rest) _ _ (H .at), c .before .before .before .before .before .before .before .before .before .before .pre .1 .1)
+total-rest-join-totals-requires t c κs =
+    let at-if2 = c .before .before .before in
+    let at-if1 = at-if2 .before in
+    let at-tag-at = at-if1 .before in
+    let at-start = start-from-tag-at at-tag-at in
+    let H = at-start .pre .1 .0 in
+    let P = parts-of (at-start .pre .1 .0) (at-tag-at .tag-at .ensures) (at-if1 .if1 .left) (at-if2 .if2 .left) (c .before .before .size-at .ensures) (H .rest) (H .at) in
+    omega (arith, total-few _ _ _ (P .is) (c .before .total-rest .ensures (P .l) (P .l-at)) (c .total-rest2 .ensures (P .r) (P .r-at)), at-room (H .rest) _ _ (H .at), at-start .pre .1 .1)
 
 total-rest-returns-3 : (t : ℕ) → total-rest-lts.Need-returns-3 (claims t) (total-rest-at t) total-rest.Post
-total-rest-returns-3 t c g h = let P = parts-of (c .before .before .before .before .before .before .before .before .before .before .before .pre .1 .0) (c .before .before .before .before .before .before .tag-at .ensures) (c .before .before .before .before .before .if1 .left) (c .before .before .before .before .if2 .left) (c .before .before .before .size-at .ensures) g h in subst (Totalled _ _ _ g) (sym (c .join-totals .ensures)) (total-node _ _ _ (P .is) (c .before .before .total-rest .ensures (P .l) (P .l-at)) (c .before .total-rest2 .ensures (P .r) (P .r-at)))
+total-rest-returns-3 t c g h =
+    let at-size-at = c .before .before .before in
+    let at-if2 = at-size-at .before in
+    let at-if1 = at-if2 .before in
+    let at-tag-at = at-if1 .before in
+    let at-start = start-from-tag-at at-tag-at in
+    let P = parts-of (at-start .pre .1 .0) (at-tag-at .tag-at .ensures) (at-if1 .if1 .left) (at-if2 .if2 .left) (at-size-at .size-at .ensures) g h in
+    subst (Totalled _ _ _ g) (sym (c .join-totals .ensures)) (total-node _ _ _ (P .is) (c .before .before .total-rest .ensures (P .l) (P .l-at)) (c .before .total-rest2 .ensures (P .r) (P .r-at)))
 
 pub +total-rest-spec : {M : Type 1} → statement M
 +total-rest-spec = close μ-total-rest λ t. total-rest-lts.spec (claims t)

@@ -24,15 +24,28 @@ goes-right-requires c κs = search needs
 count-if-requires : tie.Need-count-if-requires
 count-if-requires c κs = search needs
 
+-- Places: what stands before a need, by name. Written by `named`: run it again when the code changes.
+abbrev goes-right-from-count-if : tie.After-count-if → tie.After-goes-right
+goes-right-from-count-if c = c .before .before .before .before .before
+
+abbrev count-if-from-returns : tie.After-struct-known10 → tie.After-count-if
+count-if-from-returns c = c .before .before .before .before .before
+
 add-t8 : tie.Need-add-t8
-add-t8 c = omega (arith, c .before .count-if .ensures, part-few (c .before .before .before .before .before .before .goes-right .result) (c .before .before .before .before .before .before .before .before .args .r .count), c .before .before .before .before .before .before .before .before .pre)
+add-t8 c =
+    let at-goes-right = goes-right-from-count-if (c .before) in
+    let at-start = at-goes-right .before .before in
+    omega (arith, c .before .count-if .ensures, part-few (at-goes-right .goes-right .result) (at-start .args .r .count), at-start .pre)
 
 returns : tie.Need-returns
 returns c =
-    let l = c .before .before .before .before .before .before .before .before .before .before .before .before .args .l in
-    let r = c .before .before .before .before .before .before .before .before .before .before .before .before .args .r in
-    let e = c .before .before .before .before .before .before .before .before .before .before .goes-right .ensures in
-    ap₂ (λ (k : ℕ) (b : Bool). made l r k b) (c .before .before .before .before .before .count-if .ensures ∙ ap (λ (b : Bool). cond b (r .count) 0) e) e
+    let at-count-if = count-if-from-returns c in
+    let at-goes-right = goes-right-from-count-if at-count-if in
+    let at-start = at-goes-right .before .before in
+    let l = at-start .args .l in
+    let r = at-start .args .r in
+    let e = at-goes-right .goes-right .ensures in
+    ap₂ (λ (k : ℕ) (b : Bool). made l r k b) (at-count-if .count-if .ensures ∙ ap (λ (b : Bool). cond b (r .count) 0) e) e
 
 pub join-totals-spec : {M : Type 1} → statement M
 join-totals-spec = tie.close (tie.spec goes-right-requires count-if-requires add-t8 returns)

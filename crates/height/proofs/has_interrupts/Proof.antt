@@ -24,8 +24,11 @@ is-plain-requires c κs = search needs
 returns : tie.Need-returns Inv-loop μ-loop
 unfolding interrupts
 returns c =
-    let e = found _ (c .before .before .before .loop .inv) (c .before .before .loop-test .taken) (c .before .is-plain .ensures) (c .if1 .taken) in
-    sym (lt-ltb _ _ (subst (λ (i : ℕ). i < c .before .before .before .before .before .args .n) e (c .before .before .loop-test .taken)))
+    let at-loop-test = c .before .before in
+    let at-loop = at-loop-test .before in
+    let at-start = at-loop .before .before in
+    let e = found _ (at-loop .loop .inv) (at-loop-test .loop-test .taken) (c .before .is-plain .ensures) (c .if1 .taken) in
+    sym (lt-ltb _ _ (subst (λ (i : ℕ). i < at-start .args .n) e (at-loop-test .loop-test .taken)))
 
 add-i : tie.Need-add-i Inv-loop μ-loop
 add-i c = search needs

@@ -29,8 +29,10 @@ program-at-requires c κs = search needs
 
 height-over-requires : tie.Need-height-over-requires Inv-loop μ-loop
 height-over-requires c κs =
-    let b = c .before .before .before .loop .inv .1 in
-    (full _ _ _ _ b (omega arith), λ j. omega (arith, at _ _ _ _ b j, heights-le (programAt (now (c .before .before .before .before .before .args .t))) (c .before .before .before .loop .i) j))
+    let at-loop = c .before .before .before in
+    let at-start = at-loop .before .before in
+    let b = at-loop .loop .inv .1 in
+    (full _ _ _ _ b (omega arith), λ j. omega (arith, at _ _ _ _ b j, heights-le (programAt (now (at-start .args .t))) (at-loop .loop .i) j))
 
 mul-h : tie.Need-mul-h Inv-loop μ-loop
 mul-h c = search needs
@@ -47,11 +49,14 @@ loop-less c = search needs
 loop-again : tie.Need-loop-again Inv-loop μ-loop
 unfolding heightAt
 loop-again c =
-    let p = programAt (now (c .before .before .before .before .before .before .args .t)) in
-    let i = c .before .before .before .before .loop .i in
-    let b = c .before .before .before .before .loop .inv .1 in
-    let read : c .height-over .result ≡ over (c .before .before .before .before .loop .h) (links (p i)) = c .height-over .ensures ∙ ap (λ (r : Program). over (c .before .before .before .before .loop .h) (links r)) (c .before .program-at .ensures .0) in
-    (omega arith, more 0 (heightAt p) (λ (x : ℕ). x) 256 b (omega arith) (read ∙ over-same (c .before .before .before .before .loop .h) (upTo (heightAt p) i) (at 0 (heightAt p) (λ (x : ℕ). x) 256 b) (links (p i))))
+    let at-loop = c .before .before .before .before in
+    let at-start = at-loop .before .before in
+    let p = programAt (now (at-start .args .t)) in
+    let i = at-loop .loop .i in
+    let b = at-loop .loop .inv .1 in
+    let read : c .height-over .result ≡ over (at-loop .loop .h) (links (p i)) = c .height-over .ensures ∙ ap (λ (r : Program). over (at-loop .loop .h) (links r))
+    (c .before .program-at .ensures .0) in
+    (omega arith, more 0 (heightAt p) (λ (x : ℕ). x) 256 b (omega arith) (read ∙ over-same (at-loop .loop .h) (upTo (heightAt p) i) (at 0 (heightAt p) (λ (x : ℕ). x) 256 b) (links (p i))))
 
 sub-result : tie.Need-sub-result Inv-loop μ-loop
 sub-result c = search needs
@@ -65,8 +70,9 @@ array-read-result c = search needs
 returns : tie.Need-returns Inv-loop μ-loop
 unfolding rise
 returns c =
-    let e = le-antisymm (c .before .loop .inv .0) (c .loop-test .left) in
-    let b = c .before .loop .inv .1 in
+    let at-loop = c .before in
+    let e = le-antisymm (at-loop .loop .inv .0) (c .loop-test .left) in
+    let b = at-loop .loop .inv .1 in
     at _ _ _ _ b _ ∙ up-at 0 _ _ _ (omega (arith, e))
 
 pub height-spec : {M : Type 1} → statement M

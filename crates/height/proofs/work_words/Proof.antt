@@ -17,7 +17,15 @@ mul-result : tie.Need-mul-result
 mul-result c = omega (arith, mul-le-mul {n₁ = c .before .args .d + 1} {m₁ = c .frame-words .result} {n₂ = 65} {m₂ = 6979} (omega arith) (omega arith))
 
 returns : tie.Need-returns
-returns c = (ap (λ (w : ℕ). (c .before .args .d + 1) * w) (c .frame-words .ensures .0), omega (arith, mul-le-mul {n₁ = c .before .args .d + 1} {m₁ = c .frame-words .result} {n₂ = 65} {m₂ = 6979} (omega arith) (omega arith)))
+returns c =
+    let at-start = c .before in (
+      ap (λ (w : ℕ). (at-start .args .d + 1) * w) (c .frame-words .ensures .0),
+      omega (
+        arith,
+        mul-le-mul {n₁ = at-start .args .d + 1} {m₁ = c .frame-words .result} {n₂ = 65} {m₂ = 6979} (omega arith)
+            (omega arith),
+      ),
+    )
 
 pub work-words-spec : {M : Type 1} → statement M
 work-words-spec = tie.close (tie.spec add-result frame-words-requires mul-result returns)

@@ -48,27 +48,27 @@ returns-2 c = rw (c .match .keys2) (cc)
 
 returns-3 : tie.Need-returns-3
 unfolding boundBy boundOf
-returns-3 c = rw (c .before .match .keys3) (cc)
+returns-3 c = rw (c .before .match .keys3) cc
 
 returns-4 : tie.Need-returns-4
 unfolding boundBy boundOf
-returns-4 c = rw (c .before .before .match .keys4) (cc)
+returns-4 c = rw (c .before .before .match .keys4) cc
 
 returns-5 : tie.Need-returns-5
 unfolding boundBy boundOf
-returns-5 c = rw (c .before .before .before .match .keys5) (cc)
+returns-5 c = rw (c .before .before .before .match .keys5) cc
 
 returns-6 : tie.Need-returns-6
 unfolding boundBy boundOf
-returns-6 c = rw (c .before .match .keys6) (cc)
+returns-6 c = rw (c .before .match .keys6) cc
 
 returns-7 : tie.Need-returns-7
 unfolding boundBy boundOf
-returns-7 c = rw (c .before .match .keys7) (cc)
+returns-7 c = rw (c .before .match .keys7) cc
 
 returns-8 : tie.Need-returns-8
 unfolding boundBy boundOf
-returns-8 c = rw (c .before .match .keys8) (cc)
+returns-8 c = rw (c .before .match .keys8) cc
 
 returns-9 : tie.Need-returns-9
 unfolding boundBy boundOf
@@ -80,7 +80,9 @@ returns-10 c =
     let a = c .before .before .args in
     let r = c .match .rest in
     by-kind (λ (k : ℕ). a .r .kind ≡ k → true ≡ boundBy (a .most) (fields k (a .r .a) (a .r .b) (a .r .c)) (now (a .marks)))
-    (λ e. refl) (λ e. absurd (r .0 .0 .0 .0 .0 .0 .0 .0 .1 e)) (λ e. absurd (r .0 .0 .0 .0 .0 .0 .0 .1 e)) (λ e. absurd (r .0 .0 .0 .0 .0 .0 .1 e)) (λ e. absurd (r .0 .0 .0 .0 .0 .1 e)) (λ e. refl) (λ e. absurd (r .0 .0 .0 .0 .1 e)) (λ e. absurd (r .0 .0 .0 .1 e)) (λ e. absurd (r .0 .0 .1 e)) (λ e. absurd (r .0 .1 e)) (λ e. refl) (λ e. absurd (r .1 e)) (λ k e. refl)
+    (λ e. refl) (λ e. absurd (r .0 .0 .0 .0 .0 .0 .0 .0 .1 e)) (λ e. absurd (r .0 .0 .0 .0 .0 .0 .0 .1 e)) (λ e. absurd (r .0 .0 .0 .0 .0 .0 .1 e)) (λ e. absurd (r .0 .0 .0 .0 .0 .1 e))
+    (λ e. refl)
+    (λ e. absurd (r .0 .0 .0 .0 .1 e)) (λ e. absurd (r .0 .0 .0 .1 e)) (λ e. absurd (r .0 .0 .1 e)) (λ e. absurd (r .0 .1 e)) (λ e. refl) (λ e. absurd (r .1 e)) (λ k e. refl)
     (a .r .kind) refl
 
 pub bound-at-spec : {M : Type 1} → statement M

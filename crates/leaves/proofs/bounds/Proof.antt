@@ -47,17 +47,21 @@ loop-less c = search needs
 
 loop-again : tie.Need-loop-again Inv-loop μ-loop
 loop-again c =
+    let at-loop = c .before .before .before .before in
+    let at-start = at-loop .before .before .before in
     let e = c .before .before .record-at .ensures .0 in
-    let v = c .before .before .before .before .loop .inv in
-    let l : c .before .before .before .before .loop .i < length (c .before .before .before .before .loop .marks) = omega (arith, v .1) in
-    (omega arith, simp length-set (v .1), next _ (c .before .before .before .before .before .before .before .pre .1) (c .before .before .before .before .loop .marks) l (c .before .before .before .before .before .before .before .args .most) (v .2) (rw e at (c .bound-at .ensures)))
+    let v = at-loop .loop .inv in
+    let l : at-loop .loop .i < length (at-loop .loop .marks) = omega (arith, v .1) in
+    (omega arith, simp length-set (v .1), next _ (at-start .pre .1) (at-loop .loop .marks) l (at-start .args .most) (v .2) (rw e at (c .bound-at .ensures)))
 
 returns : tie.Need-returns Inv-loop μ-loop
 returns c =
-    let a = c .before .before .before .before .args in
-    let v = c .before .loop .inv in
+    let at-loop = c .before in
+    let at-start = at-loop .before .before .before in
+    let a = at-start .args in
+    let v = at-loop .loop .inv in
     let e = le-antisymm (v .0) (c .loop-test .left) ∙ c .before .before .places-of .ensures .0 in
-    (subst (λ (k : ℕ). Bounds (a .most) (table (a .interrupts) (programAt (now (a .programs))) (a .n)) k (c .before .loop .marks)) e (v .2), v .1)
+    (subst (λ (k : ℕ). Bounds (a .most) (table (a .interrupts) (programAt (now (a .programs))) (a .n)) k (at-loop .loop .marks)) e (v .2), v .1)
 
 pub bounds-spec : {M : Type 1} → statement M
 bounds-spec =

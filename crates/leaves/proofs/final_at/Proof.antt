@@ -60,31 +60,31 @@ returns-2 c = rw (c .match .keys2) (cc)
 
 returns-3 : tie.Need-returns-3
 unfolding finalBy finalOf
-returns-3 c = rw (c .before .match .keys3) (cc)
+returns-3 c = rw (c .before .match .keys3) cc
 
 returns-4 : tie.Need-returns-4
 unfolding finalBy finalOf
-returns-4 c = rw (c .before .before .match .keys4) (cc)
+returns-4 c = rw (c .before .before .match .keys4) cc
 
 returns-5 : tie.Need-returns-5
 unfolding finalBy finalOf
-returns-5 c = rw (c .before .before .before .before .match .keys5) (cc)
+returns-5 c = rw (c .before .before .before .before .match .keys5) cc
 
 returns-6 : tie.Need-returns-6
 unfolding finalBy finalOf
-returns-6 c = rw (c .before .before .match .keys6) (cc)
+returns-6 c = rw (c .before .before .match .keys6) cc
 
 returns-7 : tie.Need-returns-7
 unfolding finalBy finalOf
-returns-7 c = rw (c .before .match .keys7) (cc)
+returns-7 c = rw (c .before .match .keys7) cc
 
 returns-8 : tie.Need-returns-8
 unfolding finalBy finalOf
-returns-8 c = rw (c .before .match .keys8) (cc)
+returns-8 c = rw (c .before .match .keys8) cc
 
 returns-9 : tie.Need-returns-9
 unfolding finalBy finalOf
-returns-9 c = rw (c .before .before .match .keys9) (cc)
+returns-9 c = rw (c .before .before .match .keys9) cc
 
 returns-10 : tie.Need-returns-10
 unfolding finalBy finalOf
@@ -92,7 +92,9 @@ returns-10 c =
     let a = c .before .before .before .args in
     let r = c .match .rest in
     by-kind (λ (k : ℕ). a .r .kind ≡ k → true ≡ finalBy (fields k (a .r .a) (a .r .b) (a .r .c)) (now (a .held)) (a .running) (now (a .finals)))
-    (λ e. refl) (λ e. absurd (r .0 .0 .0 .0 .0 .0 .0 .0 .1 e)) (λ e. absurd (r .0 .0 .0 .0 .0 .0 .0 .1 e)) (λ e. absurd (r .0 .0 .0 .0 .0 .0 .1 e)) (λ e. absurd (r .0 .0 .0 .0 .0 .1 e)) (λ e. refl) (λ e. absurd (r .0 .0 .0 .0 .1 e)) (λ e. absurd (r .0 .0 .0 .1 e)) (λ e. absurd (r .0 .0 .1 e)) (λ e. absurd (r .0 .1 e)) (λ e. refl) (λ e. absurd (r .1 e)) (λ k e. refl)
+    (λ e. refl) (λ e. absurd (r .0 .0 .0 .0 .0 .0 .0 .0 .1 e)) (λ e. absurd (r .0 .0 .0 .0 .0 .0 .0 .1 e)) (λ e. absurd (r .0 .0 .0 .0 .0 .0 .1 e)) (λ e. absurd (r .0 .0 .0 .0 .0 .1 e))
+    (λ e. refl)
+    (λ e. absurd (r .0 .0 .0 .0 .1 e)) (λ e. absurd (r .0 .0 .0 .1 e)) (λ e. absurd (r .0 .0 .1 e)) (λ e. absurd (r .0 .1 e)) (λ e. refl) (λ e. absurd (r .1 e)) (λ k e. refl)
     (a .r .kind) refl
 
 pub final-at-spec : {M : Type 1} → statement M

@@ -17,7 +17,8 @@ use Rattle.leaves.proofs.finals_in.Tie as tie
 abbrev Inv-loop : tie.InvT-loop
 Inv-loop programs n interrupts skips held running finals₀ m i₀ finals i =
     (length finals ≡ 260)
-    × ((W : World) (s : State) (can : ℕ → Bool) → Sees W s (table interrupts (programAt programs) n) (places interrupts n) held can running → Done W s (table interrupts (programAt programs) n) (places interrupts n) finals₀ finals i)
+    × ((W : World) (s : State) (can : ℕ → Bool) → Sees W s (table interrupts (programAt programs) n) (places interrupts n) held can running →
+    Done W s (table interrupts (programAt programs) n) (places interrupts n) finals₀ finals i)
 
 abbrev μ-loop : tie.MeasureT-loop
 μ-loop programs n interrupts skips held running finals₀ m i₀ finals i = m - i
@@ -28,10 +29,17 @@ places-of-requires c κs = search needs
 skip-in-requires : tie.Need-skip-in-requires Inv-loop μ-loop
 skip-in-requires c κs = search needs
 
+-- Places: what stands before a need, by name. Written by `named`: run it again when the code changes.
+abbrev start-from-places-of : tie.After-places-of Inv-loop μ-loop → tie.Start Inv-loop μ-loop
+start-from-places-of c = c .before .before .before .before .before
+
+abbrev loop-from-final-at : tie.After-final-at Inv-loop μ-loop → tie.At-loop Inv-loop μ-loop
+loop-from-final-at c = c .before .before .before .before
+
 loop-holds : tie.Need-loop-holds Inv-loop μ-loop
 loop-holds c =
     let e = c .before .places-of .ensures .0 in
-    let z = c .before .before .before .before .before .before .pre .1 in
+    let z = start-from-places-of (c .before) .pre .1 in
     (z .2, λ W s can S. rw (c .skip-in .ensures, e) (first (z .1)))
 
 record-at-requires : tie.Need-record-at-requires Inv-loop μ-loop
@@ -51,18 +59,26 @@ skip-in-requires-2 c κs = search needs
 
 loop-less : tie.Need-loop-less Inv-loop μ-loop
 loop-less c =
-    let e = c .before .before .before .before .before .before .before .places-of .ensures .0 in
-    let o = c .before .before .before .before .before .before .before .before .before .before .before .before .pre .1 .1 .onward (c .before .before .before .before .before .loop .i + 1) (omega (arith, e)) in
+    let at-loop = loop-from-final-at (c .before) in
+    let at-places-of = at-loop .before .before in
+    let at-start = start-from-places-of at-places-of in
+    let e = at-places-of .places-of .ensures .0 in
+    let o = at-start .pre .1 .1 .onward (at-loop .loop .i + 1) (omega (arith, e)) in
     rw (c .skip-in2 .ensures, e) (omega (arith, o, e))
 
 loop-again : tie.Need-loop-again Inv-loop μ-loop
 loop-again c =
-    let e = c .before .before .before .before .before .before .before .places-of .ensures .0 in
-    let z = c .before .before .before .before .before .before .before .before .before .before .before .before .pre .1 in
-    let v = c .before .before .before .before .before .loop .inv in
-    let l : c .before .before .before .before .before .loop .i < places (c .before .before .before .before .before .before .before .before .before .before .before .before .args .interrupts) (c .before .before .before .before .before .before .before .before .before .before .before .before .args .n) = omega (arith, e) in (
+    let at-record-at = c .before .before .before in
+    let at-loop = at-record-at .before .before in
+    let at-places-of = at-loop .before .before in
+    let at-start = start-from-places-of at-places-of in
+    let e = at-places-of .places-of .ensures .0 in
+    let z = at-start .pre .1 in
+    let v = at-loop .loop .inv in
+    let l : at-loop .loop .i < places (at-start .args .interrupts) (at-start .args .n) = omega (arith, e) in (
       simp length-set (v .0),
-      λ W s can S. rw (c .skip-in2 .ensures, e) (next (z .1) (z .0) (v .1 W s can S) l (S .each _ l) (S .runs) (omega arith) (rw (c .before .before .before .record-at .ensures .0) at (c .before .final-at .ensures))),
+      λ W s can S. rw (c .skip-in2 .ensures, e) (next (z .1) (z .0) (v .1 W s can S) l (S .each _ l) (S .runs) (omega arith)
+          (rw (at-record-at .record-at .ensures .0) at (c .before .final-at .ensures))),
     )
 
 same-length : tie.Need-same-length Inv-loop μ-loop

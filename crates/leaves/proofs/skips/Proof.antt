@@ -49,15 +49,22 @@ loop-less c = search needs
 
 loop-again : tie.Need-loop-again Inv-loop μ-loop
 loop-again c =
-    let v = c .before .before .before .before .loop .inv in
-    let S = settled _ (now (c .before .before .before .before .before .before .before .before .before .args .endable)) (c .before .before .before .before .before .bounds .result) (c .before .before .before .before .before .before .before .before .before .pre .1 .1) (c .before .before .before .before .before .bounds .ensures .0) (c .before .before .before .before .loop .i - 1) (omega (arith, c .before .before .before .before .before .before .places-of .ensures .0)) in
+    let at-loop = c .before .before .before .before in
+    let at-bounds = at-loop .before in
+    let at-places-of = at-bounds .before in
+    let at-start = at-places-of .before .before .before in
+    let v = at-loop .loop .inv in
+    let S = settled _ (now (at-start .args .endable)) (at-bounds .bounds .result) (at-start .pre .1 .1) (at-bounds .bounds .ensures .0) (at-loop .loop .i - 1)
+    (omega (arith, at-places-of .places-of .ensures .0)) in
     (omega arith, simp length-set (v .1), more (omega arith) (omega arith) (v .2) (⊎-elim (λ w. inl (w .1)) (λ w. inr (w .1, S (sym (c .before .doubt-at .ensures) ∙ w .0 .left))) (c .if1 .came)))
 
 returns : tie.Need-returns Inv-loop μ-loop
 returns c =
-    let v = c .before .loop .inv in
-    let e = c .before .before .before .places-of .ensures .0 in
-    let z : c .before .loop .i ≡ 0 = omega arith in
+    let at-loop = c .before in
+    let at-places-of = at-loop .before .before in
+    let v = at-loop .loop .inv in
+    let e = at-places-of .places-of .ensures .0 in
+    let z : at-loop .loop .i ≡ 0 = omega arith in
     rw (← e) (all (rw z at (v .2)))
 
 pub skips-spec : {M : Type 1} → statement M

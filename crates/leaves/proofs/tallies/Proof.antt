@@ -19,7 +19,8 @@ use Rattle.leaves.proofs.tallies.Tie as tie
 abbrev Inv-loop : tie.InvT-loop
 Inv-loop programs n interrupts actions na held running done finals₀ counts₀ m i₀ finals counts i =
     (i ≤ m) × (length finals ≡ 260) × (length counts ≡ 260)
-    × ((W : World) (s : State) → Sees W s (table interrupts (programAt programs) n) (places interrupts n) held (possibleIn actions na held) running → Both W s (table interrupts (programAt programs) n) finals counts i)
+    × ((W : World) (s : State) → Sees W s (table interrupts (programAt programs) n) (places interrupts n) held (possibleIn actions na held) running →
+    Both W s (table interrupts (programAt programs) n) finals counts i)
 
 abbrev μ-loop : tie.MeasureT-loop
 μ-loop programs n interrupts actions na held running done finals₀ counts₀ m i₀ finals counts i = m - i
@@ -27,9 +28,16 @@ abbrev μ-loop : tie.MeasureT-loop
 places-of-requires : tie.Need-places-of-requires Inv-loop μ-loop
 places-of-requires c κs = search needs
 
+-- Places: what stands before a need, by name. Written by `named`: run it again when the code changes.
+abbrev start-from-places-of : tie.After-places-of Inv-loop μ-loop → tie.Start Inv-loop μ-loop
+start-from-places-of c = c .before .before .before .before .before .before .before
+
+abbrev start-from-loop : tie.At-loop Inv-loop μ-loop → tie.Start Inv-loop μ-loop
+start-from-loop c = start-from-places-of (c .before)
+
 loop-holds : tie.Need-loop-holds Inv-loop μ-loop
 loop-holds c =
-    let z = c .before .before .before .before .before .before .before .pre .1 .1 in (
+    let z = start-from-places-of c .pre .1 .1 in (
       omega arith,
       ap length (z .0) ∙ length-replicate 260 true,
       ap length (z .1) ∙ length-replicate {A = ℕ} 260 0,
@@ -62,19 +70,24 @@ loop-less c = search needs
 
 loop-again : tie.Need-loop-again Inv-loop μ-loop
 loop-again c =
-    let e = c .before .before .before .before .record-at .ensures .0 in
-    let v = c .before .before .before .before .before .before .loop .inv in (
+    let at-record-at = c .before .before .before .before in
+    let at-loop = at-record-at .before .before in
+    let at-places-of = at-loop .before in
+    let at-start = start-from-places-of at-places-of in
+    let e = at-record-at .record-at .ensures .0 in
+    let v = at-loop .loop .inv in (
       omega arith,
       simp length-set (v .1),
       simp length-set (v .2),
-      λ W s S. next (v .3 W s S) (S .each _ (omega arith)) (S .runs) (omega arith) (c .final-in .ensures ∙ c .before .before .before .before .before .before .before .before .before .before .before .before .before .before .pre .1 .0 W s _ S _ (omega (arith, c .before .before .before .before .before .before .before .places-of .ensures .0))) (rw e at (c .before .count-at .ensures)),
+      λ W s S. next (v .3 W s S) (S .each _ (omega arith)) (S .runs) (omega arith) (c .final-in .ensures ∙ at-start .pre .1 .0 W s _ S _ (omega (arith, at-places-of .places-of .ensures .0)))
+          (rw e at (c .before .count-at .ensures)),
     )
 
 same-length : tie.Need-same-length Inv-loop μ-loop
-same-length c = c .before .loop .inv .1 ∙ sym (ap length (c .before .before .before .before .before .before .before .before .before .pre .1 .1 .0) ∙ length-replicate 260 true)
+same-length c = c .before .loop .inv .1 ∙ sym (ap length (start-from-loop (c .before) .pre .1 .1 .0) ∙ length-replicate 260 true)
 
 same-length-2 : tie.Need-same-length-2 Inv-loop μ-loop
-same-length-2 c = c .before .loop .inv .2 ∙ sym (ap length (c .before .before .before .before .before .before .before .before .before .pre .1 .1 .1) ∙ length-replicate {A = ℕ} 260 0)
+same-length-2 c = c .before .loop .inv .2 ∙ sym (ap length (start-from-loop (c .before) .pre .1 .1 .1) ∙ length-replicate {A = ℕ} 260 0)
 
 returns : tie.Need-returns Inv-loop μ-loop
 unfolding finalsOf countsOf

@@ -95,47 +95,54 @@ part-requires-3 c κs = search needs
 
 returns : tie.Need-returns
 unfolding countBy totalOf
-returns c = rw (count-rows, c .before .before .match .keys1) (cc)
+returns c = rw (count-rows, c .before .before .match .keys1) cc
 
 returns-2 : tie.Need-returns-2
 unfolding countBy totalOf
-returns-2 c = rw (count-rows, c .before .before .match .keys2) (cc)
+returns-2 c = rw (count-rows, c .before .before .match .keys2) cc
 
 returns-3 : tie.Need-returns-3
 unfolding countBy totalOf
-returns-3 c = rw (count-rows, c .before .before .before .before .match .keys3) (cc)
+returns-3 c = rw (count-rows, c .before .before .before .before .match .keys3) cc
 
 returns-4 : tie.Need-returns-4
 unfolding countBy totalOf
-returns-4 c = rw (count-rows, sum-row _ _ _ _ _ _ _ _ (c .before .before .before .match .keys4)) (cc)
+returns-4 c = rw (count-rows, sum-row _ _ _ _ _ _ _ _ (c .before .before .before .match .keys4)) cc
 
 returns-5 : tie.Need-returns-5
 unfolding countBy totalOf
-returns-5 c = rw (count-rows, part-row _ _ _ _ _ _ _ _ (c .before .before .match .keys5)) (cc)
+returns-5 c = rw (count-rows, part-row _ _ _ _ _ _ _ _ (c .before .before .match .keys5)) cc
 
 returns-6 : tie.Need-returns-6
 unfolding countBy totalOf
-returns-6 c = rw (count-rows, c .before .before .before .before .match .keys6) (cc)
+returns-6 c = rw (count-rows, c .before .before .before .before .match .keys6) cc
 
 returns-7 : tie.Need-returns-7
 unfolding countBy totalOf
-returns-7 c = rw (count-rows, c .before .before .before .match .keys7) (cc)
+returns-7 c = rw (count-rows, c .before .before .before .match .keys7) cc
 
 returns-8 : tie.Need-returns-8
 unfolding countBy totalOf
-returns-8 c = rw (count-rows, c .before .before .before .before .match .keys8) (cc)
+returns-8 c = rw (count-rows, c .before .before .before .before .match .keys8) cc
 
 returns-9 : tie.Need-returns-9
 unfolding countBy totalOf
-returns-9 c = rw (count-rows, c .before .before .before .match .keys9) (cc)
+returns-9 c = rw (count-rows, c .before .before .before .match .keys9) cc
+
+-- Places: what stands before a need, by name. Written by `named`: run it again when the code changes.
+abbrev start-from-returns-10 : tie.At-match-rest → tie.Start
+start-from-returns-10 c = c .before .before .before .before .before
 
 returns-10 : tie.Need-returns-10
 unfolding countBy countOf ownOf usesA usesB
 returns-10 c =
-    let a = c .before .before .before .before .before .args in
+    let a = start-from-returns-10 c .args in
     let r = c .match .rest in
-    by-kind (λ (k : ℕ). a .r .kind ≡ k → 0 ≡ countBy (fields k (a .r .a) (a .r .b) (a .r .c)) (now (a .held)) (possibleIn (now (a .actions)) (a .na) (now (a .held))) (a .running) (now (a .finals)) (now (a .counts)))
-    (λ e. refl) (λ e. absurd (r .0 .0 .0 .0 .0 .0 .0 .0 .1 e)) (λ e. absurd (r .0 .0 .0 .0 .0 .0 .0 .1 e)) (λ e. absurd (r .0 .0 .0 .0 .0 .0 .1 e)) (λ e. absurd (r .0 .0 .0 .0 .0 .1 (inl e))) (λ e. absurd (r .0 .0 .0 .0 .1 (inl e))) (λ e. absurd (r .0 .0 .0 .1 e)) (λ e. absurd (r .0 .0 .1 e)) (λ e. absurd (r .0 .0 .0 .0 .0 .1 (inr e))) (λ e. absurd (r .0 .1 e)) (λ e. absurd (r .0 .0 .0 .0 .1 (inr e))) (λ e. absurd (r .1 e)) (λ k e. refl)
+    by-kind (λ (k : ℕ). a .r .kind ≡ k → 0 ≡ countBy (fields k (a .r .a) (a .r .b) (a .r .c)) (now (a .held)) (possibleIn (now (a .actions)) (a .na) (now (a .held))) (a .running) (now (a .finals))
+    (now (a .counts)))
+    (λ e. refl) (λ e. absurd (r .0 .0 .0 .0 .0 .0 .0 .0 .1 e)) (λ e. absurd (r .0 .0 .0 .0 .0 .0 .0 .1 e)) (λ e. absurd (r .0 .0 .0 .0 .0 .0 .1 e)) (λ e. absurd (r .0 .0 .0 .0 .0 .1 (inl e)))
+    (λ e. absurd (r .0 .0 .0 .0 .1 (inl e))) (λ e. absurd (r .0 .0 .0 .1 e)) (λ e. absurd (r .0 .0 .1 e)) (λ e. absurd (r .0 .0 .0 .0 .0 .1 (inr e))) (λ e. absurd (r .0 .1 e))
+    (λ e. absurd (r .0 .0 .0 .0 .1 (inr e))) (λ e. absurd (r .1 e)) (λ k e. refl)
     (a .r .kind) refl
 
 pub total-at-spec : {M : Type 1} → statement M

@@ -48,7 +48,9 @@ unfolding usesA
 returns-10 c =
     let a = c .before .args in
     let r = c .match .rest in
-    by-kind (λ (k : ℕ). a .kind ≡ k → false ≡ usesA k (a .h) (a .running)) (λ e. refl) (λ e. refl) (λ e. refl) (λ e. absurd (r .0 .0 .0 .0 .0 .0 .0 .0 .1 e)) (λ e. absurd (r .0 .0 .0 .0 .0 .0 .0 .1 e)) (λ e. absurd (r .0 .0 .0 .0 .0 .0 .1 e)) (λ e. absurd (r .0 .0 .0 .0 .0 .1 e)) (λ e. absurd (r .0 .0 .0 .0 .1 e)) (λ e. absurd (r .0 .0 .0 .1 e)) (λ e. absurd (r .0 .0 .1 e)) (λ e. absurd (r .0 .1 e)) (λ e. absurd (r .1 e)) (λ k e. refl) (a .kind) refl
+    by-kind (λ (k : ℕ). a .kind ≡ k → false ≡ usesA k (a .h) (a .running)) (λ e. refl) (λ e. refl) (λ e. refl) (λ e. absurd (r .0 .0 .0 .0 .0 .0 .0 .0 .1 e))
+    (λ e. absurd (r .0 .0 .0 .0 .0 .0 .0 .1 e)) (λ e. absurd (r .0 .0 .0 .0 .0 .0 .1 e)) (λ e. absurd (r .0 .0 .0 .0 .0 .1 e)) (λ e. absurd (r .0 .0 .0 .0 .1 e)) (λ e. absurd (r .0 .0 .0 .1 e))
+    (λ e. absurd (r .0 .0 .1 e)) (λ e. absurd (r .0 .1 e)) (λ e. absurd (r .1 e)) (λ k e. refl) (a .kind) refl
 
 pub uses-first-spec : {M : Type 1} → statement M
 uses-first-spec =

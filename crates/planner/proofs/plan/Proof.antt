@@ -14,7 +14,10 @@ enum-known-words : tie.Need-enum-known-words
 enum-known-words c = search needs
 
 plan-accepted-requires : tie.Need-plan-accepted-requires
-plan-accepted-requires c κs = sym (c .before .before .before .before .before .check .ensures) ∙ c .before .before .before .words .given .1
+plan-accepted-requires c κs =
+    let at-words = c .before .before .before in
+    let at-check = at-words .before .before in
+    sym (at-check .check .ensures) ∙ at-words .words .given .1
 
 enum-known-number : tie.Need-enum-known-number
 enum-known-number c = search needs
@@ -30,10 +33,12 @@ returns c = search needs
 
 returns-2 : tie.Need-returns-2
 returns-2 c =
-    let s = now (c .before .before .before .before .before .before .before .args .s) in
-    let work = now (c .before .before .before .before .before .before .before .args .work) in
-    let trace = now (c .before .before .before .before .before .before .before .args .trace) in
-    let q = sym (c .before .before .before .check .ensures) ∙ c .before .number .given .1 in
+    let at-check = c .before .before .before in
+    let at-start = at-check .before .before .before .before in
+    let s = now (at-start .args .s) in
+    let work = now (at-start .args .work) in
+    let trace = now (at-start .args .trace) in
+    let q = sym (at-check .check .ensures) ∙ c .before .number .given .1 in
     let u = sheet-untouched s _ _ q work trace in
     (sym (sheet-refused s _ _ q (length work) (length trace)), (sym (u .0), sym (u .1)))
 

@@ -15,25 +15,38 @@ use Rattle.planner.proofs.plan_accepted.Tie as tie
 layout-of-requires : tie.Need-layout-of-requires
 layout-of-requires c κs = search needs
 
+-- Places: what stands before a need, by name. Written by `named`: run it again when the code changes.
+abbrev start-from-layout-of : tie.After-layout-of → tie.Start
+start-from-layout-of c = c .before .before .before .before
+
+abbrev start-from-else2 : tie.Else2 → tie.Start
+start-from-else2 c = start-from-layout-of (c .before .before .before)
+
+abbrev run-from-returns-3 : tie.After-answer-of → tie.After-run
+run-from-returns-3 c = c .before .before .before .before .before
+
 returns : tie.Need-returns
 returns c =
-    let s = now (c .before .before .before .before .before .before .args .s) in
-    let w = c .before .before .before .before .before .before .args .words in
-    let work = now (c .before .before .before .before .before .before .args .work) in
-    let trace = now (c .before .before .before .before .before .before .args .trace) in
-    let p = c .before .before .before .before .before .before .pre in
+    let at-start = start-from-layout-of (c .before .before) in
+    let s = now (at-start .args .s) in
+    let w = at-start .args .words in
+    let work = now (at-start .args .work) in
+    let trace = now (at-start .args .trace) in
+    let p = at-start .pre in
     let e = ap (λ (l : Layout). l .d) (c .before .before .layout-of .ensures .0) in
     let r = ten s w p work trace (omega (arith, e, c .if1 .taken)) in
     (sym (r .0), (sym (r .1), sym (r .2)))
 
 returns-2 : tie.Need-returns-2
 returns-2 c =
-    let s = now (c .before .before .before .before .before .before .before .args .s) in
-    let w = c .before .before .before .before .before .before .before .args .words in
-    let work = now (c .before .before .before .before .before .before .before .args .work) in
-    let trace = now (c .before .before .before .before .before .before .before .args .trace) in
-    let p = c .before .before .before .before .before .before .before .pre in
-    let e = ap (λ (l : Layout). l .d) (c .before .before .before .layout-of .ensures .0) in
+    let at-layout-of = c .before .before .before in
+    let at-start = start-from-layout-of at-layout-of in
+    let s = now (at-start .args .s) in
+    let w = at-start .args .words in
+    let work = now (at-start .args .work) in
+    let trace = now (at-start .args .trace) in
+    let p = at-start .pre in
+    let e = ap (λ (l : Layout). l .d) (at-layout-of .layout-of .ensures .0) in
     let r = eleven s w p work (c .if2 .taken) trace (omega (arith, e, c .before .if1 .left)) in
     (sym (r .0), (sym (r .1), sym (r .2)))
 
@@ -47,17 +60,23 @@ slice-relend-prefix-run : tie.Need-slice-relend-prefix-run
 slice-relend-prefix-run c = search needs
 
 slice-aggregate-run-2 : tie.Need-slice-aggregate-run-2
-slice-aggregate-run-2 c = sym (length-take-le (c .before .before .before .before .before .before .before .before .before .args .words) (now (c .before .before .before .before .before .before .before .before .before .args .work)) (c .before .before .if2 .left))
+slice-aggregate-run-2 c =
+    let at-start = start-from-else2 (c .before .before) in
+    sym (length-take-le (at-start .args .words) (now (at-start .args .work)) (c .before .before .if2 .left))
 
 run-requires : tie.Need-run-requires
 run-requires c κs =
-    let s = now (c .before .before .before .before .before .before .before .before .before .before .args .s) in
-    let w = c .before .before .before .before .before .before .before .before .before .before .args .words in
-    let work = now (c .before .before .before .before .before .before .before .before .before .before .args .work) in
-    let trace = now (c .before .before .before .before .before .before .before .before .before .before .args .trace) in
-    let p = c .before .before .before .before .before .before .before .before .before .before .pre in
-    let e = ap (λ (l : Layout). l .d) (c .before .before .before .before .before .before .layout-of .ensures .0) in
-    (((w, p), c .before .before .before .before .before .before .layout-of .ensures .0), (length-take-le w work (c .before .before .before .if2 .left) ∙ ruled s (w, p) .figure, omega (arith, e, c .before .before .before .before .if1 .left)))
+    let at-if2 = c .before .before .before in
+    let at-if1 = at-if2 .before in
+    let at-layout-of = at-if1 .before .before in
+    let at-start = start-from-layout-of at-layout-of in
+    let s = now (at-start .args .s) in
+    let w = at-start .args .words in
+    let work = now (at-start .args .work) in
+    let trace = now (at-start .args .trace) in
+    let p = at-start .pre in
+    let e = ap (λ (l : Layout). l .d) (at-layout-of .layout-of .ensures .0) in
+    (((w, p), at-layout-of .layout-of .ensures .0), (length-take-le w work (at-if2 .if2 .left) ∙ ruled s (w, p) .figure, omega (arith, e, at-if1 .if1 .left)))
 
 answer-of-requires : tie.Need-answer-of-requires
 answer-of-requires c κs = search needs
@@ -70,14 +89,25 @@ same-length-2 c = search needs
 
 returns-3 : tie.Need-returns-3
 returns-3 c =
-    let s = now (c .before .before .before .before .before .before .before .before .before .before .before .before .before .before .before .before .args .s) in
-    let w = c .before .before .before .before .before .before .before .before .before .before .before .before .before .before .before .before .args .words in
-    let work = now (c .before .before .before .before .before .before .before .before .before .before .before .before .before .before .before .before .args .work) in
-    let trace = now (c .before .before .before .before .before .before .before .before .before .before .before .before .before .before .before .before .args .trace) in
-    let p = c .before .before .before .before .before .before .before .before .before .before .before .before .before .before .before .before .pre in
-    let e = ap (λ (l : Layout). l .d) (c .before .before .before .before .before .before .before .before .before .before .before .before .layout-of .ensures .0) in
-    let r = planning s w p work trace (c .before .before .before .before .before .before .before .before .before .if2 .left) (omega (arith, e, c .before .before .before .before .before .before .before .before .before .before .if1 .left)) (c .before .before .before .before .before .run .last .1 .1 .1 .1 .1 .0) (c .before .before .before .before .before .run .result) (c .before .before .before .before .before .run .ensures .0) in
-    (c .answer-of .ensures ∙ r .0, (r .1, cleared w work _ (c .before .before .before .before .before .run .ensures .1) (c .before .before .before .before .before .before .before .before .before .if2 .left) ∙ sym (plan-cleared s w p work (c .before .before .before .before .before .before .before .before .before .if2 .left) trace (omega (arith, e, c .before .before .before .before .before .before .before .before .before .before .if1 .left)))))
+    let at-run = run-from-returns-3 c in
+    let at-if2 = at-run .before .before .before .before in
+    let at-if1 = at-if2 .before in
+    let at-layout-of = at-if1 .before .before in
+    let at-start = start-from-layout-of at-layout-of in
+    let s = now (at-start .args .s) in
+    let w = at-start .args .words in
+    let work = now (at-start .args .work) in
+    let trace = now (at-start .args .trace) in
+    let p = at-start .pre in
+    let e = ap (λ (l : Layout). l .d) (at-layout-of .layout-of .ensures .0) in
+    let r = planning s w p work trace (at-if2 .if2 .left) (omega (arith, e, at-if1 .if1 .left)) (at-run .run .last .1 .1 .1 .1 .1 .0) (at-run .run .result) (at-run .run .ensures .0) in (
+      c .answer-of .ensures ∙ r .0,
+      (
+        r .1,
+        cleared w work _ (at-run .run .ensures .1) (at-if2 .if2 .left) ∙ sym
+            (plan-cleared s w p work (at-if2 .if2 .left) trace (omega (arith, e, at-if1 .if1 .left))),
+      ),
+    )
 
 pub plan-accepted-spec : {M : Type 1} → statement M
 plan-accepted-spec =

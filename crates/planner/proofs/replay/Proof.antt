@@ -27,10 +27,12 @@ returns c = search needs
 
 returns-2 : tie.Need-returns-2
 returns-2 c =
-    let s = now (c .before .before .before .before .before .before .before .args .s) in
-    let h = now (c .before .before .before .before .before .before .before .args .history) in
-    let work = now (c .before .before .before .before .before .before .before .args .work) in
-    let q = sym (c .before .before .before .check .ensures) ∙ c .before .number .given .1 in
+    let at-check = c .before .before .before in
+    let at-start = at-check .before .before .before .before in
+    let s = now (at-start .args .s) in
+    let h = now (at-start .args .history) in
+    let work = now (at-start .args .work) in
+    let q = sym (at-check .check .ensures) ∙ c .before .number .given .1 in
     let u = sheet-untouched s _ _ q work work in
     (sym (sheet-refused-reply s _ _ q h (length work)), sym (u .2))
 

@@ -12,13 +12,21 @@ use Rattle.planner.proofs.replay_accepted.Tie as tie
 layout-of-requires : tie.Need-layout-of-requires
 layout-of-requires c κs = search needs
 
+-- Places: what stands before a need, by name. Written by `named`: run it again when the code changes.
+abbrev start-from-layout-of : tie.After-layout-of → tie.Start
+start-from-layout-of c = c .before .before .before .before
+
+abbrev start-from-else1 : tie.Else1 → tie.Start
+start-from-else1 c = start-from-layout-of (c .before)
+
 returns : tie.Need-returns
 returns c =
-    let s = now (c .before .before .before .before .before .args .s) in
-    let h = now (c .before .before .before .before .before .args .history) in
-    let w = c .before .before .before .before .before .args .words in
-    let work = now (c .before .before .before .before .before .args .work) in
-    let p = c .before .before .before .before .before .pre in
+    let at-start = start-from-layout-of (c .before) in
+    let s = now (at-start .args .s) in
+    let h = now (at-start .args .history) in
+    let w = at-start .args .words in
+    let work = now (at-start .args .work) in
+    let p = at-start .pre in
     let r = eleven-reply s w p work (c .if1 .taken) h in
     (sym (r .0), sym (r .1))
 
@@ -26,20 +34,24 @@ slice-relend-prefix-run : tie.Need-slice-relend-prefix-run
 slice-relend-prefix-run c = search needs
 
 slice-aggregate-run : tie.Need-slice-aggregate-run
-slice-aggregate-run c = sym (length-take-le (c .before .before .before .before .before .before .args .words) (now (c .before .before .before .before .before .before .args .work)) (c .before .if1 .left))
+slice-aggregate-run c =
+    let at-start = start-from-else1 (c .before) in
+    sym (length-take-le (at-start .args .words) (now (at-start .args .work)) (c .before .if1 .left))
 
 slice-aggregate-run-2 : tie.Need-slice-aggregate-run-2
 slice-aggregate-run-2 c = search needs
 
 run-requires : tie.Need-run-requires
 run-requires c κs =
-    let s = now (c .before .before .before .before .before .before .before .args .s) in
-    let h = now (c .before .before .before .before .before .before .before .args .history) in
-    let w = c .before .before .before .before .before .before .before .args .words in
-    let work = now (c .before .before .before .before .before .before .before .args .work) in
-    let p = c .before .before .before .before .before .before .before .pre in
+    let at-layout-of = c .before .before .before in
+    let at-start = start-from-layout-of at-layout-of in
+    let s = now (at-start .args .s) in
+    let h = now (at-start .args .history) in
+    let w = at-start .args .words in
+    let work = now (at-start .args .work) in
+    let p = at-start .pre in
     let f = laid s (w, p) in
-    (((w, p), c .before .before .before .layout-of .ensures .0), (length-take-le w work (c .before .before .if1 .left) ∙ ruled s (w, p) .figure, f .d))
+    (((w, p), at-layout-of .layout-of .ensures .0), (length-take-le w work (c .before .before .if1 .left) ∙ ruled s (w, p) .figure, f .d))
 
 reply-of-requires : tie.Need-reply-of-requires
 reply-of-requires c κs = search needs
@@ -49,13 +61,16 @@ same-length c = search needs
 
 returns-2 : tie.Need-returns-2
 returns-2 c =
-    let s = now (c .before .before .before .before .before .before .before .before .before .before .before .before .args .s) in
-    let h = now (c .before .before .before .before .before .before .before .before .before .before .before .before .args .history) in
-    let w = c .before .before .before .before .before .before .before .before .before .before .before .before .args .words in
-    let work = now (c .before .before .before .before .before .before .before .before .before .before .before .before .args .work) in
-    let p = c .before .before .before .before .before .before .before .before .before .before .before .before .pre in
-    let r = replaying s w p work (c .before .before .before .before .before .before .before .if1 .left) h _ _ (c .before .before .before .before .run .result) (c .before .before .before .before .run .ensures .0) in
-    (c .reply-of .ensures ∙ r, cleared w work _ (c .before .before .before .before .run .ensures .1) (c .before .before .before .before .before .before .before .if1 .left) ∙ sym (replay-cleared s w p work (c .before .before .before .before .before .before .before .if1 .left)))
+    let at-run = c .before .before .before .before in
+    let at-if1 = at-run .before .before .before in
+    let at-start = start-from-else1 at-if1 in
+    let s = now (at-start .args .s) in
+    let h = now (at-start .args .history) in
+    let w = at-start .args .words in
+    let work = now (at-start .args .work) in
+    let p = at-start .pre in
+    let r = replaying s w p work (at-if1 .if1 .left) h _ _ (at-run .run .result) (at-run .run .ensures .0) in
+    (c .reply-of .ensures ∙ r, cleared w work _ (at-run .run .ensures .1) (at-if1 .if1 .left) ∙ sym (replay-cleared s w p work (at-if1 .if1 .left)))
 
 pub replay-accepted-spec : {M : Type 1} → statement M
 replay-accepted-spec =

@@ -20,10 +20,18 @@ same-length c = search needs
 same-length-2 : tie.Need-same-length-2
 same-length-2 c = search needs
 
+-- Places: what stands before a need, by name. Written by `named`: run it again when the code changes.
+abbrev plan-from-m : tie.After-m → tie.After-plan
+plan-from-m c = c .before .before .before .before .before .before
+
+abbrev plan-from-moves : tie.After-moves → tie.After-plan
+plan-from-moves c = c .before .before .before .before .before .before
+
 returns : tie.Need-returns
 returns c =
-    let q = sym (c .before .before .before .before .before .before .before .plan .ensures .0) ∙ c .before .moves .given .1 in
-    (sym (ap planNumber q), ((sym (ap planMoves q), sym (ap planTransitions q), sym (ap planPlace q)), (c .before .before .before .before .before .before .before .plan .ensures .1 .0, c .before .before .before .before .before .before .before .plan .ensures .1 .1)))
+    let at-plan = plan-from-moves (c .before) in
+    let q = sym (at-plan .plan .ensures .0) ∙ c .before .moves .given .1 in
+    (sym (ap planNumber q), ((sym (ap planMoves q), sym (ap planTransitions q), sym (ap planPlace q)), (at-plan .plan .ensures .1 .0, at-plan .plan .ensures .1 .1)))
 
 same-length-3 : tie.Need-same-length-3
 same-length-3 c = search needs
@@ -33,8 +41,9 @@ same-length-4 c = search needs
 
 returns-2 : tie.Need-returns-2
 returns-2 c =
-    let q = sym (c .before .before .before .before .before .before .before .plan .ensures .0) ∙ c .before .m .given .1 in
-    (sym (ap planNumber q), ((sym (ap planMoves q), sym (ap planTransitions q), sym (ap planPlace q)), (c .before .before .before .before .before .before .before .plan .ensures .1 .0, c .before .before .before .before .before .before .before .plan .ensures .1 .1)))
+    let at-plan = plan-from-m (c .before) in
+    let q = sym (at-plan .plan .ensures .0) ∙ c .before .m .given .1 in
+    (sym (ap planNumber q), ((sym (ap planMoves q), sym (ap planTransitions q), sym (ap planPlace q)), (at-plan .plan .ensures .1 .0, at-plan .plan .ensures .1 .1)))
 
 pub planner-plan-spec : {M : Type 1} → statement M
 planner-plan-spec =

@@ -22,24 +22,31 @@ same-length c = search needs
 
 returns : tie.Need-returns
 returns c =
-    let q = sym (c .before .before .before .before .replay .ensures .0) ∙ c .enum-told .given .1 in
-    (sym (ap replyNumber q), ((sym (ap replyYes q), sym (ap replyPlace q)), c .before .before .before .before .replay .ensures .1))
+    let at-replay = c .before .before .before .before in
+    let q = sym (at-replay .replay .ensures .0) ∙ c .enum-told .given .1 in
+    (sym (ap replyNumber q), ((sym (ap replyYes q), sym (ap replyPlace q)), at-replay .replay .ensures .1))
 
 same-length-2 : tie.Need-same-length-2
 same-length-2 c = search needs
 
 returns-2 : tie.Need-returns-2
 returns-2 c =
-    let q = sym (c .before .before .before .before .replay .ensures .0) ∙ c .enum-told2 .given .1 in
-    (sym (ap replyNumber q), ((sym (ap replyYes q), sym (ap replyPlace q)), c .before .before .before .before .replay .ensures .1))
+    let at-replay = c .before .before .before .before in
+    let q = sym (at-replay .replay .ensures .0) ∙ c .enum-told2 .given .1 in
+    (sym (ap replyNumber q), ((sym (ap replyYes q), sym (ap replyPlace q)), at-replay .replay .ensures .1))
 
 same-length-3 : tie.Need-same-length-3
 same-length-3 c = search needs
 
+-- Places: what stands before a need, by name. Written by `named`: run it again when the code changes.
+abbrev replay-from-n : tie.After-n → tie.After-replay
+replay-from-n c = c .before .before .before .before
+
 returns-3 : tie.Need-returns-3
 returns-3 c =
-    let q = sym (c .before .before .before .before .before .replay .ensures .0) ∙ c .before .n .given .1 in
-    (sym (ap replyNumber q), ((sym (ap replyYes q), sym (ap replyPlace q)), c .before .before .before .before .before .replay .ensures .1))
+    let at-replay = replay-from-n (c .before) in
+    let q = sym (at-replay .replay .ensures .0) ∙ c .before .n .given .1 in
+    (sym (ap replyNumber q), ((sym (ap replyYes q), sym (ap replyPlace q)), at-replay .replay .ensures .1))
 
 pub planner-replay-spec : {M : Type 1} → statement M
 planner-replay-spec =

@@ -42,9 +42,11 @@ loop-less c = omega (arith, c .before .before .loop .inv .1)
 
 loop-again : tie.Need-loop-again Inv-loop μ-loop
 loop-again c =
-    let I = c .before .before .loop .inv in
-    let l : c .before .before .loop .i < length (c .before .before .loop .to) = omega (arith, I .1) in
-    (omega (arith, I .1), simp length-set (I .1), same-more (now (c .before .before .before .args .«from»)) (c .before .before .loop .to) (c .before .before .loop .i) (I .2) l)
+    let at-loop = c .before .before in
+    let at-start = at-loop .before in
+    let I = at-loop .loop .inv in
+    let l : at-loop .loop .i < length (at-loop .loop .to) = omega (arith, I .1) in
+    (omega (arith, I .1), simp length-set (I .1), same-more (now (at-start .args .«from»)) (at-loop .loop .to) (at-loop .loop .i) (I .2) l)
 
 same-length : tie.Need-same-length Inv-loop μ-loop
 same-length c = c .before .loop .inv .1 ∙ sym (c .before .before .pre)

@@ -14,36 +14,41 @@ use Rattle.search.proofs.endable_of.Tie as tie
 
 sub-bounds : tie.Need-sub-bounds
 sub-bounds c =
-    let p = c .before .before .pre in
-    let f = fits-of (now (c .before .before .args .s)) (c .before .before .args .t .layout) (p .accepted, p .layout-is) in
+    let at-start = c .before .before in
+    let p = at-start .pre in
+    let f = fits-of (now (at-start .args .s)) (at-start .args .t .layout) (p .accepted, p .layout-is) in
     omega (arith, f .at-formulas, f .at-effects, f .at-actions, f .at-programs, f .at-end, f .inside)
 
 part-bounds-start : tie.Need-part-bounds-start
 part-bounds-start c =
-    let p = c .before .before .pre in
-    let f = fits-of (now (c .before .before .args .s)) (c .before .before .args .t .layout) (p .accepted, p .layout-is) in
+    let at-start = c .before .before in
+    let p = at-start .pre in
+    let f = fits-of (now (at-start .args .s)) (at-start .args .t .layout) (p .accepted, p .layout-is) in
     omega (arith, f .at-formulas, f .at-effects, f .at-actions, f .at-programs, f .at-end, f .inside)
 
 part-bounds-end : tie.Need-part-bounds-end
 part-bounds-end c =
-    let p = c .before .before .pre in
-    let f = fits-of (now (c .before .before .args .s)) (c .before .before .args .t .layout) (p .accepted, p .layout-is) in
+    let at-start = c .before .before in
+    let p = at-start .pre in
+    let f = fits-of (now (at-start .args .s)) (at-start .args .t .layout) (p .accepted, p .layout-is) in
     omega (arith, f .at-formulas, f .at-effects, f .at-actions, f .at-programs, f .at-end, f .inside)
 
 bounds-requires : tie.Need-bounds-requires
 bounds-requires c κs =
-    let s = now (c .before .before .before .args .s) in
-    let l = c .before .before .before .args .t .layout in
-    let p = c .before .before .before .pre in
+    let at-start = c .before .before .before in
+    let s = now (at-start .args .s) in
+    let l = at-start .args .t .layout in
+    let p = at-start .pre in
     let f = fits-of s l (p .accepted, p .layout-is) in
     let n = part-length s (l .programs) (l .end) (omega (arith, f .at-end)) (omega (arith, f .inside)) in
     ((omega (arith, n, f .at-end), f .some-record, f .p), by-task p (λ (l : Layout) (b : Bool). AllLower (runs s l b)) (all-lower s (p .accepted)))
 
 returns : tie.Need-returns
 returns c =
-    let s = now (c .before .before .before .before .args .s) in
+    let at-start = c .before .before .before .before in
+    let s = now (at-start .args .s) in
     let r = c .bounds .result in
-    (of-task (c .before .before .before .before .pre) (λ (l : Layout) (b : Bool). Endable (runs s l b) (places b (l .p)) r) (c .bounds .ensures .0), c .bounds .ensures .1)
+    (of-task (at-start .pre) (λ (l : Layout) (b : Bool). Endable (runs s l b) (places b (l .p)) r) (c .bounds .ensures .0), c .bounds .ensures .1)
 
 pub endable-of-spec : {M : Type 1} → statement M
 endable-of-spec =

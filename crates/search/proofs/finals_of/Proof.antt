@@ -20,41 +20,58 @@ use borrow.Author.Needs.{needs}
 use Rattle.search.proofs.finals_of.Statement.{statement}
 use Rattle.search.proofs.finals_of.Tie as tie
 
+-- Places: what stands before a need, by name. Written by `named`: run it again when the code changes.
+abbrev start-from-copy-flags-requires : tie.After-copy-flags-arg → tie.Start
+start-from-copy-flags-requires c = c .before .before .before .before .before .before .before
+
+abbrev start-from-copy-flags : tie.After-copy-flags → tie.Start
+start-from-copy-flags c = start-from-copy-flags-requires (c .before)
+
+abbrev start-from-finals-in : tie.After-finals-in → tie.Start
+start-from-finals-in c = start-from-copy-flags (c .before .before .before .before .before)
+
 copy-flags-requires : tie.Need-copy-flags-requires
-copy-flags-requires c κs = c .before .before .before .before .before .before .before .pre .2 ∙ sym (c .before .before .before .before .before .before .before .pre .1 .full)
+copy-flags-requires c κs =
+    let at-start = start-from-copy-flags-requires c in
+    at-start .pre .2 ∙ sym (at-start .pre .1 .full)
 
 sub-finals-in : tie.Need-sub-finals-in
 sub-finals-in c =
-    let p = c .before .before .before .before .before .before .before .before .before .before .pre .0 in
-    let f = fits-of (now (c .before .before .before .before .before .before .before .before .before .before .args .s)) (c .before .before .before .before .before .before .before .before .before .before .args .t .layout) (p .accepted, p .layout-is) in
+    let at-start = start-from-copy-flags (c .before .before) in
+    let p = at-start .pre .0 in
+    let f = fits-of (now (at-start .args .s)) (at-start .args .t .layout) (p .accepted, p .layout-is) in
     omega (arith, f .at-formulas, f .at-effects, f .at-actions, f .at-programs, f .at-end, f .inside)
 
 part-finals-in-start : tie.Need-part-finals-in-start
 part-finals-in-start c =
-    let p = c .before .before .before .before .before .before .before .before .before .before .pre .0 in
-    let f = fits-of (now (c .before .before .before .before .before .before .before .before .before .before .args .s)) (c .before .before .before .before .before .before .before .before .before .before .args .t .layout) (p .accepted, p .layout-is) in
+    let at-start = start-from-copy-flags (c .before .before) in
+    let p = at-start .pre .0 in
+    let f = fits-of (now (at-start .args .s)) (at-start .args .t .layout) (p .accepted, p .layout-is) in
     omega (arith, f .at-formulas, f .at-effects, f .at-actions, f .at-programs, f .at-end, f .inside)
 
 part-finals-in-end : tie.Need-part-finals-in-end
 part-finals-in-end c =
-    let p = c .before .before .before .before .before .before .before .before .before .before .pre .0 in
-    let f = fits-of (now (c .before .before .before .before .before .before .before .before .before .before .args .s)) (c .before .before .before .before .before .before .before .before .before .before .args .t .layout) (p .accepted, p .layout-is) in
+    let at-start = start-from-copy-flags (c .before .before) in
+    let p = at-start .pre .0 in
+    let f = fits-of (now (at-start .args .s)) (at-start .args .t .layout) (p .accepted, p .layout-is) in
     omega (arith, f .at-formulas, f .at-effects, f .at-actions, f .at-programs, f .at-end, f .inside)
 
 finals-in-requires : tie.Need-finals-in-requires
 finals-in-requires c κs =
-    let s = now (c .before .before .before .before .before .before .before .before .before .before .before .before .args .s) in
-    let l = c .before .before .before .before .before .before .before .before .before .before .before .before .args .t .layout in
-    let p = c .before .before .before .before .before .before .before .before .before .before .before .before .pre .0 in
-    let M = c .before .before .before .before .before .before .before .before .before .before .before .before .pre .1 in
+    let at-copy-flags = c .before .before .before .before in
+    let at-start = start-from-copy-flags at-copy-flags in
+    let s = now (at-start .args .s) in
+    let l = at-start .args .t .layout in
+    let p = at-start .pre .0 in
+    let M = at-start .pre .1 in
     let f = fits-of s l (p .accepted, p .layout-is) in
     let n = part-length s (l .programs) (l .end) (omega (arith, f .at-end)) (omega (arith, f .inside)) in
-    let e = c .before .before .before .before .copy-flags .ensures in (
+    let e = at-copy-flags .copy-flags .ensures in (
       (omega (arith, n, f .at-end), f .some-record, f .p),
       (
         by-task p (λ (l : Layout) (b : Bool). AllLower (runs s l b)) (all-lower s (p .accepted)),
-        by-task p (λ (l : Layout) (b : Bool). Skips (runs s l b) (places b (l .p)) (c .before .before .before .before .copy-flags .last .1 .0) (now (c .before .before .before .before .before .before .before .before .before .before .before .before .args .skips)))
-            (subst (λ (l : List Bool). Skips (heldRecords s) (places (interruptsIn s) (layoutOf s .p)) l (now (c .before .before .before .before .before .before .before .before .before .before .before .before .args .skips))) (sym e) (M .skipping)),
+        by-task p (λ (l : Layout) (b : Bool). Skips (runs s l b) (places b (l .p)) (at-copy-flags .copy-flags .last .1 .0) (now (at-start .args .skips)))
+            (subst (λ (l : List Bool). Skips (heldRecords s) (places (interruptsIn s) (layoutOf s .p)) l (now (at-start .args .skips))) (sym e) (M .skipping)),
         ap length e ∙ M .full,
       ),
     )
@@ -64,9 +81,12 @@ same-length c = search needs
 
 returns : tie.Need-returns
 returns c =
-    let s = now (c .before .before .before .before .before .before .before .before .before .before .before .before .before .before .before .args .s) in
-    let held = now (c .before .before .before .before .before .before .before .before .before .before .before .before .before .before .before .args .held) in
-    of-task (c .before .before .before .before .before .before .before .before .before .before .before .before .before .before .before .pre .0) (λ (l : Layout) (b : Bool). Decides (runs s l b) (places b (l .p)) held (c .before .before .before .before .before .before .before .before .before .before .before .before .before .before .before .args .running) (c .before .before .finals-in .last .1 .1 .1 .1 .1 .1 .0)) (c .before .before .finals-in .ensures)
+    let at-finals-in = c .before .before in
+    let at-start = start-from-finals-in at-finals-in in
+    let s = now (at-start .args .s) in
+    let held = now (at-start .args .held) in
+    of-task (at-start .pre .0) (λ (l : Layout) (b : Bool). Decides (runs s l b) (places b (l .p)) held (at-start .args .running) (at-finals-in .finals-in .last .1 .1 .1 .1 .1 .1 .0))
+    (at-finals-in .finals-in .ensures)
 
 pub finals-of-spec : {M : Type 1} → statement M
 finals-of-spec =

@@ -45,15 +45,19 @@ loop-less c = search needs
 
 loop-again : tie.Need-loop-again Inv-loop μ-loop
 loop-again c =
-    let b = c .before .before .before .loop .inv .1 in
-    (omega arith, more 0 (firsts (now (c .before .before .before .before .before .args .fluents))) (λ (v : ℕ). v) 32 b (omega arith) (c .byte .ensures ∙ ap (λ (r : Fluent). r .initial) (c .before .fluent-at .ensures .0)))
+    let at-loop = c .before .before .before in
+    let at-start = at-loop .before .before in
+    let b = at-loop .loop .inv .1 in
+    (omega arith, more 0 (firsts (now (at-start .args .fluents))) (λ (v : ℕ). v) 32 b (omega arith) (c .byte .ensures ∙ ap (λ (r : Fluent). r .initial) (c .before .fluent-at .ensures .0)))
 
 returns : tie.Need-returns Inv-loop μ-loop
 returns c =
-    let f = firsts (now (c .before .before .before .args .fluents)) in
-    let x = c .before .loop .x in
-    let e = le-antisymm (c .before .loop .inv .0) (c .loop-test .left) in
-    let v : c .before .loop .values ≡ upTo f x ++ replicate (32 - x) 0 = c .before .loop .inv .1 .same ∙ ap (λ (l : List ℕ). l ++ replicate (32 - x) 0) (map-id (upTo f x)) in
+    let at-loop = c .before in
+    let at-start = at-loop .before .before in
+    let f = firsts (now (at-start .args .fluents)) in
+    let x = at-loop .loop .x in
+    let e = le-antisymm (at-loop .loop .inv .0) (c .loop-test .left) in
+    let v : at-loop .loop .values ≡ upTo f x ++ replicate (32 - x) 0 = at-loop .loop .inv .1 .same ∙ ap (λ (l : List ℕ). l ++ replicate (32 - x) 0) (map-id (upTo f x)) in
     ap (λ (l : List ℕ). record { values = l; running = false }) (v ∙ ap (λ (m : ℕ). upTo f m ++ replicate (32 - m) 0) e)
 
 pub initial-spec : {M : Type 1} → statement M

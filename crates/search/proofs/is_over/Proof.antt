@@ -10,10 +10,14 @@ use Rattle.search.proofs.is_over.Statement.{statement}
 use Rattle.search.proofs.is_over.Tie as tie
 
 returns : tie.Need-returns
-returns c = sym (ap (λ (l : List ℕ). isNil l && c .before .args .done) (next-move (now (c .before .args .moves)) (c .before .args .j) (c .if1 .taken)))
+returns c =
+    let at-start = c .before in
+    sym (ap (λ (l : List ℕ). isNil l && at-start .args .done) (next-move (now (at-start .args .moves)) (at-start .args .j) (c .if1 .taken)))
 
 returns-2 : tie.Need-returns-2
-returns-2 c = sym (ap (λ (l : List ℕ). isNil l && c .before .args .done) (no-move (now (c .before .args .moves)) (c .before .args .j) (c .if1 .left)))
+returns-2 c =
+    let at-start = c .before in
+    sym (ap (λ (l : List ℕ). isNil l && at-start .args .done) (no-move (now (at-start .args .moves)) (at-start .args .j) (c .if1 .left)))
 
 pub is-over-spec : {M : Type 1} → statement M
 is-over-spec = tie.close (tie.spec returns returns-2)

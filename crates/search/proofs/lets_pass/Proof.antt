@@ -12,7 +12,9 @@ use Rattle.search.proofs.lets_pass.Statement.{statement}
 use Rattle.search.proofs.lets_pass.Tie as tie
 
 returns : tie.Need-returns
-returns c = λ m k q. sym (ap (passes (c .before .args .free) (drop (c .before .args .j) (now (c .before .args .moves)))) (test-of m _ k q (c .if1 .taken)))
+returns c =
+    let at-start = c .before in
+    λ m k q. sym (ap (passes (at-start .args .free) (drop (at-start .args .j) (now (at-start .args .moves)))) (test-of m _ k q (c .if1 .taken)))
 
 mul-result : tie.Need-mul-result
 mul-result c = search needs
@@ -24,19 +26,23 @@ cast-result : tie.Need-cast-result
 cast-result c = omega (arith, c .shared-slice-known .given (c .before .before .before .args .j))
 
 returns-2 : tie.Need-returns-2
-returns-2 c = λ m k q.
-    let g = now (c .before .before .before .args .moves) in
-    let j = c .before .before .before .args .j in
-    let free = c .before .before .before .args .free in
-    let e = c .before .before .before .args .entry in
+returns-2 c =
+    let at-start = c .before .before .before in
+    λ m k q.
+    let g = now (at-start .args .moves) in
+    let j = at-start .args .j in
+    let free = at-start .args .free in
+    let e = at-start .args .entry in
     sym (ap (passes free (drop j g)) (move-of m e k q (c .before .before .if1 .left)) ∙ ap (λ (l : List ℕ). passes free l (some e)) (next-move g j (c .before .if2 .taken)))
 
 returns-3 : tie.Need-returns-3
-returns-3 c = λ m k q.
-    let g = now (c .before .before .args .moves) in
-    let j = c .before .before .args .j in
-    let free = c .before .before .args .free in
-    let e = c .before .before .args .entry in
+returns-3 c =
+    let at-start = c .before .before in
+    λ m k q.
+    let g = now (at-start .args .moves) in
+    let j = at-start .args .j in
+    let free = at-start .args .free in
+    let e = at-start .args .entry in
     sym (ap (passes free (drop j g)) (move-of m e k q (c .before .if1 .left)) ∙ ap (λ (l : List ℕ). passes free l (some e)) (no-move g j (c .if2 .left)))
 
 pub lets-pass-spec : {M : Type 1} → statement M

@@ -27,19 +27,29 @@ same-length : tie.Need-same-length
 same-length c = search needs
 
 returns : tie.Need-returns
-returns c = λ m k q.
-    let e = c .before .before .before .before .args .entry in
+returns c =
+    let at-start = c .before .before .before .before in
+    let trace = now (at-start .args .trace) in
+    λ m k q.
+    let e = at-start .args .entry in
     let z = move-of m e k q (λ x. omega (arith, x)) in
-    sym (ap (λ (m : Option ℕ). noted m (c .before .before .before .before .args .n) (c .before .before .before .before .args .o) (now (c .before .before .before .before .args .trace))) z ∙ ap (λ (b : Bool). cond b (set (now (c .before .before .before .before .args .trace)) (c .before .before .before .before .args .n) e) (now (c .before .before .before .before .args .trace))) (sym (c .before .found .ensures) ∙ c .if2 .taken))
+    sym (ap (λ (m : Option ℕ). noted m (at-start .args .n) (at-start .args .o) trace) z ∙ ap (λ (b : Bool). cond b (set trace (at-start .args .n) e) trace)
+    (sym (c .before .found .ensures) ∙ c .if2 .taken))
 
 returns-2 : tie.Need-returns-2
-returns-2 c = λ m k q.
-    let e = c .before .before .before .before .args .entry in
+returns-2 c =
+    let at-start = c .before .before .before .before in
+    let trace = now (at-start .args .trace) in
+    λ m k q.
+    let e = at-start .args .entry in
     let z = move-of m e k q (λ x. omega (arith, x)) in
-    sym (ap (λ (m : Option ℕ). noted m (c .before .before .before .before .args .n) (c .before .before .before .before .args .o) (now (c .before .before .before .before .args .trace))) z ∙ ap (λ (b : Bool). cond b (set (now (c .before .before .before .before .args .trace)) (c .before .before .before .before .args .n) e) (now (c .before .before .before .before .args .trace))) (sym (c .before .found .ensures) ∙ c .if2 .left))
+    sym (ap (λ (m : Option ℕ). noted m (at-start .args .n) (at-start .args .o) trace) z ∙ ap (λ (b : Bool). cond b (set trace (at-start .args .n) e) trace)
+    (sym (c .before .found .ensures) ∙ c .if2 .left))
 
 returns-3 : tie.Need-returns-3
-returns-3 c = λ m k q. sym (ap (λ (m : Option ℕ). noted m (c .before .before .args .n) (c .before .before .args .o) (now (c .before .before .args .trace))) (test-of m (c .before .before .args .entry) k q (omega arith)))
+returns-3 c =
+    let at-start = c .before .before in
+    λ m k q. sym (ap (λ (m : Option ℕ). noted m (at-start .args .n) (at-start .args .o) (now (at-start .args .trace))) (test-of m (at-start .args .entry) k q (omega arith)))
 
 pub note-spec : {M : Type 1} → statement M
 note-spec =

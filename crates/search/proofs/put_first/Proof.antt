@@ -20,33 +20,47 @@ use Rattle.search.proofs.put_first.Tie as tie
 
 sub-initial : tie.Need-sub-initial
 sub-initial c =
-    let T = c .before .before .before .before .pre .0 in
-    let s = now (c .before .before .before .before .args .s) in
-    let l = c .before .before .before .before .args .t .layout in
+    let at-start = c .before .before .before .before in
+    let T = at-start .pre .0 in
+    let s = now (at-start .args .s) in
+    let l = at-start .args .t .layout in
     let f = fits-of s l (T .accepted, T .layout-is) in
     omega (arith, f .at-formulas, f .at-effects, f .at-actions, f .at-programs, f .at-end, f .inside)
 
 part-initial-start : tie.Need-part-initial-start
 part-initial-start c =
-    let T = c .before .before .before .before .pre .0 in
-    let s = now (c .before .before .before .before .args .s) in
-    let l = c .before .before .before .before .args .t .layout in
+    let at-start = c .before .before .before .before in
+    let T = at-start .pre .0 in
+    let s = now (at-start .args .s) in
+    let l = at-start .args .t .layout in
     let f = fits-of s l (T .accepted, T .layout-is) in
     omega (arith, f .at-formulas, f .at-effects, f .at-actions, f .at-programs, f .at-end, f .inside)
 
 part-initial-end : tie.Need-part-initial-end
 part-initial-end c =
-    let T = c .before .before .before .before .pre .0 in
-    let s = now (c .before .before .before .before .args .s) in
-    let l = c .before .before .before .before .args .t .layout in
+    let at-start = c .before .before .before .before in
+    let T = at-start .pre .0 in
+    let s = now (at-start .args .s) in
+    let l = at-start .args .t .layout in
     let f = fits-of s l (T .accepted, T .layout-is) in
     omega (arith, f .at-formulas, f .at-effects, f .at-actions, f .at-programs, f .at-end, f .inside)
 
+-- Places: what stands before a need, by name. Written by `named`: run it again when the code changes.
+abbrev start-from-initial-requires : tie.After-initial-arg → tie.Start
+start-from-initial-requires c = c .before .before .before .before .before
+
+abbrev start-from-initial : tie.After-initial → tie.Start
+start-from-initial c = start-from-initial-requires (c .before)
+
+abbrev start-from-write-state : tie.After-write-state → tie.Start
+start-from-write-state c = start-from-initial (c .before)
+
 initial-requires : tie.Need-initial-requires
 initial-requires c κs =
-    let T = c .before .before .before .before .before .pre .0 in
-    let s = now (c .before .before .before .before .before .args .s) in
-    let l = c .before .before .before .before .before .args .t .layout in
+    let at-start = start-from-initial-requires c in
+    let T = at-start .pre .0 in
+    let s = now (at-start .args .s) in
+    let l = at-start .args .t .layout in
     let f = fits-of s l (T .accepted, T .layout-is) in
     let n = part-length s (l .fluents) (l .formulas) (omega (arith, f .at-formulas)) (omega (arith, f .at-effects, f .at-actions, f .at-programs, f .at-end, f .inside)) in
     (omega (arith, n, f .at-formulas), f .f)
@@ -56,9 +70,10 @@ write-state-requires c κs = search needs
 
 top-of-requires : tie.Need-top-of-requires
 top-of-requires c κs =
-    let T = c .before .before .before .before .before .before .before .before .before .before .pre .0 in
-    let s = now (c .before .before .before .before .before .before .before .before .before .before .args .s) in
-    let l = c .before .before .before .before .before .before .before .before .before .before .args .t .layout in
+    let at-start = start-from-write-state (c .before .before .before) in
+    let T = at-start .pre .0 in
+    let s = now (at-start .args .s) in
+    let l = at-start .args .t .layout in
     let f = fits-of s l (T .accepted, T .layout-is) in
     (f .some-record, f .p)
 
@@ -70,17 +85,23 @@ same-length c = search needs
 
 returns : tie.Need-returns
 returns c =
-    let T = c .before .before .before .before .before .before .before .before .before .before .before .before .before .before .pre .0 in
-    let s = now (c .before .before .before .before .before .before .before .before .before .before .before .before .before .before .args .s) in
-    let l = c .before .before .before .before .before .before .before .before .before .before .before .before .before .before .args .t .layout in
+    let at-put-node = c .before .before in
+    let at-top-of = at-put-node .before in
+    let at-write-state = at-top-of .before .before .before .before in
+    let at-initial = at-write-state .before in
+    let at-start = start-from-initial at-initial in
+    let T = at-start .pre .0 in
+    let s = now (at-start .args .s) in
+    let l = at-start .args .t .layout in
     let f = fits-of s l (T .accepted, T .layout-is) in
-    let W = c .before .before .before .before .before .before .before .write-state .ensures in
-    let N = c .before .before .put-node .ensures in
-    let e = c .before .before .before .before .before .before .before .before .initial .ensures ∙ ap (λ (l : Layout). startingWith (fluentsIn s l) (l .f)) (T .layout-is) in
-    let i = c .before .before .before .top-of .ensures .0 ∙ ap₂ (λ (b : Bool) (l : Layout). top b (l .p)) (T .interrupts-are) (T .layout-is) in
-    let a = put-leaf 64 (c .before .before .before .top-of .result) (c .before .before .before .before .before .before .before .write-state .last .0) (c .before .before .put-node .last .0) N (omega (arith, W .len, c .before .before .before .before .before .before .before .before .before .before .before .before .before .before .pre .1)) in
-    let S = state-kept (c .before .before .before .before .before .before .before .before .initial .result) (c .before .before .before .before .before .before .before .write-state .last .0) (c .before .before .put-node .last .0) 0 (W .stands) (omega (arith, W .len, N .len, c .before .before .before .before .before .before .before .before .before .before .before .before .before .before .pre .1)) (λ k u h. N .below k (omega arith)) in
-    (record { program = subst (λ (k : ℕ). At (leaf k) (c .before .before .put-node .last .0) 64) i a; state = subst (λ (z : State). StateAt z (c .before .before .put-node .last .0) 0) e S }, N .len ∙ W .len)
+    let W = at-write-state .write-state .ensures in
+    let N = at-put-node .put-node .ensures in
+    let e = at-initial .initial .ensures ∙ ap (λ (l : Layout). startingWith (fluentsIn s l) (l .f)) (T .layout-is) in
+    let i = at-top-of .top-of .ensures .0 ∙ ap₂ (λ (b : Bool) (l : Layout). top b (l .p)) (T .interrupts-are) (T .layout-is) in
+    let a = put-leaf 64 (at-top-of .top-of .result) (at-write-state .write-state .last .0) (at-put-node .put-node .last .0) N (omega (arith, W .len, at-start .pre .1)) in
+    let S = state-kept (at-initial .initial .result) (at-write-state .write-state .last .0) (at-put-node .put-node .last .0) 0 (W .stands) (omega (arith, W .len, N .len, at-start .pre .1))
+    (λ k u h. N .below k (omega arith)) in
+    (record { program = subst (λ (k : ℕ). At (leaf k) (at-put-node .put-node .last .0) 64) i a; state = subst (λ (z : State). StateAt z (at-put-node .put-node .last .0) 0) e S }, N .len ∙ W .len)
 
 pub put-first-spec : {M : Type 1} → statement M
 put-first-spec =

@@ -14,45 +14,54 @@ use Rattle.search.proofs.skips_of.Tie as tie
 
 sub-skips : tie.Need-sub-skips
 sub-skips c =
-    let p = c .before .before .before .pre .0 in
-    let f = fits-of (now (c .before .before .before .args .s)) (c .before .before .before .args .t .layout) (p .accepted, p .layout-is) in
+    let at-start = c .before .before .before in
+    let p = at-start .pre .0 in
+    let f = fits-of (now (at-start .args .s)) (at-start .args .t .layout) (p .accepted, p .layout-is) in
     omega (arith, f .at-formulas, f .at-effects, f .at-actions, f .at-programs, f .at-end, f .inside)
 
 part-skips-start : tie.Need-part-skips-start
 part-skips-start c =
-    let p = c .before .before .before .pre .0 in
-    let f = fits-of (now (c .before .before .before .args .s)) (c .before .before .before .args .t .layout) (p .accepted, p .layout-is) in
+    let at-start = c .before .before .before in
+    let p = at-start .pre .0 in
+    let f = fits-of (now (at-start .args .s)) (at-start .args .t .layout) (p .accepted, p .layout-is) in
     omega (arith, f .at-formulas, f .at-effects, f .at-actions, f .at-programs, f .at-end, f .inside)
 
 part-skips-end : tie.Need-part-skips-end
 part-skips-end c =
-    let p = c .before .before .before .pre .0 in
-    let f = fits-of (now (c .before .before .before .args .s)) (c .before .before .before .args .t .layout) (p .accepted, p .layout-is) in
+    let at-start = c .before .before .before in
+    let p = at-start .pre .0 in
+    let f = fits-of (now (at-start .args .s)) (at-start .args .t .layout) (p .accepted, p .layout-is) in
     omega (arith, f .at-formulas, f .at-effects, f .at-actions, f .at-programs, f .at-end, f .inside)
 
 skips-requires : tie.Need-skips-requires
 skips-requires c κs =
-    let s = now (c .before .before .before .before .args .s) in
-    let endable = now (c .before .before .before .before .args .endable) in
-    let l = c .before .before .before .before .args .t .layout in
-    let p = c .before .before .before .before .pre .0 in
+    let at-start = c .before .before .before .before in
+    let s = now (at-start .args .s) in
+    let endable = now (at-start .args .endable) in
+    let l = at-start .args .t .layout in
+    let p = at-start .pre .0 in
     let f = fits-of s l (p .accepted, p .layout-is) in
     let n = part-length s (l .programs) (l .end) (omega (arith, f .at-end)) (omega (arith, f .inside)) in (
       (omega (arith, n, f .at-end), f .some-record, f .p),
       (
         by-task p (λ (l : Layout) (b : Bool). AllLower (runs s l b)) (all-lower s (p .accepted)),
-        by-task p (λ (l : Layout) (b : Bool). Endable (runs s l b) (places b (l .p)) endable) (c .before .before .before .before .pre .1),
+        by-task p (λ (l : Layout) (b : Bool). Endable (runs s l b) (places b (l .p)) endable) (at-start .pre .1),
       ),
     )
 
+-- Places: what stands before a need, by name. Written by `named`: run it again when the code changes.
+abbrev start-from-returns : tie.After-skips → tie.Start
+start-from-returns c = c .before .before .before .before .before
+
 returns : tie.Need-returns
 returns c =
-    let s = now (c .before .before .before .before .before .args .s) in
-    let endable = now (c .before .before .before .before .before .args .endable) in
-    let p = c .before .before .before .before .before .pre .0 in
+    let at-start = start-from-returns c in
+    let s = now (at-start .args .s) in
+    let endable = now (at-start .args .endable) in
+    let p = at-start .pre .0 in
     record {
-      may-end = c .before .before .before .before .before .pre .1;
-      full = c .before .before .before .before .before .pre .2;
+      may-end = at-start .pre .1;
+      full = at-start .pre .2;
       skipping = of-task p (λ (l : Layout) (b : Bool). Skips (runs s l b) (places b (l .p)) endable (c .skips .result)) (c .skips .ensures);
     }
 

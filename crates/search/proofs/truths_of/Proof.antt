@@ -13,33 +13,42 @@ use Rattle.search.proofs.truths_of.Tie as tie
 
 sub-truths : tie.Need-sub-truths
 sub-truths c =
-    let f = fits-of (now (c .before .before .args .s)) (c .before .before .args .l) (c .before .before .pre .0) in
+    let at-start = c .before .before in
+    let f = fits-of (now (at-start .args .s)) (at-start .args .l) (at-start .pre .0) in
     omega (arith, f .at-formulas, f .at-effects, f .at-actions, f .at-programs, f .at-end, f .inside)
 
 part-truths-start : tie.Need-part-truths-start
 part-truths-start c =
-    let f = fits-of (now (c .before .before .args .s)) (c .before .before .args .l) (c .before .before .pre .0) in
+    let at-start = c .before .before in
+    let f = fits-of (now (at-start .args .s)) (at-start .args .l) (at-start .pre .0) in
     omega (arith, f .at-formulas, f .at-effects, f .at-actions, f .at-programs, f .at-end, f .inside)
 
 part-truths-end : tie.Need-part-truths-end
 part-truths-end c =
-    let f = fits-of (now (c .before .before .args .s)) (c .before .before .args .l) (c .before .before .pre .0) in
+    let at-start = c .before .before in
+    let f = fits-of (now (at-start .args .s)) (at-start .args .l) (at-start .pre .0) in
     omega (arith, f .at-formulas, f .at-effects, f .at-actions, f .at-programs, f .at-end, f .inside)
 
 truths-requires : tie.Need-truths-requires
 truths-requires c κs =
-    let s = now (c .before .before .before .before .args .s) in
-    let l = c .before .before .before .before .args .l in
-    let f = fits-of s l (c .before .before .before .before .pre .0) in
+    let at-start = c .before .before .before .before in
+    let s = now (at-start .args .s) in
+    let l = at-start .args .l in
+    let f = fits-of s l (at-start .pre .0) in
     let n = part-length s (l .formulas) (l .effects) (omega (arith, f .at-effects)) (omega (arith, f .at-actions, f .at-programs, f .at-end, f .inside)) in
-    ((omega (arith, n, f .at-effects), f .q), c .before .before .before .before .pre .1)
+    ((omega (arith, n, f .at-effects), f .q), at-start .pre .1)
+
+-- Places: what stands before a need, by name. Written by `named`: run it again when the code changes.
+abbrev start-from-truths : tie.After-truths → tie.Start
+start-from-truths c = c .before .before .before .before .before
 
 returns : tie.Need-returns
 returns c =
-    let s = now (c .before .before .before .before .before .before .before .args .s) in
-    let st = c .before .before .before .before .before .before .before .args .st in
+    let at-start = start-from-truths (c .before .before) in
+    let s = now (at-start .args .s) in
+    let st = at-start .args .st in
     let l = layoutOf s in
-    let e = c .before .before .truths .ensures ∙ ap (λ (l : Layout). truthsOf (formulasIn s l) (st .values) (l .q)) (c .before .before .before .before .before .before .before .pre .0 .1) in
+    let e = c .before .before .truths .ensures ∙ ap (λ (l : Layout). truthsOf (formulasIn s l) (st .values) (l .q)) (at-start .pre .0 .1) in
     subst (Held (worldOf s) st (l .q)) (sym e) (truths-held (formulasIn s l) (effectsIn s l) (actionsIn s l) st (l .q))
 
 same-length : tie.Need-same-length

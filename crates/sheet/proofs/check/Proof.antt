@@ -20,15 +20,22 @@ limits-ok-requires : tie.Need-limits-ok-requires
 limits-ok-requires c κs = search needs
 
 returns-3 : tie.Need-returns-3
-returns-3 c = outside _ (c .before .before .before .before .read-trailer .ensures) (c .before .before .before .before .before .if1 .left) (c .before .before .if2 .left) (sym (c .before .limits-ok .ensures) ∙ not-true _ (c .if3 .taken))
+returns-3 c =
+    let at-read-trailer = c .before .before .before .before in
+    let at-if1 = at-read-trailer .before in
+    outside _ (at-read-trailer .read-trailer .ensures) (at-if1 .if1 .left) (c .before .before .if2 .left) (sym (c .before .limits-ok .ensures) ∙ not-true _ (c .if3 .taken))
 
 distance-ok-requires : tie.Need-distance-ok-requires
 distance-ok-requires c κs = within _ (sym (c .before .limits-ok .ensures) ∙ not-false _ (c .if3 .left))
 
 returns-4 : tie.Need-returns-4
 returns-4 c =
-    let limits = sym (c .before .before .before .limits-ok .ensures) ∙ not-false _ (c .before .before .if3 .left) in
-    misplaced _ (c .before .before .before .before .before .before .read-trailer .ensures) (c .before .before .before .before .before .before .before .if1 .left) (c .before .before .before .before .if2 .left) limits (sym (c .before .distance-ok .ensures) ∙ not-true _ (c .if4 .taken))
+    let at-limits-ok = c .before .before .before in
+    let at-if2 = at-limits-ok .before in
+    let at-read-trailer = at-if2 .before .before in
+    let at-if1 = at-read-trailer .before in
+    let limits = sym (at-limits-ok .limits-ok .ensures) ∙ not-false _ (c .before .before .if3 .left) in
+    misplaced _ (at-read-trailer .read-trailer .ensures) (at-if1 .if1 .left) (at-if2 .if2 .left) limits (sym (c .before .distance-ok .ensures) ∙ not-true _ (c .if4 .taken))
 
 lay-out-requires : tie.Need-lay-out-requires
 lay-out-requires c κs =
@@ -39,9 +46,15 @@ check-fluents-requires c κs = search needs
 
 returns-5 : tie.Need-returns-5
 returns-5 c =
-    let limits = sym (c .before .before .before .before .before .limits-ok .ensures) ∙ not-false _ (c .before .before .before .before .if3 .left) in
-    let distance = sym (c .before .before .before .distance-ok .ensures) ∙ not-false _ (c .before .before .if4 .left) in
-    in-place _ (c .before .before .before .before .before .before .before .before .read-trailer .ensures) (c .before .before .before .before .before .before .before .before .before .if1 .left) (c .before .before .before .before .before .before .if2 .left) limits distance (c .check-fluents .ensures ∙ ap (fluentsChecked _) (c .before .lay-out .ensures .0))
+    let at-distance-ok = c .before .before .before in
+    let at-if3 = at-distance-ok .before in
+    let at-limits-ok = at-if3 .before in
+    let at-if2 = at-limits-ok .before in
+    let at-read-trailer = at-if2 .before .before in
+    let at-if1 = at-read-trailer .before in
+    let limits = sym (at-limits-ok .limits-ok .ensures) ∙ not-false _ (at-if3 .if3 .left) in
+    let distance = sym (at-distance-ok .distance-ok .ensures) ∙ not-false _ (c .before .before .if4 .left) in
+    in-place _ (at-read-trailer .read-trailer .ensures) (at-if1 .if1 .left) (at-if2 .if2 .left) limits distance (c .check-fluents .ensures ∙ ap (fluentsChecked _) (c .before .lay-out .ensures .0))
 
 pub check-spec : {M : Type 1} → statement M
 check-spec =

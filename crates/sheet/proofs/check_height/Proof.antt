@@ -34,11 +34,14 @@ work-words-requires c κs = let s = small (c .before .has-interrupts .result) in
 returns-2 : tie.Need-returns-2
 unfolding levels
 returns-2 c =
-    let n = c .before .before .before .before .before .before .args .n in
-    let d = c .before .before .before .before .before .before .args .d in
-    let p = programAt (now (c .before .before .before .before .before .before .args .t)) in
-    let k = c .before .levels-from .ensures ∙ ap₂ (λ (h : ℕ) (b : Bool). h + cond b 2 0) (c .before .before .before .before .height .ensures) (c .before .before .has-interrupts .ensures) in
-    low-enough p n d (c .before .before .before .before .height .result) (c .before .before .before .before .height .ensures) (c .before .before .before .if1 .left) (c .work-words .ensures .0 ∙ ap (λ (h : ℕ). workWords h d) k)
+    let at-if1 = c .before .before .before in
+    let at-height = at-if1 .before in
+    let at-start = at-height .before .before in
+    let n = at-start .args .n in
+    let d = at-start .args .d in
+    let p = programAt (now (at-start .args .t)) in
+    let k = c .before .levels-from .ensures ∙ ap₂ (λ (h : ℕ) (b : Bool). h + cond b 2 0) (at-height .height .ensures) (c .before .before .has-interrupts .ensures) in
+    low-enough p n d (at-height .height .result) (at-height .height .ensures) (at-if1 .if1 .left) (c .work-words .ensures .0 ∙ ap (λ (h : ℕ). workWords h d) k)
 
 pub check-height-spec : {M : Type 1} → statement M
 check-height-spec =

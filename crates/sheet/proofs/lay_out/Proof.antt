@@ -39,9 +39,15 @@ mul-end c = search needs
 add-end : tie.Need-add-end
 add-end c = search needs
 
+-- Places: what stands before a need, by name. Written by `named`: run it again when the code changes.
+abbrev start-from-returns : tie.After-struct-known6 → tie.Start
+start-from-returns c = c .before .before .before .before .before .before
+
 returns : tie.Need-returns
 unfolding layoutIn
-returns c = (refl, fits _ _ (c .before .before .before .before .before .before .pre .0) (c .before .before .before .before .before .before .pre .1 .0) (c .before .before .before .before .before .before .pre .1 .1))
+returns c =
+    let at-start = start-from-returns c in
+    (refl, fits _ _ (at-start .pre .0) (at-start .pre .1 .0) (at-start .pre .1 .1))
 
 pub lay-out-spec : {M : Type 1} → statement M
 lay-out-spec =

@@ -21,10 +21,16 @@ enum-told c = search needs
 layout-of-requires : tie.Need-layout-of-requires
 layout-of-requires c κs = (_, sym (c .before .before .check .ensures) ∙ c .enum-told .given .1)
 
+-- Places: what stands before a need, by name. Written by `named`: run it again when the code changes.
+abbrev start-from-layout-of : tie.After-layout-of → tie.Start
+start-from-layout-of c = c .before .before .before .before .before
+
 slice-aggregate-result : tie.Need-slice-aggregate-result
 slice-aggregate-result c =
-    let f = c .before .layout-of .ensures .1 in
-    sym (length-take-le (c .before .layout-of .result .fluents) (now (c .before .before .before .before .before .before .args .s)) (omega (arith, f .at-formulas, f .at-effects, f .at-actions, f .at-programs, f .at-end, f .inside)))
+    let at-layout-of = c .before in
+    let at-start = start-from-layout-of at-layout-of in
+    let f = at-layout-of .layout-of .ensures .1 in
+    sym (length-take-le (at-layout-of .layout-of .result .fluents) (now (at-start .args .s)) (omega (arith, f .at-formulas, f .at-effects, f .at-actions, f .at-programs, f .at-end, f .inside)))
 
 enum-known-n : tie.Need-enum-known-n
 enum-known-n c = search needs
@@ -34,16 +40,20 @@ slice-aggregate-result-2 c = search needs
 
 returns : tie.Need-returns
 returns c =
-    let s = now (c .before .before .before .before .before .before .args .s) in
-    let q = sym (c .before .before .before .before .check .ensures) ∙ c .before .before .enum-told .given .1 in (
+    let at-check = c .before .before .before .before in
+    let at-start = at-check .before .before in
+    let s = now (at-start .args .s) in
+    let q = sym (at-check .check .ensures) ∙ c .before .before .enum-told .given .1 in (
       ap (λ (k : ℕ). take k s) (ap (λ (l : Layout). l .fluents) (c .before .layout-of .ensures .0) ∙ sym (ap (notesCount s) q)),
       (refl, (sym (ap numberOf q), sym (ap placeOf q))),
     )
 
 returns-2 : tie.Need-returns-2
 returns-2 c =
-    let s = now (c .before .before .before .before .before .before .args .s) in
-    let q = sym (c .before .before .before .before .check .ensures) ∙ c .before .before .n .given .1 in
+    let at-check = c .before .before .before .before in
+    let at-start = at-check .before .before in
+    let s = now (at-start .args .s) in
+    let q = sym (at-check .check .ensures) ∙ c .before .before .n .given .1 in
     (ap (λ (k : ℕ). take k s) (sym (ap (notesCount s) q)), (refl, (sym (ap numberOf q), sym (ap placeOf q))))
 
 pub notes-spec : {M : Type 1} → statement M

@@ -32,20 +32,39 @@ holds-in-requires c κs = search needs
 cast-new : tie.Need-cast-new Inv-loop μ-loop
 cast-new c = search needs
 
+-- Places: what stands before a need, by name. Written by `named`: run it again when the code changes.
+abbrev start-from-effect-at : tie.After-effect-at Inv-loop μ-loop → tie.Start Inv-loop μ-loop
+start-from-effect-at c = c .before .before .before .before .before
+
 array-write-new : tie.Need-array-write-new Inv-loop μ-loop
-array-write-new c = rw (c .before .before .before .effect-at .ensures .0) (c .before .before .before .before .before .before .before .before .pre .1 _ (omega arith) (omega arith))
+array-write-new c =
+    let at-effect-at = c .before .before .before in
+    let at-start = start-from-effect-at at-effect-at in
+    rw (at-effect-at .effect-at .ensures .0) (at-start .pre .1 _ (omega arith) (omega arith))
 
 loop-less : tie.Need-loop-less Inv-loop μ-loop
 loop-less c = search needs
 
 loop-again : tie.Need-loop-again Inv-loop μ-loop
-loop-again c = (omega arith, omega arith, changed-here _ _ _ _ _ _ _ (omega arith) (omega arith) (c .before .before .before .before .before .loop .inv .2) (c .before .before .before .effect-at .ensures .0) (sym (c .before .before .holds-in .ensures) ∙ c .before .if1 .taken))
+loop-again c =
+    let at-effect-at = c .before .before .before in
+    let at-loop = at-effect-at .before .before in (
+      omega arith,
+      omega arith,
+      changed-here _ _ _ _ _ _ _ (omega arith) (omega arith) (at-loop .loop .inv .2) (at-effect-at .effect-at .ensures .0)
+          (sym (c .before .before .holds-in .ensures) ∙ c .before .if1 .taken),
+    )
 
 loop-less-2 : tie.Need-loop-less-2 Inv-loop μ-loop
 loop-less-2 c = search needs
 
 loop-again-2 : tie.Need-loop-again-2 Inv-loop μ-loop
-loop-again-2 c = (omega arith, omega arith, changed-later _ _ _ _ _ _ _ (omega arith) (omega arith) (c .before .before .before .before .loop .inv .2) (c .before .before .effect-at .ensures .0) (sym (c .before .holds-in .ensures) ∙ c .if1 .left))
+loop-again-2 c = (
+  omega arith,
+  omega arith,
+  changed-later _ _ _ _ _ _ _ (omega arith) (omega arith) (c .before .before .before .before .loop .inv .2) (c .before .before .effect-at .ensures .0)
+      (sym (c .before .holds-in .ensures) ∙ c .if1 .left),
+)
 
 returns : tie.Need-returns Inv-loop μ-loop
 returns c = changed-all _ _ _ _ _ _ _ (omega arith) (omega arith) (c .before .loop .inv .2)

@@ -9,11 +9,18 @@ returns : tie.Need-returns
 unfolding performBy
 returns c = rw (lt-ltb _ _ (c .if1 .taken))
 
+-- Places: what stands before a need, by name. Written by `named`: run it again when the code changes.
+abbrev start-from-else1 : tie.Else1 → tie.Start
+start-from-else1 c = c .before .before .before .before .before
+
+abbrev start-from-action-at : tie.After-action-at → tie.Start
+start-from-action-at c = start-from-else1 (c .before)
+
 action-at-requires : tie.Need-action-at-requires
-action-at-requires c κs = c .before .before .before .before .before .pre .0 .known (omega arith)
+action-at-requires c κs = start-from-else1 c .pre .0 .known (omega arith)
 
 changed-requires : tie.Need-changed-requires
-changed-requires c κs = let p = c .before .before .before .before .before .before .pre in rw (c .action-at .ensures .0) (p .0 .range (omega arith), λ i a b. omega (arith, p .0 .names (omega arith) i a b))
+changed-requires c κs = let p = start-from-action-at c .pre in rw (c .action-at .ensures .0) (p .0 .range (omega arith), λ i a b. omega (arith, p .0 .names (omega arith) i a b))
 
 returns-2 : tie.Need-returns-2
 unfolding performBy

@@ -11,7 +11,8 @@ use Rattle.state.proofs.truth_at.Statement.{statement}
 use Rattle.state.proofs.truth_at.Tie as tie
 
 -- the kinds that no arm names
-rest : (k : ℕ) (b c d e f g : Bool) → (k ≡ 0 → ⊥) → (k ≡ 2 → ⊥) → (k ≡ 3 → ⊥) → (k ≡ 4 → ⊥) → (k ≡ 5 → ⊥) → (k ≡ 6 → ⊥) → (k ≡ 7 → ⊥) → false ≡ getD (true ∷ false ∷ b ∷ c ∷ d ∷ e ∷ f ∷ g ∷ []) k false
+rest : (k : ℕ) (b c d e f g : Bool) → (k ≡ 0 → ⊥) → (k ≡ 2 → ⊥) → (k ≡ 3 → ⊥) → (k ≡ 4 → ⊥) → (k ≡ 5 → ⊥) → (k ≡ 6 → ⊥) → (k ≡ 7 → ⊥) →
+    false ≡ getD (true ∷ false ∷ b ∷ c ∷ d ∷ e ∷ f ∷ g ∷ []) k false
 rest zero b c d e f g n0 n2 n3 n4 n5 n6 n7 = absurd (n0 refl)
 rest (suc zero) b c d e f g n0 n2 n3 n4 n5 n6 n7 = refl
 rest (suc (suc zero)) b c d e f g n0 n2 n3 n4 n5 n6 n7 = absurd (n2 refl)
@@ -82,7 +83,8 @@ returns-7 c = rw (← c .before .before .before .formula-at .ensures .0, c .befo
 
 returns-8 : tie.Need-returns-8
 unfolding truthOf
-returns-8 c = let r = c .match .rest in rw (← c .before .formula-at .ensures .0) (rest _ _ _ _ _ _ _ (r .0 .0 .0 .0 .0 .0 .1) (r .0 .0 .0 .0 .0 .1) (r .0 .0 .0 .0 .1) (r .0 .0 .0 .1) (r .0 .0 .1) (r .0 .1) (r .1))
+returns-8 c = let r = c .match .rest in rw (← c .before .formula-at .ensures .0) (rest _ _ _ _ _ _ _ (r .0 .0 .0 .0 .0 .0 .1) (r .0 .0 .0 .0 .0 .1) (r .0 .0 .0 .0 .1) (r .0 .0 .0 .1) (r .0 .0 .1)
+    (r .0 .1) (r .1))
 
 pub truth-at-spec : {M : Type 1} → statement M
 truth-at-spec =

@@ -59,8 +59,15 @@ slice-write-work-2 c = omega (arith, c .before .before .loop .inv .1 .len)
 same-length : tie.Need-same-length Inv-loop μ-loop
 same-length c = simp length-set (c .before .before .loop .inv .1 .len)
 
+-- Places: what stands before a need, by name. Written by `named`: run it again when the code changes.
+abbrev start-from-loop : tie.At-loop Inv-loop μ-loop → tie.Start Inv-loop μ-loop
+start-from-loop c = c .before .before .before
+
 returns : tie.Need-returns Inv-loop μ-loop
-returns c = state-put (c .before .before .before .before .before .args .s) _ _ _ _ _ (record { places = search needs; bytes = λ x l. let b : Fits w8 (getD (c .before .before .before .before .before .args .s .values) x 0) = search needs in b .fits }) (c .before .before .loop .inv .1) (omega arith) (c .before .before .before .before .before .pre) (c .bit .ensures)
+returns c =
+    let at-start = start-from-loop (c .before .before) in
+    state-put (at-start .args .s) _ _ _ _ _ (record { places = search needs; bytes = λ x l. let b : Fits w8 (getD (at-start .args .s .values) x 0) = search needs in b .fits })
+    (c .before .before .loop .inv .1) (omega arith) (at-start .pre) (c .bit .ensures)
 
 pub write-state-spec : {M : Type 1} → statement M
 write-state-spec =

@@ -3,7 +3,7 @@ use borrow.Author.Needs.{needs}
 use native.Mathlib.Omega.{arith}
 use Rattle.steps.proofs.Laying.{own-lays, a-falls, a-can, a-room, a-lays, b-falls, b-can, b-room, b-lays, many-few}
 use Prim.Native.Nat.{ℕ, _<_}
-use borrow.Fn.Kinds.{In}
+use borrow.Fn.Kinds.{In, Out}
 use borrow.Fn.PlainCycle.{Measures, is, falls, and}
 use Rattle.steps.proofs.lay_record.Reads as lay-record
 use Rattle.steps.proofs.lay_record.Kinds as lay-record-kinds
@@ -58,17 +58,46 @@ claims t = (
 lay-record-record-at-requires : (t : ℕ) → lay-record-lts.Need-record-at-requires (claims t) (lay-record-at t) lay-record.Post
 lay-record-record-at-requires t c κs = (c .before .before .before .before .pre .1 .0)
 
+-- Places: what stands before a need, by name. Written by `named`: run it again when the code changes.
+module _ {k : lay-record-lts.Claims} {p : In 4 lay-record-kinds.ps} {q : Out 4 lay-record-kinds.ps lay-record-kinds.r} where
+  abbrev start-from-record-at : lay-record-lts.After-record-at k p q → lay-record-lts.Start k p q
+  start-from-record-at c = c .before .before .before .before .before
+
+  abbrev start-from-then1 : lay-record-lts.Then1 k p q → lay-record-lts.Start k p q
+  start-from-then1 c = start-from-record-at (c .before .before)
+
+  abbrev record-at-from-put-node : lay-record-lts.After-put-node k p q → lay-record-lts.After-record-at k p q
+  record-at-from-put-node c = c .before .before .before .before
+
+  abbrev start-from-past-words : lay-record-lts.After-past-words k p q → lay-record-lts.Start k p q
+  start-from-past-words c = start-from-record-at (c .before .before .before .before .before .before)
+
+  abbrev start-from-past-words2 : lay-record-lts.After-past-words2 k p q → lay-record-lts.Start k p q
+  start-from-past-words2 c = start-from-record-at (c .before .before .before .before .before .before)
+
+  abbrev lay-record-from-wrap-a : lay-record-lts.After-wrap-a k p q → lay-record-lts.After-lay-record k p q
+  lay-record-from-wrap-a c = c .before .before .before .before
+
+  abbrev lay-record2-from-wrap-b : lay-record-lts.After-wrap-b k p q → lay-record-lts.After-lay-record2 k p q
+  lay-record2-from-wrap-b c = c .before .before .before .before
+
 lay-record-put-node-requires : (t : ℕ) → lay-record-lts.Need-put-node-requires (claims t) (lay-record-at t) lay-record.Post
-lay-record-put-node-requires t c κs = omega (arith, (c .before .before .before .before .before .before .before .before .pre .1 .1) .room .inside)
+lay-record-put-node-requires t c κs = omega (arith, (start-from-then1 (c .before) .pre .1 .1) .room .inside)
 
 lay-record-entry-of-requires : (t : ℕ) → lay-record-lts.Need-entry-of-requires (claims t) (lay-record-at t) lay-record.Post
-lay-record-entry-of-requires t c κs = (c .before .before .before .before .before .before .record-at .ensures .1 .0)
+lay-record-entry-of-requires t c κs = (record-at-from-put-node (c .before .before) .record-at .ensures .1 .0)
 
 lay-record-same-length : (t : ℕ) → lay-record-lts.Need-same-length (claims t) (lay-record-at t) lay-record.Post
 lay-record-same-length t c = search needs
 
 lay-record-returns : (t : ℕ) → lay-record-lts.Need-returns (claims t) (lay-record-at t) lay-record.Post
-lay-record-returns t c W s C = own-lays C _ ((c .before .before .before .before .before .before .before .before .before .before .before .before .pre .1 .1) .inside) ((c .before .before .before .before .before .before .before .before .before .before .before .before .pre .1 .1) .low) _ (c .before .before .before .before .before .before .before .record-at .ensures .0) ((c .before .before .before .before .before .before .before .before .before .before .before .before .pre .1 .1) .least) (c .before .before .before .before .before .if1 .taken) ((c .before .before .before .before .before .before .before .before .before .before .before .before .pre .1 .1) .room) (c .before .before .before .put-node .ensures) (c .entry-of .ensures)
+lay-record-returns t c W s C =
+    let at-put-node = c .before .before .before in
+    let at-if1 = at-put-node .before .before in
+    let at-record-at = at-if1 .before .before in
+    let at-start = start-from-record-at at-record-at in
+    let can = at-start .pre .1 .1 in
+    own-lays C _ (can .inside) (can .low) _ (at-record-at .record-at .ensures .0) (can .least) (at-if1 .if1 .taken) (can .room) (at-put-node .put-node .ensures) (c .entry-of .ensures)
 
 lay-record-first-count-requires : (t : ℕ) → lay-record-lts.Need-first-count-requires (claims t) (lay-record-at t) lay-record.Post
 lay-record-first-count-requires t c κs = search needs
@@ -80,19 +109,63 @@ lay-record-past-words-requires : (t : ℕ) → lay-record-lts.Need-past-words-re
 lay-record-past-words-requires t c κs = search needs
 
 lay-record-add-at : (t : ℕ) → lay-record-lts.Need-add-at (claims t) (lay-record-at t) lay-record.Post
-lay-record-add-at t c = omega (arith, (c .before .before .before .before .before .before .before .before .before .before .before .pre .1 .1) .room .inside, (c .before .before .before .before .before .before .before .before .before .before .before .pre .1 .1) .room .small, c .past-words .ensures .1)
+lay-record-add-at t c =
+    let can = start-from-past-words c .pre .1 .1 in
+    omega (arith, can .room .inside, can .room .small, c .past-words .ensures .1)
 
 lay-record-lay-record-requires : (t : ℕ) → lay-record-lts.Need-lay-record-requires (claims t) (lay-record-at t) lay-record.Post
-lay-record-lay-record-requires t c κs = (omega (arith, a-falls ((c .before .before .before .before .before .before .before .before .before .before .before .before .pre .1 .1) .counted) _ ((c .before .before .before .before .before .before .before .before .before .before .before .before .pre .1 .1) .inside) ((c .before .before .before .before .before .before .before .before .before .before .before .before .pre .1 .1) .low) _ (c .before .before .before .before .before .before .before .record-at .ensures .0) (c .before .before .before .before .before .if1 .left) _ (c .before .before .before .before .first-count .ensures .0) _ (c .before .before .before .if2 .taken), c .before .before .before .before .before .before .before .before .before .before .before .before .pre .0), (c .before .before .before .before .before .before .before .before .before .before .before .before .pre .1 .0, a-can ((c .before .before .before .before .before .before .before .before .before .before .before .before .pre .1 .1) .counted) _ ((c .before .before .before .before .before .before .before .before .before .before .before .before .pre .1 .1) .inside) ((c .before .before .before .before .before .before .before .before .before .before .before .before .pre .1 .1) .low) _ (c .before .before .before .before .before .before .before .record-at .ensures .0) (c .before .before .before .before .before .if1 .left) _ (c .before .before .before .before .first-count .ensures .0) _ (c .before .before .before .if2 .taken) ((c .before .before .before .before .before .before .before .before .before .before .before .before .pre .1 .1) .room) (c .before .past-words .ensures .1)))
+lay-record-lay-record-requires t c κs =
+    let at-if2 = c .before .before .before in
+    let at-first-count = at-if2 .before in
+    let at-if1 = at-first-count .before in
+    let at-record-at = at-if1 .before .before in
+    let at-start = start-from-record-at at-record-at in
+    let can = at-start .pre .1 .1 in (
+      omega (
+        arith,
+        a-falls (can .counted) _ (can .inside) (can .low) _ (at-record-at .record-at .ensures .0) (at-if1 .if1 .left) _ (at-first-count .first-count .ensures .0) _ (at-if2 .if2 .taken),
+        at-start .pre .0,
+      ),
+      (
+        at-start .pre .1 .0,
+        a-can (can .counted) _ (can .inside) (can .low) _ (at-record-at .record-at .ensures .0) (at-if1 .if1 .left) _ (at-first-count .first-count .ensures .0)
+            _ (at-if2 .if2 .taken) (can .room) (c .before .past-words .ensures .1),
+      ),
+    )
 
 lay-record-wrap-a-requires : (t : ℕ) → lay-record-lts.Need-wrap-a-requires (claims t) (lay-record-at t) lay-record.Post
-lay-record-wrap-a-requires t c κs = (a-room ((c .before .before .before .before .before .before .before .before .before .before .before .before .before .before .before .before .pre .1 .1) .counted) _ ((c .before .before .before .before .before .before .before .before .before .before .before .before .before .before .before .before .pre .1 .1) .inside) ((c .before .before .before .before .before .before .before .before .before .before .before .before .before .before .before .before .pre .1 .1) .low) _ (c .before .before .before .before .before .before .before .before .before .before .before .record-at .ensures .0) (c .before .before .before .before .before .before .before .before .before .if1 .left) _ (c .before .before .before .before .before .before .before .before .first-count .ensures .0) _ (c .before .before .before .before .before .before .before .if2 .taken) ((c .before .before .before .before .before .before .before .before .before .before .before .before .before .before .before .before .pre .1 .1) .room) (c .before .before .before .lay-record .ensures _ _ ((c .before .before .before .before .before .before .before .before .before .before .before .before .before .before .before .before .pre .1 .1) .counted)), (many-few (c .before .before .before .before .before .before .before .before .before .before .before .before .before .before .before .before .args .v .interrupts) (c .before .before .before .before .before .before .before .before .before .before .before .before .before .before .before .before .args .v .n) _ (c .before .before .before .before .before .before .before .before .before .before .before .before .before .before .before .before .pre .1 .0 .2) ((c .before .before .before .before .before .before .before .before .before .before .before .before .before .before .before .before .pre .1 .1) .inside), c .before .before .before .before .before .before .before .before .before .before .before .record-at .ensures .1 .1))
+lay-record-wrap-a-requires t c κs =
+    let at-lay-record = c .before .before .before in
+    let at-if2 = at-lay-record .before .before .before .before in
+    let at-first-count = at-if2 .before in
+    let at-if1 = at-first-count .before in
+    let at-record-at = at-if1 .before .before in
+    let at-start = start-from-record-at at-record-at in
+    let can = at-start .pre .1 .1 in (
+      a-room (can .counted) _ (can .inside) (can .low) _ (at-record-at .record-at .ensures .0) (at-if1 .if1 .left) _ (at-first-count .first-count .ensures .0) _ (at-if2 .if2 .taken) (can .room)
+          (at-lay-record .lay-record .ensures _ _ (can .counted)),
+      (
+        many-few (at-start .args .v .interrupts) (at-start .args .v .n) _ (at-start .pre .1 .0 .2) (can .inside),
+        at-record-at .record-at .ensures .1 .1,
+      ),
+    )
 
 lay-record-same-length-2 : (t : ℕ) → lay-record-lts.Need-same-length-2 (claims t) (lay-record-at t) lay-record.Post
 lay-record-same-length-2 t c = search needs
 
 lay-record-returns-2 : (t : ℕ) → lay-record-lts.Need-returns-2 (claims t) (lay-record-at t) lay-record.Post
-lay-record-returns-2 t c W s C = a-lays C _ ((c .before .before .before .before .before .before .before .before .before .before .before .before .before .before .before .before .before .before .before .pre .1 .1) .inside) ((c .before .before .before .before .before .before .before .before .before .before .before .before .before .before .before .before .before .before .before .pre .1 .1) .low) _ (c .before .before .before .before .before .before .before .before .before .before .before .before .before .before .record-at .ensures .0) (c .before .before .before .before .before .before .before .before .before .before .before .before .if1 .left) _ (c .before .before .before .before .before .before .before .before .before .before .before .first-count .ensures .0) _ (c .before .before .before .before .before .before .before .before .before .before .if2 .taken) (c .before .before .before .before .before .before .before .before .before .tag-a .ensures) (c .before .before .before .before .before .before .before .before .past-words .ensures .0) (c .before .before .before .before .before .before .lay-record .ensures W s C) (c .before .before .wrap-a .ensures)
+lay-record-returns-2 t c W s C =
+    let at-lay-record = lay-record-from-wrap-a (c .before .before) in
+    let at-past-words = at-lay-record .before .before in
+    let at-tag-a = at-past-words .before in
+    let at-if2 = at-tag-a .before in
+    let at-first-count = at-if2 .before in
+    let at-if1 = at-first-count .before in
+    let at-record-at = at-if1 .before .before in
+    let at-start = start-from-record-at at-record-at in
+    let can = at-start .pre .1 .1 in
+    a-lays C _ (can .inside) (can .low) _ (at-record-at .record-at .ensures .0) (at-if1 .if1 .left) _ (at-first-count .first-count .ensures .0) _ (at-if2 .if2 .taken) (at-tag-a .tag-a .ensures)
+    (at-past-words .past-words .ensures .0) (at-lay-record .lay-record .ensures W s C) (c .before .before .wrap-a .ensures)
 
 lay-record-tag-b-requires : (t : ℕ) → lay-record-lts.Need-tag-b-requires (claims t) (lay-record-at t) lay-record.Post
 lay-record-tag-b-requires t c κs = search needs
@@ -101,19 +174,61 @@ lay-record-past-words-requires-2 : (t : ℕ) → lay-record-lts.Need-past-words-
 lay-record-past-words-requires-2 t c κs = search needs
 
 lay-record-add-at-2 : (t : ℕ) → lay-record-lts.Need-add-at-2 (claims t) (lay-record-at t) lay-record.Post
-lay-record-add-at-2 t c = omega (arith, (c .before .before .before .before .before .before .before .before .before .before .before .pre .1 .1) .room .inside, (c .before .before .before .before .before .before .before .before .before .before .before .pre .1 .1) .room .small, c .past-words2 .ensures .1)
+lay-record-add-at-2 t c =
+    let can = start-from-past-words2 c .pre .1 .1 in
+    omega (arith, can .room .inside, can .room .small, c .past-words2 .ensures .1)
 
 lay-record-lay-record-requires-2 : (t : ℕ) → lay-record-lts.Need-lay-record-requires-2 (claims t) (lay-record-at t) lay-record.Post
-lay-record-lay-record-requires-2 t c κs = (omega (arith, b-falls ((c .before .before .before .before .before .before .before .before .before .before .before .before .pre .1 .1) .counted) _ ((c .before .before .before .before .before .before .before .before .before .before .before .before .pre .1 .1) .inside) ((c .before .before .before .before .before .before .before .before .before .before .before .before .pre .1 .1) .low) _ (c .before .before .before .before .before .before .before .record-at .ensures .0) (c .before .before .before .before .before .if1 .left) _ (c .before .before .before .before .first-count .ensures .0) _ ((c .before .before .before .before .before .before .before .before .before .before .before .before .pre .1 .1) .least) (c .before .before .before .if2 .left), c .before .before .before .before .before .before .before .before .before .before .before .before .pre .0), (c .before .before .before .before .before .before .before .before .before .before .before .before .pre .1 .0, b-can ((c .before .before .before .before .before .before .before .before .before .before .before .before .pre .1 .1) .counted) _ ((c .before .before .before .before .before .before .before .before .before .before .before .before .pre .1 .1) .inside) ((c .before .before .before .before .before .before .before .before .before .before .before .before .pre .1 .1) .low) _ (c .before .before .before .before .before .before .before .record-at .ensures .0) (c .before .before .before .before .before .if1 .left) _ (c .before .before .before .before .first-count .ensures .0) _ ((c .before .before .before .before .before .before .before .before .before .before .before .before .pre .1 .1) .least) (c .before .before .before .if2 .left) ((c .before .before .before .before .before .before .before .before .before .before .before .before .pre .1 .1) .room) (c .before .past-words2 .ensures .1)))
+lay-record-lay-record-requires-2 t c κs =
+    let at-if2 = c .before .before .before in
+    let at-first-count = at-if2 .before in
+    let at-if1 = at-first-count .before in
+    let at-record-at = at-if1 .before .before in
+    let at-start = start-from-record-at at-record-at in
+    let can = at-start .pre .1 .1 in (
+      omega (
+        arith,
+        b-falls (can .counted) _ (can .inside) (can .low) _ (at-record-at .record-at .ensures .0) (at-if1 .if1 .left) _ (at-first-count .first-count .ensures .0) _ (can .least)
+            (at-if2 .if2 .left),
+        at-start .pre .0,
+      ),
+      (
+        at-start .pre .1 .0,
+        b-can (can .counted) _ (can .inside) (can .low) _ (at-record-at .record-at .ensures .0) (at-if1 .if1 .left) _
+            (at-first-count .first-count .ensures .0) _ (can .least) (at-if2 .if2 .left) (can .room) (c .before .past-words2 .ensures .1),
+      ),
+    )
 
 lay-record-wrap-b-requires : (t : ℕ) → lay-record-lts.Need-wrap-b-requires (claims t) (lay-record-at t) lay-record.Post
-lay-record-wrap-b-requires t c κs = (b-room ((c .before .before .before .before .before .before .before .before .before .before .before .before .before .before .before .before .pre .1 .1) .counted) _ ((c .before .before .before .before .before .before .before .before .before .before .before .before .before .before .before .before .pre .1 .1) .inside) ((c .before .before .before .before .before .before .before .before .before .before .before .before .before .before .before .before .pre .1 .1) .low) _ (c .before .before .before .before .before .before .before .before .before .before .before .record-at .ensures .0) (c .before .before .before .before .before .before .before .before .before .if1 .left) _ (c .before .before .before .before .before .before .before .before .first-count .ensures .0) _ ((c .before .before .before .before .before .before .before .before .before .before .before .before .before .before .before .before .pre .1 .1) .least) (c .before .before .before .before .before .before .before .if2 .left) ((c .before .before .before .before .before .before .before .before .before .before .before .before .before .before .before .before .pre .1 .1) .room) (c .before .before .before .lay-record2 .ensures _ _ ((c .before .before .before .before .before .before .before .before .before .before .before .before .before .before .before .before .pre .1 .1) .counted)), c .before .before .before .before .before .before .before .before .before .before .before .record-at .ensures .1 .0)
+lay-record-wrap-b-requires t c κs =
+    let at-lay-record2 = c .before .before .before in
+    let at-if2 = at-lay-record2 .before .before .before .before in
+    let at-first-count = at-if2 .before in
+    let at-if1 = at-first-count .before in
+    let at-record-at = at-if1 .before .before in
+    let at-start = start-from-record-at at-record-at in
+    let can = at-start .pre .1 .1 in (
+      b-room (can .counted) _ (can .inside) (can .low) _ (at-record-at .record-at .ensures .0) (at-if1 .if1 .left) _ (at-first-count .first-count .ensures .0) _ (can .least) (at-if2 .if2 .left)
+          (can .room) (at-lay-record2 .lay-record2 .ensures _ _ (can .counted)),
+      at-record-at .record-at .ensures .1 .0,
+    )
 
 lay-record-same-length-3 : (t : ℕ) → lay-record-lts.Need-same-length-3 (claims t) (lay-record-at t) lay-record.Post
 lay-record-same-length-3 t c = search needs
 
 lay-record-returns-3 : (t : ℕ) → lay-record-lts.Need-returns-3 (claims t) (lay-record-at t) lay-record.Post
-lay-record-returns-3 t c W s C = b-lays C _ ((c .before .before .before .before .before .before .before .before .before .before .before .before .before .before .before .before .before .before .before .pre .1 .1) .inside) ((c .before .before .before .before .before .before .before .before .before .before .before .before .before .before .before .before .before .before .before .pre .1 .1) .low) _ (c .before .before .before .before .before .before .before .before .before .before .before .before .before .before .record-at .ensures .0) (c .before .before .before .before .before .before .before .before .before .before .before .before .if1 .left) _ (c .before .before .before .before .before .before .before .before .before .before .before .first-count .ensures .0) _ ((c .before .before .before .before .before .before .before .before .before .before .before .before .before .before .before .before .before .before .before .pre .1 .1) .least) (c .before .before .before .before .before .before .before .before .before .before .if2 .left) (c .before .before .before .before .before .before .before .before .before .tag-b .ensures) (c .before .before .before .before .before .before .before .before .past-words2 .ensures .0) (c .before .before .before .before .before .before .lay-record2 .ensures W s C) (c .before .before .wrap-b .ensures)
+lay-record-returns-3 t c W s C =
+    let at-lay-record2 = lay-record2-from-wrap-b (c .before .before) in
+    let at-past-words2 = at-lay-record2 .before .before in
+    let at-tag-b = at-past-words2 .before in
+    let at-if2 = at-tag-b .before in
+    let at-first-count = at-if2 .before in
+    let at-if1 = at-first-count .before in
+    let at-record-at = at-if1 .before .before in
+    let at-start = start-from-record-at at-record-at in
+    let can = at-start .pre .1 .1 in
+    b-lays C _ (can .inside) (can .low) _ (at-record-at .record-at .ensures .0) (at-if1 .if1 .left) _ (at-first-count .first-count .ensures .0) _ (can .least) (at-if2 .if2 .left)
+    (at-tag-b .tag-b .ensures) (at-past-words2 .past-words2 .ensures .0) (at-lay-record2 .lay-record2 .ensures W s C) (c .before .before .wrap-b .ensures)
 
 pub +lay-record-spec : {M : Type 1} → statement M
 +lay-record-spec = close μ-lay-record λ t. lay-record-lts.spec (claims t)

@@ -12,7 +12,8 @@ rest : (kind : ℕ) → (kind ≡ 5 → ⊥) → (kind ≡ 7 → ⊥) → (kind 
 unfolding loops
 rest =
     by-kind (λ (kind : ℕ). (kind ≡ 5 → ⊥) → (kind ≡ 7 → ⊥) → (kind ≡ 10 → ⊥) → (kind ≡ 11 → ⊥) → false ≡ loops kind)
-    (λ n5 n7 n10 n11. refl) (λ n5 n7 n10 n11. refl) (λ n5 n7 n10 n11. refl) (λ n5 n7 n10 n11. refl) (λ n5 n7 n10 n11. refl) (λ n5 n7 n10 n11. absurd (n5 refl)) (λ n5 n7 n10 n11. refl) (λ n5 n7 n10 n11. absurd (n7 refl)) (λ n5 n7 n10 n11. refl) (λ n5 n7 n10 n11. refl) (λ n5 n7 n10 n11. absurd (n10 refl)) (λ n5 n7 n10 n11. absurd (n11 refl)) (λ k n5 n7 n10 n11. refl)
+    (λ n5 n7 n10 n11. refl) (λ n5 n7 n10 n11. refl) (λ n5 n7 n10 n11. refl) (λ n5 n7 n10 n11. refl) (λ n5 n7 n10 n11. refl) (λ n5 n7 n10 n11. absurd (n5 refl)) (λ n5 n7 n10 n11. refl)
+    (λ n5 n7 n10 n11. absurd (n7 refl)) (λ n5 n7 n10 n11. refl) (λ n5 n7 n10 n11. refl) (λ n5 n7 n10 n11. absurd (n10 refl)) (λ n5 n7 n10 n11. absurd (n11 refl)) (λ k n5 n7 n10 n11. refl)
 
 returns : tie.Need-returns
 unfolding loops

@@ -11,8 +11,15 @@ count-in-requires c κs = search needs
 wide-requires : tie.Need-wide-requires
 wide-requires c κs = search needs
 
+-- Places: what stands before a need, by name. Written by `named`: run it again when the code changes.
+abbrev start-from-count-in : tie.After-count-in → tie.Start
+start-from-count-in c = c .before .before .before .before .before .before
+
 lay-record-requires : tie.Need-lay-record-requires
-lay-record-requires c κs = (c .before .before .before .before .before .before .before .before .before .pre .0, record-can (c .before .before .before .before .before .before .before .before .before .pre .1) (c .before .before .wide .ensures ∙ c .before .before .before .count-in .ensures) (c .before .if1 .taken))
+lay-record-requires c κs =
+    let at-count-in = c .before .before .before in
+    let at-start = start-from-count-in at-count-in in
+    (at-start .pre .0, record-can (at-start .pre .1) (c .before .before .wide .ensures ∙ at-count-in .count-in .ensures) (c .before .if1 .taken))
 
 same-length : tie.Need-same-length
 same-length c = search needs
@@ -24,7 +31,10 @@ final-in-requires : tie.Need-final-in-requires
 final-in-requires c κs = search needs
 
 returns-2 : tie.Need-returns-2
-returns-2 c = record-none (c .before .before .before .before .before .before .before .before .before .pre .1) (c .before .before .wide .ensures ∙ c .before .before .before .count-in .ensures) (c .before .if1 .left) (c .final-in .ensures)
+returns-2 c =
+    let at-count-in = c .before .before .before in
+    let at-start = start-from-count-in at-count-in in
+    record-none (at-start .pre .1) (c .before .before .wide .ensures ∙ at-count-in .count-in .ensures) (c .before .if1 .left) (c .final-in .ensures)
 
 pub step-record-spec : {M : Type 1} → statement M
 step-record-spec =

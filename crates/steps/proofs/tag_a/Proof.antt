@@ -11,7 +11,9 @@ rest : (kind : ℕ) → (kind ≡ 3 → ⊥) → (kind ≡ 5 → ⊥) → (kind 
 unfolding tagA
 rest =
     by-kind (λ (kind : ℕ). (kind ≡ 3 → ⊥) → (kind ≡ 5 → ⊥) → (kind ≡ 7 → ⊥) → (kind ≡ 8 → ⊥) → (kind ≡ 9 → ⊥) → (kind ≡ 10 → ⊥) → (kind ≡ 11 → ⊥) → 0 ≡ tagA kind)
-    (λ n3 n5 n7 n8 n9 n10 n11. refl) (λ n3 n5 n7 n8 n9 n10 n11. refl) (λ n3 n5 n7 n8 n9 n10 n11. refl) (λ n3 n5 n7 n8 n9 n10 n11. absurd (n3 refl)) (λ n3 n5 n7 n8 n9 n10 n11. refl) (λ n3 n5 n7 n8 n9 n10 n11. absurd (n5 refl)) (λ n3 n5 n7 n8 n9 n10 n11. refl) (λ n3 n5 n7 n8 n9 n10 n11. absurd (n7 refl)) (λ n3 n5 n7 n8 n9 n10 n11. absurd (n8 refl)) (λ n3 n5 n7 n8 n9 n10 n11. absurd (n9 refl)) (λ n3 n5 n7 n8 n9 n10 n11. absurd (n10 refl)) (λ n3 n5 n7 n8 n9 n10 n11. absurd (n11 refl)) (λ k n3 n5 n7 n8 n9 n10 n11. refl)
+    (λ n3 n5 n7 n8 n9 n10 n11. refl) (λ n3 n5 n7 n8 n9 n10 n11. refl) (λ n3 n5 n7 n8 n9 n10 n11. refl) (λ n3 n5 n7 n8 n9 n10 n11. absurd (n3 refl)) (λ n3 n5 n7 n8 n9 n10 n11. refl)
+    (λ n3 n5 n7 n8 n9 n10 n11. absurd (n5 refl)) (λ n3 n5 n7 n8 n9 n10 n11. refl) (λ n3 n5 n7 n8 n9 n10 n11. absurd (n7 refl)) (λ n3 n5 n7 n8 n9 n10 n11. absurd (n8 refl))
+    (λ n3 n5 n7 n8 n9 n10 n11. absurd (n9 refl)) (λ n3 n5 n7 n8 n9 n10 n11. absurd (n10 refl)) (λ n3 n5 n7 n8 n9 n10 n11. absurd (n11 refl)) (λ k n3 n5 n7 n8 n9 n10 n11. refl)
 
 returns : tie.Need-returns
 unfolding tagA

@@ -11,7 +11,8 @@ rest : (kind : ℕ) → (kind ≡ 8 → ⊥) → (kind ≡ 9 → ⊥) → 0 ≡ 
 unfolding tagB
 rest =
     by-kind (λ (kind : ℕ). (kind ≡ 8 → ⊥) → (kind ≡ 9 → ⊥) → 0 ≡ tagB kind)
-    (λ n8 n9. refl) (λ n8 n9. refl) (λ n8 n9. refl) (λ n8 n9. refl) (λ n8 n9. refl) (λ n8 n9. refl) (λ n8 n9. refl) (λ n8 n9. refl) (λ n8 n9. absurd (n8 refl)) (λ n8 n9. absurd (n9 refl)) (λ n8 n9. refl) (λ n8 n9. refl) (λ k n8 n9. refl)
+    (λ n8 n9. refl) (λ n8 n9. refl) (λ n8 n9. refl) (λ n8 n9. refl) (λ n8 n9. refl) (λ n8 n9. refl) (λ n8 n9. refl) (λ n8 n9. refl) (λ n8 n9. absurd (n8 refl)) (λ n8 n9. absurd (n9 refl))
+    (λ n8 n9. refl) (λ n8 n9. refl) (λ k n8 n9. refl)
 
 returns : tie.Need-returns
 unfolding tagB

@@ -17,7 +17,19 @@ sibling-requires : tie.Need-sibling-requires
 sibling-requires c κs = search needs
 
 close-leaf-requires : tie.Need-close-leaf-requires
-close-leaf-requires c κs = (c .before .before .before .before .before .pre .0, (construct-a _ (c .before .before .before .tag-a .ensures) (c .before .before .if1 .left), omega (arith, c .sibling .ensures, choice-few (loops (c .before .before .before .before .before .args .r .kind)) _ _ 65536 (c .before .before .before .before .before .pre .1 .0) (c .before .before .before .before .before .pre .1 .1))))
+close-leaf-requires c κs =
+    let at-tag-a = c .before .before .before in
+    let at-start = at-tag-a .before .before in (
+      at-start .pre .0,
+      (
+        construct-a _ (at-tag-a .tag-a .ensures) (c .before .before .if1 .left),
+        omega (
+          arith,
+          c .sibling .ensures,
+          choice-few (loops (at-start .args .r .kind)) _ _ 65536 (at-start .pre .1 .0) (at-start .pre .1 .1),
+        ),
+      ),
+    )
 
 add-result : tie.Need-add-result
 add-result c = search needs
@@ -26,7 +38,11 @@ same-length : tie.Need-same-length
 same-length c = search needs
 
 returns-2 : tie.Need-returns-2
-returns-2 c = closed-a _ _ _ _ _ (c .before .before .before .before .before .before .tag-a .ensures) (c .before .before .before .before .before .if1 .left) (c .before .before .before .sibling .ensures) (c .before .before .close-leaf .ensures)
+returns-2 c =
+    let at-sibling = c .before .before .before in
+    let at-if1 = at-sibling .before .before in
+    let at-tag-a = at-if1 .before in
+    closed-a _ _ _ _ _ (at-tag-a .tag-a .ensures) (at-if1 .if1 .left) (at-sibling .sibling .ensures) (c .before .before .close-leaf .ensures)
 
 pub wrap-a-spec : {M : Type 1} → statement M
 wrap-a-spec =

@@ -22,7 +22,10 @@ same-length : tie.Need-same-length
 same-length c = search needs
 
 returns-2 : tie.Need-returns-2
-returns-2 c = opened-b _ _ _ _ _ (c .before .before .before .before .before .tag-b .ensures) (c .before .before .before .before .if1 .left) (c .before .before .open-leaf .ensures)
+returns-2 c =
+    let at-if1 = c .before .before .before .before in
+    let at-tag-b = at-if1 .before in
+    opened-b _ _ _ _ _ (at-tag-b .tag-b .ensures) (at-if1 .if1 .left) (c .before .before .open-leaf .ensures)
 
 pub wrap-b-spec : {M : Type 1} → statement M
 wrap-b-spec =

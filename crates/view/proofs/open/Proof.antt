@@ -90,18 +90,23 @@ module _ {M : Type 1} (𝓤 : URA M) (H : Heap 𝓤) (A : Atoms 𝓤) (W : Given
   goes =
       qed W ((‵ (flft κ q) ⊛ ‵ ftrue) ∷ ‵ (owns (ShrSlice (named 0) κ u8 ∷ []) (s, tt) at) ∷ []) ∵
       move ! (1 ∷ []) $ fsplit ! $ use1 W (‵ Own ⊛ ‵ Own) (shr-slice-copy 𝓤 H A W (named 0) κ u8 .twice s (v ∷ [])) $ split ! $
-      move ! (0 ∷ 2 ∷ []) $ fjoin ! $ move ! (2 ∷ 0 ∷ []) $ use2 W (raw (Opening 𝓤 H A mem run .pre to)) (qed W ((‵ (flft κ q) ⊛ ‵ ftrue) ∷ ‵ (owns (ShrSlice (named 0) κ u8 ∷ []) (s, tt) at) ∷ []) ∵ join ! $ frame ! $ done !) $ frame ! $ done !
+      move ! (0 ∷ 2 ∷ []) $ fjoin ! $ move ! (2 ∷ 0 ∷ []) $ use2 W (raw (Opening 𝓤 H A mem run .pre to))
+      (qed W ((‵ (flft κ q) ⊛ ‵ ftrue) ∷ ‵ (owns (ShrSlice (named 0) κ u8 ∷ []) (s, tt) at) ∷ []) ∵
+      join ! $ frame ! $ done !) $ frame ! $ done !
 
   said : (r : Opened) → ent 𝓤 (ensured 𝓤 H A tab.ended (tab.clauses 𝓤 H A mem run) (κ, tt) (s, tt) tt r) (fact 𝓤 (r ≡ openedOf (now s)))
   said r = exE 𝓤 _ (λ ws. snd∗ 𝓤 (sem 𝓤 H A (lasts tab.ended (κ, tt) (s, tt) ws)) (fact 𝓤 (r ≡ openedOf (now s))))
 
-  exits : (o : Opened) (u : Val) → o ≡ openedOf (now s) → o .at < 2 ^ 64 → o .number < 2 ^ 32 → o .place < 2 ^ 64 → ent 𝓤 (⋆ 𝓤 H A (‵ (O.the-row .own o (u ∷ [])) ∷ (‵ (flft κ q) ⊛ ‵ ftrue) ∷ ‵ Own ∷ [])) (Post (T′.lowered (made o)))
+  exits : (o : Opened) (u : Val) → o ≡ openedOf (now s) → o .at < 2 ^ 64 → o .number < 2 ^ 32 → o .place < 2 ^ 64 →
+      ent 𝓤 (⋆ 𝓤 H A (‵ (O.the-row .own o (u ∷ [])) ∷ (‵ (flft κ q) ⊛ ‵ ftrue) ∷ ‵ Own ∷ [])) (Post (T′.lowered (made o)))
   exits o u e fits small there =
       qed W (‵ (O.the-row .own o (u ∷ [])) ∷ (‵ (flft κ q) ⊛ ‵ ftrue) ∷ ‵ Own ∷ []) ∵ drop ! $
-      suffices ! _ (ends-at 𝓤 H A opens.ended stayed (opens.clauses 𝓤 H A mem run) W (((κ, tt), (q, tt), tt, (s, tt), at), tt) (T′.lowered (made o)) (made o) (tt, tt) (tt, tt)) $ says ! (ap made e) $
+      suffices ! _ (ends-at 𝓤 H A opens.ended stayed (opens.clauses 𝓤 H A mem run) W (((κ, tt), (q, tt), tt, (s, tt), at), tt) (T′.lowered (made o)) (made o) (tt, tt) (tt, tt)) $
+      says ! (ap made e) $
       frame ! $ use1 W (‵ Own ⊛ ‵ Own) (shr-slice-copy 𝓤 H A W (named 0) κ u8 .twice s (v ∷ [])) $ split ! $ nothing ! $ move ! (1 ∷ 0 ∷ []) $ fjoin ! $ frame ! $
       -- [what src owns]: what the fields own together, of it and of the numbers' facts, is what the struct owns
-      nothing ! $ owned ! usize (Is usize) (uint-makes 𝓤 H A W w64) (o .place) _ (refl, there) $ fjoin ! $ owned ! u32 (Is u32) (uint-makes 𝓤 H A W w32) (o .number) _ (refl, small) $ fjoin ! $ owned ! usize (Is usize) (uint-makes 𝓤 H A W w64) (o .at) _ (refl, fits) $ fjoin ! $ move ! (1 ∷ 0 ∷ []) $ fjoin ! $
+      nothing ! $ owned ! usize (Is usize) (uint-makes 𝓤 H A W w64) (o .place) _ (refl, there) $ fjoin ! $ owned ! u32 (Is u32) (uint-makes 𝓤 H A W w32) (o .number) _ (refl, small) $ fjoin ! $
+      owned ! usize (Is usize) (uint-makes 𝓤 H A W w64) (o .at) _ (refl, fits) $ fjoin ! $ move ! (1 ∷ 0 ∷ []) $ fjoin ! $
       by ! (own-shut 𝓤 H A W (T.the-type α) (T′.the-laws α) (s, (o .at, (o .number, (o .place, tt)))))
 
   module _ (C : Calls 𝓤 H) (Λ : Loops 𝓤 H) (fm : FmC 𝓤 H (W .laws) C) (known : Triple 𝓤 (C #view·opened-of) (Opening 𝓤 H A mem run)) where
@@ -111,24 +116,41 @@ module _ {M : Type 1} (𝓤 : URA M) (H : Heap 𝓤) (A : Atoms 𝓤) (W : Given
         alloc1 ! (λ l₀. alloc1 ! (λ l₁. alloc1 ! (λ l₂. alloc0 ! $ params1 ! $ pass1 ! (init ! 2 refl (shr-slice-lawful 𝓤 H A W (named 0) κ u8 .typed s (v ∷ []) p .0)) $ pass0 ! $
         move ! (6 ∷ []) $ use1 W (raw (Opening 𝓤 H A mem run .pre to) ⊛ ‵ Own) goes $ split ! $
         calls-at ! fm (Opening 𝓤 H A mem run) known to (and-then ! (load ! (from ! (stop !)) (look ! 4 refl)) (no-more !)) (λ u.
-        use1 W (later (some (λ (o : Opened). ((‵ (flft κ q) ⊛ ‵ ftrue) ⊛ ‵ (O.the-row .own o (u ∷ []))) ⊛ raw (ensured 𝓤 H A tab.ended (tab.clauses 𝓤 H A mem run) (κ, tt) (s, tt) tt o)))) (id⊢ 𝓤 _) $ await ! tt $ pick ! (λ o.
+        use1 W (later (some (λ (o : Opened). ((‵ (flft κ q) ⊛ ‵ ftrue) ⊛ ‵ (O.the-row .own o (u ∷ []))) ⊛ raw (ensured 𝓤 H A tab.ended (tab.clauses 𝓤 H A mem run) (κ, tt) (s, tt) tt o))))
+        (id⊢ 𝓤 _) $
+        await ! tt $ pick ! (λ o.
         split ! $ move ! (1 ∷ []) $ use1 W (raw (fact 𝓤 (o ≡ openedOf (now s)))) (said o) $ heard ! (o ≡ openedOf (now s)) (λ e. split ! $ move ! (1 ∷ []) $
         -- [the plain struct; the token; what s owns; room for _2; …; _1; …; room for _0; …]
         peeks ! O.the-row (Is O.the-row) (shows 𝓤 H A O.the-row) o (u ∷ []) (λ is. let f = LL.owed O.the-type O′.the-laws o _ is in
-        land ! (from ! (stop !)) (init ! 3 refl (LL.lawful O.the-type O′.the-laws 𝓤 H A W .typed o _ is .0)) $ rewrite ! 3 (λ (w : Val). ‵ (fat fullShare O′.mir l₂ 0 w)) (ap only (LL.tells O.the-type O′.the-laws o _ is)) refl $
-        assigns ! (agg ! (and-then ! (load ! (from ! (stop !)) (look ! 5 refl)) (and-then ! (load ! (from ! (fld ! refl (stop !))) (look-in ! 3 (sub ! 0 refl (whole !)))) (and-then ! (load ! (from ! (fld ! refl (stop !))) (look-in ! 3 (sub ! 1 refl (whole !)))) (and-then ! (load ! (from ! (fld ! refl (stop !))) (look-in ! 3 (sub ! 2 refl (whole !)))) (no-more !)))))) (from ! (stop !)) (init ! 7 refl (tt, (shr-slice-lawful 𝓤 H A W (named 0) κ u8 .typed s (v ∷ []) p .0 .1, (record { fits = f .0 .1 }, (record { fits = f .1 .0 .1 }, (record { fits = f .1 .1 .0 .1 }, tt)))))) $
+        land ! (from ! (stop !)) (init ! 3 refl (LL.lawful O.the-type O′.the-laws 𝓤 H A W .typed o _ is .0)) $
+        rewrite ! 3 (λ (w : Val). ‵ (fat fullShare O′.mir l₂ 0 w)) (ap only (LL.tells O.the-type O′.the-laws o _ is)) refl $
+        assigns ! (agg ! (and-then ! (load ! (from ! (stop !)) (look ! 5 refl)) (and-then ! (load ! (from ! (fld ! refl (stop !))) (look-in ! 3 (sub ! 0 refl (whole !))))
+        (and-then ! (load ! (from ! (fld ! refl (stop !))) (look-in ! 3 (sub ! 1 refl (whole !))))
+        (and-then ! (load ! (from ! (fld ! refl (stop !))) (look-in ! 3 (sub ! 2 refl (whole !)))) (no-more !)))))) (from ! (stop !))
+        (init ! 7 refl (
+          tt,
+          (
+            shr-slice-lawful 𝓤 H A W (named 0) κ u8 .typed s (v ∷ []) p .0 .1,
+            (
+              record { fits = f .0 .1 },
+              (record { fits = f .1 .0 .1 }, (record { fits = f .1 .1 .0 .1 }, tt)),
+            ),
+          ),
+        )) $
         returns ! (look ! 7 refl) $ forget ! 3 refl $ forget ! 5 refl $ forget ! 7 refl $
         move ! (7 ∷ 8 ∷ []) $ free1 ! $ move ! (5 ∷ 6 ∷ []) $ free1 ! $ move ! (3 ∷ 4 ∷ []) $ free1 ! $ free0 ! $ by ! (exits o u e (f .0 .1) (f .1 .0 .1) (f .1 .1 .0 .1)))))))))
 
 module _ {M : Type 1} (𝓤 : URA M) (H : Heap 𝓤) (A : Atoms 𝓤) (W : Given 𝓤 H A) (mem : Memory → SProp 𝓤) (run : Routine → Fun 𝓤) where
-  open-walks : (C : Calls 𝓤 H) (Λ : Loops 𝓤 H) → FmC 𝓤 H (W .laws) C → Triple 𝓤 (C #view·opened-of) (Opening 𝓤 H A mem run) → Walks 𝓤 H A opens.ended stayed (WpFn 𝓤 H C Λ code.function) (opens.clauses 𝓤 H A mem run)
+  open-walks : (C : Calls 𝓤 H) (Λ : Loops 𝓤 H) → FmC 𝓤 H (W .laws) C → Triple 𝓤 (C #view·opened-of) (Opening 𝓤 H A mem run) →
+      Walks 𝓤 H A opens.ended stayed (WpFn 𝓤 H C Λ code.function) (opens.clauses 𝓤 H A mem run)
   open-walks C Λ fm known = walked 𝓤 H A opens.ended stayed (opens.clauses 𝓤 H A mem run) (WpFn 𝓤 H C Λ code.function) (λ κs. (slice-vals, tt)) (λ κs. (shr-slice-tells (named 0) (κs .0) u8, tt))
       (λ κs qs bounds a g are. via 𝓤 _ (fst∗ 𝓤 _ (emp 𝓤)) (walk 𝓤 H A W mem run (κs .0) (qs .0) (a .0) C Λ fm known (are .0)))
 
 open-meets : {M : Type 1} (𝓤 : URA M) (H : Heap 𝓤) (A : Atoms 𝓤) (W : Given 𝓤 H A) (mem : Memory → SProp 𝓤) (run : Routine → Fun 𝓤) (𝓣 : Tables 𝓤 H)
     → Triple 𝓤 (𝓣 .C #view·opened-of) (Opening 𝓤 H A mem run)
     → Meets 𝓤 H A opens.signature (WpFn 𝓤 H (𝓣 .C) (𝓣 .Λ) code.function) (opens.spec 𝓤 H A mem run)
-open-meets 𝓤 H A W mem run 𝓣 known = walk-meets 𝓤 H A opens.ended stayed W (goes-none-slice 𝓤 H A W 1 (0 ∷ []) tt (plain (λ _. u8)) yes, tt) (opens.clauses 𝓤 H A mem run) (WpFn 𝓤 H (𝓣 .C) (𝓣 .Λ) code.function) (WpFn-mono 𝓤 H (W .laws) 𝓣 code.function) (open-walks 𝓤 H A W mem run (𝓣 .C) (𝓣 .Λ) (fmOf 𝓤 H (W .laws) 𝓣) known)
+open-meets 𝓤 H A W mem run 𝓣 known = walk-meets 𝓤 H A opens.ended stayed W (goes-none-slice 𝓤 H A W 1 (0 ∷ []) tt (plain (λ _. u8)) yes, tt) (opens.clauses 𝓤 H A mem run)
+    (WpFn 𝓤 H (𝓣 .C) (𝓣 .Λ) code.function) (WpFn-mono 𝓤 H (W .laws) 𝓣 code.function) (open-walks 𝓤 H A W mem run (𝓣 .C) (𝓣 .Λ) (fmOf 𝓤 H (W .laws) 𝓣) known)
 
 pub open-spec : {M : Type 1} → stated.statement M
 unfolding code.routine tablesOf

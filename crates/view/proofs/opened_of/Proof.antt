@@ -25,14 +25,18 @@ enum-known-number c = search needs
 
 returns : tie.Need-returns
 returns c =
-    let s = now (c .before .before .before .before .before .args .s) in
-    let q = sym (c .before .before .before .check .ensures) ∙ c .before .enum-told .given .1 in
+    let at-check = c .before .before .before in
+    let at-start = at-check .before .before in
+    let s = now (at-start .args .s) in
+    let q = sym (at-check .check .ensures) ∙ c .before .enum-told .given .1 in
     ap opened-at (c .layout-of .ensures .0) ∙ sym (ap (openedAs s) q)
 
 returns-2 : tie.Need-returns-2
 returns-2 c =
-    let s = now (c .before .before .before .before .before .args .s) in
-    sym (ap (openedAs s) (sym (c .before .before .before .check .ensures) ∙ c .before .number .given .1))
+    let at-check = c .before .before .before in
+    let at-start = at-check .before .before in
+    let s = now (at-start .args .s) in
+    sym (ap (openedAs s) (sym (at-check .check .ensures) ∙ c .before .number .given .1))
 
 pub opened-of-spec : {M : Type 1} → statement M
 opened-of-spec =

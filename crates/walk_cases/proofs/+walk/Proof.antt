@@ -13,7 +13,7 @@ use Rattle.search.proofs.Seen.{fits-of, part-length}
 use Rattle.search.proofs.Trying.{leads, asked, step-kept, taken, stands-next, next-is-ready, kept-before}
 use borrow.Author.Needs.{needs}
 use Prim.Native.Nat.{ℕ, _<_}
-use borrow.Fn.Kinds.{In}
+use borrow.Fn.Kinds.{In, Out}
 use borrow.Fn.PlainCycle.{Measures, is, falls, and}
 use Rattle.walk_cases.proofs.walk.Reads as walk
 use Rattle.walk_cases.proofs.walk.Kinds as walk-kinds
@@ -81,23 +81,97 @@ claims t = (
   walk.Post,
 )
 
+-- Places: what stands before a need, by name. Written by `named`: run it again when the code changes.
+module _ {k : walk-lts.Claims} {p : In 3 walk-kinds.ps} {q : Out 3 walk-kinds.ps walk-kinds.r} where
+  abbrev start-from-read-state-requires : walk-lts.After-read-state-arg k p q → walk-lts.Start k p q
+  start-from-read-state-requires c = c .before .before .before .before .before
+
+  abbrev start-from-read-state : walk-lts.After-read-state k p q → walk-lts.Start k p q
+  start-from-read-state c = start-from-read-state-requires (c .before)
+
+  abbrev start-from-truths-of : walk-lts.After-truths-of k p q → walk-lts.Start k p q
+  start-from-truths-of c = start-from-read-state (c .before .before)
+
+  abbrev start-from-endable-of : walk-lts.After-endable-of k p q → walk-lts.Start k p q
+  start-from-endable-of c = start-from-truths-of (c .before .before)
+
+  abbrev start-from-skips-of : walk-lts.After-skips-of k p q → walk-lts.Start k p q
+  start-from-skips-of c = start-from-endable-of (c .before .before)
+
+  abbrev start-from-finals-of : walk-lts.After-finals-of k p q → walk-lts.Start k p q
+  start-from-finals-of c = start-from-skips-of (c .before .before .before .before .before)
+
+  abbrev finals-of-from-held4 : walk-lts.After-held4 k p q → walk-lts.After-finals-of k p q
+  finals-of-from-held4 c = c .before .before
+
+  abbrev truths-of-from-tally-of : walk-lts.After-tally-of k p q → walk-lts.After-truths-of k p q
+  truths-of-from-tally-of c = (finals-of-from-held4 (c .before .before .before .before)) .before .before .before .before .before .before .before .before .before
+
+  abbrev start-from-tally-of : walk-lts.After-tally-of k p q → walk-lts.Start k p q
+  start-from-tally-of c = start-from-truths-of (truths-of-from-tally-of c)
+
+  abbrev start-from-counts3 : walk-lts.After-counts3 k p q → walk-lts.Start k p q
+  start-from-counts3 c = start-from-tally-of (c .before .before .before .before .before .before)
+
+  abbrev tally-of-from-else1 : walk-lts.Else1 k p q → walk-lts.After-tally-of k p q
+  tally-of-from-else1 c = c .before .before .before .before .before .before .before .before .before .before .before .before .before .before
+
+  abbrev start-from-else1 : walk-lts.Else1 k p q → walk-lts.Start k p q
+  start-from-else1 c = start-from-tally-of (tally-of-from-else1 c)
+
+  abbrev held4-from-slice-aggregate-step-rest : walk-lts.After-held5 k p q → walk-lts.After-held4 k p q
+  held4-from-slice-aggregate-step-rest c = (tally-of-from-else1 (c .before .before .before .before .before)) .before .before .before .before
+
+  abbrev finals3-from-slice-aggregate-step-rest-2 : walk-lts.After-finals4 k p q → walk-lts.After-finals3 k p q
+  finals3-from-slice-aggregate-step-rest-2 c = c .before .before .before .before .before .before .before .before .before .before .before .before .before .before .before .before
+
+  abbrev counts3-from-slice-aggregate-step-rest-3 : walk-lts.After-counts4 k p q → walk-lts.After-counts3 k p q
+  counts3-from-slice-aggregate-step-rest-3 c = c .before .before .before .before .before .before .before .before .before .before .before .before .before .before .before
+
+  abbrev if1-from-add-step-rest : walk-lts.After-step-rest-arg2 k p q → walk-lts.Else1 k p q
+  if1-from-add-step-rest c = c .before .before .before .before .before .before .before .before
+
+  abbrev if1-from-step-rest : walk-lts.After-step-rest k p q → walk-lts.Else1 k p q
+  if1-from-step-rest c = if1-from-add-step-rest (c .before)
+
+  abbrev held4-from-turn : walk-lts.After-turn k p q → walk-lts.After-held4 k p q
+  held4-from-turn c = held4-from-slice-aggregate-step-rest (c .before .before .before .before .before .before .before .before)
+
+  abbrev turn-from-state-after : walk-lts.After-state-after k p q → walk-lts.After-turn k p q
+  turn-from-state-after c = c .before .before .before .before .before
+
+  abbrev if1-from-write-state : walk-lts.After-write-state k p q → walk-lts.Else1 k p q
+  if1-from-write-state c = if1-from-step-rest ((turn-from-state-after (c .before)) .before .before .before .before)
+
+  abbrev start-from-write-state : walk-lts.After-write-state k p q → walk-lts.Start k p q
+  start-from-write-state c = start-from-else1 (if1-from-write-state c)
+
+  abbrev write-state-from-walk-requires : walk-lts.After-walk-arg k p q → walk-lts.After-write-state k p q
+  write-state-from-walk-requires c = c .before .before .before .before .before
+
+  abbrev write-state-from-walk : walk-lts.After-walk k p q → walk-lts.After-write-state k p q
+  write-state-from-walk c = write-state-from-walk-requires (c .before)
+
 walk-read-state-requires : (t : ℕ) → walk-lts.Need-read-state-requires (claims t) (walk-at t) walk.Post
-walk-read-state-requires t c κs = let x = c .before .before .before .before .before .pre .1 .1 .0 in (x .0 .1, x .1 .state)
+walk-read-state-requires t c κs = let x = start-from-read-state-requires c .pre .1 .1 .0 in (x .0 .1, x .1 .state)
 
 walk-slice-aggregate-truths-of : (t : ℕ) → walk-lts.Need-slice-aggregate-truths-of (claims t) (walk-at t) walk.Post
 walk-slice-aggregate-truths-of t c = search needs
 
 walk-truths-of-requires : (t : ℕ) → walk-lts.Need-truths-of-requires (claims t) (walk-at t) walk.Post
-walk-truths-of-requires t c κs = let T = c .before .before .before .before .before .before .before .pre .1 .0 in ((T .accepted, T .layout-is), refl)
+walk-truths-of-requires t c κs = let T = start-from-read-state (c .before) .pre .1 .0 in ((T .accepted, T .layout-is), refl)
 
 walk-endable-of-requires : (t : ℕ) → walk-lts.Need-endable-of-requires (claims t) (walk-at t) walk.Post
-walk-endable-of-requires t c κs = c .before .before .before .before .before .before .before .before .before .pre .1 .0
+walk-endable-of-requires t c κs = start-from-truths-of (c .before) .pre .1 .0
 
 walk-slice-aggregate-skips-of : (t : ℕ) → walk-lts.Need-slice-aggregate-skips-of (claims t) (walk-at t) walk.Post
 walk-slice-aggregate-skips-of t c = search needs
 
 walk-skips-of-requires : (t : ℕ) → walk-lts.Need-skips-of-requires (claims t) (walk-at t) walk.Post
-walk-skips-of-requires t c κs = (c .before .before .before .before .before .before .before .before .before .before .before .pre .1 .0, c .before .endable-of .ensures .0, c .before .endable-of .ensures .1)
+walk-skips-of-requires t c κs =
+    let at-endable-of = c .before in
+    let at-start = start-from-endable-of at-endable-of in
+    (at-start .pre .1 .0, at-endable-of .endable-of .ensures .0, at-endable-of .endable-of .ensures .1)
 
 walk-slice-aggregate-finals-of : (t : ℕ) → walk-lts.Need-slice-aggregate-finals-of (claims t) (walk-at t) walk.Post
 walk-slice-aggregate-finals-of t c = search needs
@@ -112,7 +186,10 @@ walk-slice-aggregate-finals-of-4 : (t : ℕ) → walk-lts.Need-slice-aggregate-f
 walk-slice-aggregate-finals-of-4 t c = search needs
 
 walk-finals-of-requires : (t : ℕ) → walk-lts.Need-finals-of-requires (claims t) (walk-at t) walk.Post
-walk-finals-of-requires t c κs = (c .before .before .before .before .before .before .before .before .before .before .before .before .before .before .before .before .pre .1 .0, c .before .before .before .before .skips-of .ensures, length-replicate 260 false)
+walk-finals-of-requires t c κs =
+    let at-skips-of = c .before .before .before .before in
+    let at-start = start-from-skips-of at-skips-of in
+    (at-start .pre .1 .0, at-skips-of .skips-of .ensures, length-replicate 260 false)
 
 walk-slice-aggregate-tally-of : (t : ℕ) → walk-lts.Need-slice-aggregate-tally-of (claims t) (walk-at t) walk.Post
 walk-slice-aggregate-tally-of t c = search needs
@@ -127,10 +204,15 @@ walk-slice-aggregate-tally-of-4 : (t : ℕ) → walk-lts.Need-slice-aggregate-ta
 walk-slice-aggregate-tally-of-4 t c = search needs
 
 walk-tally-of-requires : (t : ℕ) → walk-lts.Need-tally-of-requires (claims t) (walk-at t) walk.Post
-walk-tally-of-requires t c κs = ((c .before .before .before .before .before .before .before .before .before .before .before .before .before .before .before .before .before .before .before .before .before .before .pre .1 .0, c .before .before .before .before .before .finals-of .ensures), (refl, refl))
+walk-tally-of-requires t c κs =
+    let at-finals-of = finals-of-from-held4 (c .before .before .before) in
+    let at-start = start-from-finals-of at-finals-of in
+    ((at-start .pre .1 .0, at-finals-of .finals-of .ensures), (refl, refl))
 
 walk-add-from : (t : ℕ) → walk-lts.Need-add-from (claims t) (walk-at t) walk.Post
-walk-add-from t c = omega (arith, in-frame (c .before .before .before .before .before .before .before .before .before .before .before .before .before .before .before .before .before .before .before .before .before .before .before .before .before .before .pre .1 .1 .0 .2), ready-small (c .before .before .before .before .before .before .before .before .before .before .before .before .before .before .before .before .before .before .before .before .before .before .before .before .before .before .pre .1 .1 .0 .2))
+walk-add-from t c =
+    let at-start = start-from-tally-of (c .before .before .before) in
+    omega (arith, in-frame (at-start .pre .1 .1 .0 .2), ready-small (at-start .pre .1 .1 .0 .2))
 
 walk-slice-aggregate-total-rest : (t : ℕ) → walk-lts.Need-slice-aggregate-total-rest (claims t) (walk-at t) walk.Post
 walk-slice-aggregate-total-rest t c = search needs
@@ -142,13 +224,17 @@ walk-slice-aggregate-total-rest-3 : (t : ℕ) → walk-lts.Need-slice-aggregate-
 walk-slice-aggregate-total-rest-3 t c = search needs
 
 walk-total-rest-requires : (t : ℕ) → walk-lts.Need-total-rest-requires (claims t) (walk-at t) walk.Post
-walk-total-rest-requires t c κs = (ready-holds (c .before .before .before .before .before .before .before .before .before .before .before .before .before .before .before .before .before .before .before .before .before .before .before .before .before .before .before .before .before .before .pre .1 .1 .0 .2), ready-small (c .before .before .before .before .before .before .before .before .before .before .before .before .before .before .before .before .before .before .before .before .before .before .before .before .before .before .before .before .before .before .pre .1 .1 .0 .2))
+walk-total-rest-requires t c κs =
+    let at-start = start-from-counts3 (c .before) in
+    (ready-holds (at-start .pre .1 .1 .0 .2), ready-small (at-start .pre .1 .1 .0 .2))
 
 walk-configuration-requires : (t : ℕ) → walk-lts.Need-configuration-requires (claims t) (walk-at t) walk.Post
 walk-configuration-requires t c κs = search needs
 
 walk-size-at-requires : (t : ℕ) → walk-lts.Need-size-at-requires (claims t) (walk-at t) walk.Post
-walk-size-at-requires t c κs = omega (arith, in-frame (c .before .before .before .before .before .before .before .before .before .before .before .before .before .before .before .before .before .before .before .before .before .before .before .before .before .before .before .before .before .before .before .before .before .pre .1 .1 .0 .2), one-frame (c .before .before .before .before .before .before .before .before .before .before .before .before .before .before .before .before .before .before .before .before .before .before .before .before .before .before .before .before .before .before .before .before .before .pre .1 .1 .0 .2))
+walk-size-at-requires t c κs =
+    let at-start = start-from-counts3 (c .before .before .before .before) in
+    omega (arith, in-frame (at-start .pre .1 .1 .0 .2), one-frame (at-start .pre .1 .1 .0 .2))
 
 walk-nodes-requires : (t : ℕ) → walk-lts.Need-nodes-requires (claims t) (walk-at t) walk.Post
 walk-nodes-requires t c κs = search needs
@@ -164,53 +250,65 @@ walk-choice-requires t c κs = search needs
 
 walk-add-to : (t : ℕ) → walk-lts.Need-add-to (claims t) (walk-at t) walk.Post
 walk-add-to t c =
-    let T = c .before .before .before .before .before .before .before .before .before .before .before .before .before .before .before .before .before .before .before .before .before .before .before .before .before .before .before .before .before .before .before .before .before .before .before .before .before .before .before .before .pre .1 .0 in
-    let R = c .before .before .before .before .before .before .before .before .before .before .before .before .before .before .before .before .before .before .before .before .before .before .before .before .before .before .before .before .before .before .before .before .before .before .before .before .before .before .before .before .pre .1 .1 .0 .2 in
-    let L : 1 ≤ c .before .before .before .before .before .before .before .before .before .before .before .before .before .before .before .before .before .before .before .before .before .before .before .before .before .before .before .before .before .before .before .before .before .before .before .before .before .before .before .before .args .q .left = omega (arith, c .before .before .before .if1 .left) in
+    let at-if1 = c .before .before .before in
+    let at-start = start-from-else1 at-if1 in
+    let T = at-start .pre .1 .0 in
+    let R = at-start .pre .1 .1 .0 .2 in
+    let L : 1 ≤ at-start .args .q .left = omega (arith, at-if1 .if1 .left) in
     omega (arith, in-frame R, next-inside R L, ready-small R, one-frame R)
 
 walk-sub-step-rest : (t : ℕ) → walk-lts.Need-sub-step-rest (claims t) (walk-at t) walk.Post
 walk-sub-step-rest t c =
-    let T = c .before .before .before .before .before .before .before .before .before .before .before .before .before .before .before .before .before .before .before .before .before .before .before .before .before .before .before .before .before .before .before .before .before .before .before .before .before .before .before .before .pre .1 .0 in
-    let f = fits-of (now (c .before .before .before .before .before .before .before .before .before .before .before .before .before .before .before .before .before .before .before .before .before .before .before .before .before .before .before .before .before .before .before .before .before .before .before .before .before .before .before .before .args .s)) (c .before .before .before .before .before .before .before .before .before .before .before .before .before .before .before .before .before .before .before .before .before .before .before .before .before .before .before .before .before .before .before .before .before .before .before .before .before .before .before .before .args .t .layout) (T .accepted, T .layout-is) in
+    let at-start = start-from-else1 (c .before .before .before) in
+    let T = at-start .pre .1 .0 in
+    let f = fits-of (now (at-start .args .s)) (at-start .args .t .layout) (T .accepted, T .layout-is) in
     omega (arith, f .at-formulas, f .at-effects, f .at-actions, f .at-programs, f .at-end, f .inside)
 
 walk-part-step-rest-start : (t : ℕ) → walk-lts.Need-part-step-rest-start (claims t) (walk-at t) walk.Post
 walk-part-step-rest-start t c =
-    let T = c .before .before .before .before .before .before .before .before .before .before .before .before .before .before .before .before .before .before .before .before .before .before .before .before .before .before .before .before .before .before .before .before .before .before .before .before .before .before .before .before .pre .1 .0 in
-    let f = fits-of (now (c .before .before .before .before .before .before .before .before .before .before .before .before .before .before .before .before .before .before .before .before .before .before .before .before .before .before .before .before .before .before .before .before .before .before .before .before .before .before .before .before .args .s)) (c .before .before .before .before .before .before .before .before .before .before .before .before .before .before .before .before .before .before .before .before .before .before .before .before .before .before .before .before .before .before .before .before .before .before .before .before .before .before .before .before .args .t .layout) (T .accepted, T .layout-is) in
+    let at-start = start-from-else1 (c .before .before .before) in
+    let T = at-start .pre .1 .0 in
+    let f = fits-of (now (at-start .args .s)) (at-start .args .t .layout) (T .accepted, T .layout-is) in
     omega (arith, f .at-formulas, f .at-effects, f .at-actions, f .at-programs, f .at-end, f .inside)
 
 walk-part-step-rest-end : (t : ℕ) → walk-lts.Need-part-step-rest-end (claims t) (walk-at t) walk.Post
 walk-part-step-rest-end t c =
-    let T = c .before .before .before .before .before .before .before .before .before .before .before .before .before .before .before .before .before .before .before .before .before .before .before .before .before .before .before .before .before .before .before .before .before .before .before .before .before .before .before .before .pre .1 .0 in
-    let f = fits-of (now (c .before .before .before .before .before .before .before .before .before .before .before .before .before .before .before .before .before .before .before .before .before .before .before .before .before .before .before .before .before .before .before .before .before .before .before .before .before .before .before .before .args .s)) (c .before .before .before .before .before .before .before .before .before .before .before .before .before .before .before .before .before .before .before .before .before .before .before .before .before .before .before .before .before .before .before .before .before .before .before .before .before .before .before .before .args .t .layout) (T .accepted, T .layout-is) in
+    let at-start = start-from-else1 (c .before .before .before) in
+    let T = at-start .pre .1 .0 in
+    let f = fits-of (now (at-start .args .s)) (at-start .args .t .layout) (T .accepted, T .layout-is) in
     omega (arith, f .at-formulas, f .at-effects, f .at-actions, f .at-programs, f .at-end, f .inside)
 
 walk-slice-aggregate-step-rest : (t : ℕ) → walk-lts.Need-slice-aggregate-step-rest (claims t) (walk-at t) walk.Post
-walk-slice-aggregate-step-rest t c = walk-slice-aggregate-tally-of t (c .before .before .before .before .before .before .before .before .before .before .before .before .before .before .before .before .before .before .before .before .before .before .before)
+walk-slice-aggregate-step-rest t c = walk-slice-aggregate-tally-of t (held4-from-slice-aggregate-step-rest c)
 
 walk-slice-aggregate-step-rest-2 : (t : ℕ) → walk-lts.Need-slice-aggregate-step-rest-2 (claims t) (walk-at t) walk.Post
-walk-slice-aggregate-step-rest-2 t c = walk-slice-aggregate-total-rest t (c .before .before .before .before .before .before .before .before .before .before .before .before .before .before .before .before)
+walk-slice-aggregate-step-rest-2 t c = walk-slice-aggregate-total-rest t (finals3-from-slice-aggregate-step-rest-2 c)
 
 walk-slice-aggregate-step-rest-3 : (t : ℕ) → walk-lts.Need-slice-aggregate-step-rest-3 (claims t) (walk-at t) walk.Post
-walk-slice-aggregate-step-rest-3 t c = walk-slice-aggregate-total-rest-3 t (c .before .before .before .before .before .before .before .before .before .before .before .before .before .before .before)
+walk-slice-aggregate-step-rest-3 t c = walk-slice-aggregate-total-rest-3 t (counts3-from-slice-aggregate-step-rest-3 c)
 
 walk-add-step-rest : (t : ℕ) → walk-lts.Need-add-step-rest (claims t) (walk-at t) walk.Post
 walk-add-step-rest t c =
-    let T = c .before .before .before .before .before .before .before .before .before .before .before .before .before .before .before .before .before .before .before .before .before .before .before .before .before .before .before .before .before .before .before .before .before .before .before .before .before .before .before .before .before .before .before .before .before .pre .1 .0 in
-    let R = c .before .before .before .before .before .before .before .before .before .before .before .before .before .before .before .before .before .before .before .before .before .before .before .before .before .before .before .before .before .before .before .before .before .before .before .before .before .before .before .before .before .before .before .before .before .pre .1 .1 .0 .2 in
-    let L : 1 ≤ c .before .before .before .before .before .before .before .before .before .before .before .before .before .before .before .before .before .before .before .before .before .before .before .before .before .before .before .before .before .before .before .before .before .before .before .before .before .before .before .before .before .before .before .before .before .args .q .left = omega (arith, c .before .before .before .before .before .before .before .before .if1 .left) in
+    let at-if1 = if1-from-add-step-rest c in
+    let at-start = start-from-else1 at-if1 in
+    let T = at-start .pre .1 .0 in
+    let R = at-start .pre .1 .1 .0 .2 in
+    let L : 1 ≤ at-start .args .q .left = omega (arith, at-if1 .if1 .left) in
     omega (arith, in-frame R, next-inside R L, ready-small R, one-frame R)
 
 walk-step-rest-requires : (t : ℕ) → walk-lts.Need-step-rest-requires (claims t) (walk-at t) walk.Post
 walk-step-rest-requires t c κs =
-    let T = c .before .before .before .before .before .before .before .before .before .before .before .before .before .before .before .before .before .before .before .before .before .before .before .before .before .before .before .before .before .before .before .before .before .before .before .before .before .before .before .before .before .before .before .before .before .pre .1 .0 in
-    let R = c .before .before .before .before .before .before .before .before .before .before .before .before .before .before .before .before .before .before .before .before .before .before .before .before .before .before .before .before .before .before .before .before .before .before .before .before .before .before .before .before .before .before .before .before .before .pre .1 .1 .0 .2 in
-    let S = c .before .before .before .before .before .before .before .before .before .before .before .before .before .before .before .before .before .before .before .before .before .before .tally-of .ensures (c .before .before .before .before .before .before .before .before .before .before .before .before .before .before .before .before .before .before .before .before .before .before .before .before .before .before .before .before .before .before .before .before .before .before .before .before .before .before .before .read-state .result) refl (c .before .before .before .before .before .before .before .before .before .before .before .before .before .before .before .before .before .before .before .before .before .before .before .before .before .before .before .before .before .before .before .before .before .before .before .before .before .truths-of .ensures) in
-    let L : 1 ≤ c .before .before .before .before .before .before .before .before .before .before .before .before .before .before .before .before .before .before .before .before .before .before .before .before .before .before .before .before .before .before .before .before .before .before .before .before .before .before .before .before .before .before .before .before .before .args .q .left = omega (arith, c .before .before .before .before .before .before .before .before .if1 .left) in
-    let s = now (c .before .before .before .before .before .before .before .before .before .before .before .before .before .before .before .before .before .before .before .before .before .before .before .before .before .before .before .before .before .before .before .before .before .before .before .before .before .before .before .before .before .before .before .before .before .args .s) in
-    let l = c .before .before .before .before .before .before .before .before .before .before .before .before .before .before .before .before .before .before .before .before .before .before .before .before .before .before .before .before .before .before .before .before .before .before .before .before .before .before .before .before .before .before .before .before .before .args .t .layout in
+    let at-if1 = if1-from-add-step-rest c in
+    let at-tally-of = tally-of-from-else1 at-if1 in
+    let at-truths-of = truths-of-from-tally-of at-tally-of in
+    let at-read-state = at-truths-of .before .before in
+    let at-start = start-from-read-state at-read-state in
+    let T = at-start .pre .1 .0 in
+    let R = at-start .pre .1 .1 .0 .2 in
+    let S = at-tally-of .tally-of .ensures (at-read-state .read-state .result) refl (at-truths-of .truths-of .ensures) in
+    let L : 1 ≤ at-start .args .q .left = omega (arith, at-if1 .if1 .left) in
+    let s = now (at-start .args .s) in
+    let l = at-start .args .t .layout in
     let f = fits-of s l (T .accepted, T .layout-is) in
     let n = part-length s (l .programs) (l .end) (omega (arith, f .at-end)) (omega (arith, f .inside)) in
     ((omega (arith, n, f .at-end), f .some-record, f .p), asked T S R L)
@@ -223,84 +321,137 @@ walk-enum-told t c = search needs
 
 walk-same-length-2 : (t : ℕ) → walk-lts.Need-same-length-2 (claims t) (walk-at t) walk.Post
 walk-same-length-2 t c =
-    let T = c .before .before .before .before .before .before .before .before .before .before .before .before .before .before .before .before .before .before .before .before .before .before .before .before .before .before .before .before .before .before .before .before .before .before .before .before .before .before .before .before .before .before .before .before .before .before .before .before .before .before .pre .1 .0 in
-    let R = c .before .before .before .before .before .before .before .before .before .before .before .before .before .before .before .before .before .before .before .before .before .before .before .before .before .before .before .before .before .before .before .before .before .before .before .before .before .before .before .before .before .before .before .before .before .before .before .before .before .before .pre .1 .1 .0 .2 in
-    let S = c .before .before .before .before .before .before .before .before .before .before .before .before .before .before .before .before .before .before .before .before .before .before .before .before .before .before .before .tally-of .ensures (c .before .before .before .before .before .before .before .before .before .before .before .before .before .before .before .before .before .before .before .before .before .before .before .before .before .before .before .before .before .before .before .before .before .before .before .before .before .before .before .before .before .before .before .before .read-state .result) refl (c .before .before .before .before .before .before .before .before .before .before .before .before .before .before .before .before .before .before .before .before .before .before .before .before .before .before .before .before .before .before .before .before .before .before .before .before .before .before .before .before .before .before .truths-of .ensures) in
-    let L : 1 ≤ c .before .before .before .before .before .before .before .before .before .before .before .before .before .before .before .before .before .before .before .before .before .before .before .before .before .before .before .before .before .before .before .before .before .before .before .before .before .before .before .before .before .before .before .before .before .before .before .before .before .before .args .q .left = omega (arith, c .before .before .before .before .before .before .before .before .before .before .before .before .before .if1 .left) in
-    step-kept T S R L (c .before .before .before .before .step-rest .ensures) .len
+    let at-step-rest = c .before .before .before .before in
+    let at-if1 = if1-from-step-rest at-step-rest in
+    let at-tally-of = tally-of-from-else1 at-if1 in
+    let at-truths-of = truths-of-from-tally-of at-tally-of in
+    let at-read-state = at-truths-of .before .before in
+    let at-start = start-from-read-state at-read-state in
+    let T = at-start .pre .1 .0 in
+    let R = at-start .pre .1 .1 .0 .2 in
+    let S = at-tally-of .tally-of .ensures (at-read-state .read-state .result) refl (at-truths-of .truths-of .ensures) in
+    let L : 1 ≤ at-start .args .q .left = omega (arith, at-if1 .if1 .left) in
+    step-kept T S R L (at-step-rest .step-rest .ensures) .len
 
 walk-returns-2 : (t : ℕ) → walk-lts.Need-returns-2 (claims t) (walk-at t) walk.Post
 walk-returns-2 t c =
-    let T = c .before .before .before .before .before .before .before .before .before .before .before .before .before .before .before .before .before .before .before .before .before .before .before .before .before .before .before .before .before .before .before .before .before .before .before .before .before .before .before .before .before .before .before .before .before .before .before .before .before .before .pre .1 .0 in
-    let R = c .before .before .before .before .before .before .before .before .before .before .before .before .before .before .before .before .before .before .before .before .before .before .before .before .before .before .before .before .before .before .before .before .before .before .before .before .before .before .before .before .before .before .before .before .before .before .before .before .before .before .pre .1 .1 .0 .2 in
-    let S = c .before .before .before .before .before .before .before .before .before .before .before .before .before .before .before .before .before .before .before .before .before .before .before .before .before .before .before .tally-of .ensures (c .before .before .before .before .before .before .before .before .before .before .before .before .before .before .before .before .before .before .before .before .before .before .before .before .before .before .before .before .before .before .before .before .before .before .before .before .before .before .before .before .before .before .before .before .read-state .result) refl (c .before .before .before .before .before .before .before .before .before .before .before .before .before .before .before .before .before .before .before .before .before .before .before .before .before .before .before .before .before .before .before .before .before .before .before .before .before .before .before .before .before .before .truths-of .ensures) in
-    let L : 1 ≤ c .before .before .before .before .before .before .before .before .before .before .before .before .before .before .before .before .before .before .before .before .before .before .before .before .before .before .before .before .before .before .before .before .before .before .before .before .before .before .before .before .before .before .before .before .before .before .before .before .before .before .args .q .left = omega (arith, c .before .before .before .before .before .before .before .before .before .before .before .before .before .if1 .left) in
-    step-kept T S R L (c .before .before .before .before .step-rest .ensures) .len
+    let at-step-rest = c .before .before .before .before in
+    let at-if1 = if1-from-step-rest at-step-rest in
+    let at-tally-of = tally-of-from-else1 at-if1 in
+    let at-truths-of = truths-of-from-tally-of at-tally-of in
+    let at-read-state = at-truths-of .before .before in
+    let at-start = start-from-read-state at-read-state in
+    let T = at-start .pre .1 .0 in
+    let R = at-start .pre .1 .1 .0 .2 in
+    let S = at-tally-of .tally-of .ensures (at-read-state .read-state .result) refl (at-truths-of .truths-of .ensures) in
+    let L : 1 ≤ at-start .args .q .left = omega (arith, at-if1 .if1 .left) in
+    step-kept T S R L (at-step-rest .step-rest .ensures) .len
 
 walk-transition-requires : (t : ℕ) → walk-lts.Need-transition-requires (claims t) (walk-at t) walk.Post
 walk-transition-requires t c κs = search needs
 
 walk-slice-aggregate-state-after : (t : ℕ) → walk-lts.Need-slice-aggregate-state-after (claims t) (walk-at t) walk.Post
-walk-slice-aggregate-state-after t c = walk-slice-aggregate-tally-of t (c .before .before .before .before .before .before .before .before .before .before .before .before .before .before .before .before .before .before .before .before .before .before .before .before .before .before .before .before .before .before .before .before .before .before .before)
+walk-slice-aggregate-state-after t c = walk-slice-aggregate-tally-of t (held4-from-turn (c .before .before .before .before))
 
 walk-state-after-requires : (t : ℕ) → walk-lts.Need-state-after-requires (claims t) (walk-at t) walk.Post
 walk-state-after-requires t c κs =
-    let T = c .before .before .before .before .before .before .before .before .before .before .before .before .before .before .before .before .before .before .before .before .before .before .before .before .before .before .before .before .before .before .before .before .before .before .before .before .before .before .before .before .before .before .before .before .before .before .before .before .before .before .before .before .before .before .pre .1 .0 in
-    let R = c .before .before .before .before .before .before .before .before .before .before .before .before .before .before .before .before .before .before .before .before .before .before .before .before .before .before .before .before .before .before .before .before .before .before .before .before .before .before .before .before .before .before .before .before .before .before .before .before .before .before .before .before .before .before .pre .1 .1 .0 .2 in
-    let S = c .before .before .before .before .before .before .before .before .before .before .before .before .before .before .before .before .before .before .before .before .before .before .before .before .before .before .before .before .before .before .before .tally-of .ensures (c .before .before .before .before .before .before .before .before .before .before .before .before .before .before .before .before .before .before .before .before .before .before .before .before .before .before .before .before .before .before .before .before .before .before .before .before .before .before .before .before .before .before .before .before .before .before .before .before .read-state .result) refl (c .before .before .before .before .before .before .before .before .before .before .before .before .before .before .before .before .before .before .before .before .before .before .before .before .before .before .before .before .before .before .before .before .before .before .before .before .before .before .before .before .before .before .before .before .before .before .truths-of .ensures) in
-    let L : 1 ≤ c .before .before .before .before .before .before .before .before .before .before .before .before .before .before .before .before .before .before .before .before .before .before .before .before .before .before .before .before .before .before .before .before .before .before .before .before .before .before .before .before .before .before .before .before .before .before .before .before .before .before .before .before .before .before .args .q .left = omega (arith, c .before .before .before .before .before .before .before .before .before .before .before .before .before .before .before .before .before .if1 .left) in
-    let X = taken T S R L (c .before .before .before .before .before .before .before .before .step-rest .ensures) _ _ (c .before .before .before .before .turn .given .1) in
+    let at-turn = c .before .before .before .before in
+    let at-step-rest = at-turn .before .before .before .before in
+    let at-if1 = if1-from-step-rest at-step-rest in
+    let at-tally-of = tally-of-from-else1 at-if1 in
+    let at-truths-of = truths-of-from-tally-of at-tally-of in
+    let at-read-state = at-truths-of .before .before in
+    let at-start = start-from-read-state at-read-state in
+    let T = at-start .pre .1 .0 in
+    let R = at-start .pre .1 .1 .0 .2 in
+    let S = at-tally-of .tally-of .ensures (at-read-state .read-state .result) refl (at-truths-of .truths-of .ensures) in
+    let L : 1 ≤ at-start .args .q .left = omega (arith, at-if1 .if1 .left) in
+    let X = taken T S R L (at-step-rest .step-rest .ensures) _ _ (at-turn .turn .given .1) in
     ((T .accepted, T .layout-is), (X .move .0, X .known, X .code))
 
 walk-write-state-requires : (t : ℕ) → walk-lts.Need-write-state-requires (claims t) (walk-at t) walk.Post
 walk-write-state-requires t c κs =
-    let T = c .before .before .before .before .before .before .before .before .before .before .before .before .before .before .before .before .before .before .before .before .before .before .before .before .before .before .before .before .before .before .before .before .before .before .before .before .before .before .before .before .before .before .before .before .before .before .before .before .before .before .before .before .before .before .before .pre .1 .0 in
-    let R = c .before .before .before .before .before .before .before .before .before .before .before .before .before .before .before .before .before .before .before .before .before .before .before .before .before .before .before .before .before .before .before .before .before .before .before .before .before .before .before .before .before .before .before .before .before .before .before .before .before .before .before .before .before .before .before .pre .1 .1 .0 .2 in
-    let S = c .before .before .before .before .before .before .before .before .before .before .before .before .before .before .before .before .before .before .before .before .before .before .before .before .before .before .before .before .before .before .before .before .tally-of .ensures (c .before .before .before .before .before .before .before .before .before .before .before .before .before .before .before .before .before .before .before .before .before .before .before .before .before .before .before .before .before .before .before .before .before .before .before .before .before .before .before .before .before .before .before .before .before .before .before .before .before .read-state .result) refl (c .before .before .before .before .before .before .before .before .before .before .before .before .before .before .before .before .before .before .before .before .before .before .before .before .before .before .before .before .before .before .before .before .before .before .before .before .before .before .before .before .before .before .before .before .before .before .before .truths-of .ensures) in
-    let L : 1 ≤ c .before .before .before .before .before .before .before .before .before .before .before .before .before .before .before .before .before .before .before .before .before .before .before .before .before .before .before .before .before .before .before .before .before .before .before .before .before .before .before .before .before .before .before .before .before .before .before .before .before .before .before .before .before .before .before .args .q .left = omega (arith, c .before .before .before .before .before .before .before .before .before .before .before .before .before .before .before .before .before .before .if1 .left) in
-    let X = taken T S R L (c .before .before .before .before .before .before .before .before .before .step-rest .ensures) _ _ (c .before .before .before .before .before .turn .given .1) in
+    let at-turn = turn-from-state-after c in
+    let at-step-rest = at-turn .before .before .before .before in
+    let at-if1 = if1-from-step-rest at-step-rest in
+    let at-tally-of = tally-of-from-else1 at-if1 in
+    let at-truths-of = truths-of-from-tally-of at-tally-of in
+    let at-read-state = at-truths-of .before .before in
+    let at-start = start-from-read-state at-read-state in
+    let T = at-start .pre .1 .0 in
+    let R = at-start .pre .1 .1 .0 .2 in
+    let S = at-tally-of .tally-of .ensures (at-read-state .read-state .result) refl (at-truths-of .truths-of .ensures) in
+    let L : 1 ≤ at-start .args .q .left = omega (arith, at-if1 .if1 .left) in
+    let X = taken T S R L (at-step-rest .step-rest .ensures) _ _ (at-turn .turn .given .1) in
     omega (arith, next-inside R L, X .kept .len, one-frame R)
 
 walk-sub-t74 : (t : ℕ) → walk-lts.Need-sub-t74 (claims t) (walk-at t) walk.Post
-walk-sub-t74 t c = omega (arith, c .before .before .before .before .before .before .before .before .before .before .before .before .before .before .before .before .before .before .before .before .before .before .if1 .left)
+walk-sub-t74 t c = omega (arith, if1-from-write-state (c .before .before .before) .if1 .left)
 
 walk-add-t59 : (t : ℕ) → walk-lts.Need-add-t59 (claims t) (walk-at t) walk.Post
-walk-add-t59 t c = omega (arith, c .before .before .before .before .before .before .before .before .before .before .before .before .before .before .before .before .before .before .before .before .before .before .before .before .before .before .before .before .before .before .before .before .before .before .before .before .before .before .before .before .before .before .before .before .before .before .before .before .before .before .before .before .before .before .before .before .before .before .before .before .pre .1 .1 .1)
+walk-add-t59 t c = omega (arith, start-from-write-state (c .before .before .before .before) .pre .1 .1 .1)
 
 walk-walk-requires : (t : ℕ) → walk-lts.Need-walk-requires (claims t) (walk-at t) walk.Post
 walk-walk-requires t c κs =
-    let T = c .before .before .before .before .before .before .before .before .before .before .before .before .before .before .before .before .before .before .before .before .before .before .before .before .before .before .before .before .before .before .before .before .before .before .before .before .before .before .before .before .before .before .before .before .before .before .before .before .before .before .before .before .before .before .before .before .before .before .before .before .before .pre .1 .0 in
-    let R = c .before .before .before .before .before .before .before .before .before .before .before .before .before .before .before .before .before .before .before .before .before .before .before .before .before .before .before .before .before .before .before .before .before .before .before .before .before .before .before .before .before .before .before .before .before .before .before .before .before .before .before .before .before .before .before .before .before .before .before .before .before .pre .1 .1 .0 .2 in
-    let S = c .before .before .before .before .before .before .before .before .before .before .before .before .before .before .before .before .before .before .before .before .before .before .before .before .before .before .before .before .before .before .before .before .before .before .before .before .before .before .tally-of .ensures (c .before .before .before .before .before .before .before .before .before .before .before .before .before .before .before .before .before .before .before .before .before .before .before .before .before .before .before .before .before .before .before .before .before .before .before .before .before .before .before .before .before .before .before .before .before .before .before .before .before .before .before .before .before .before .before .read-state .result) refl (c .before .before .before .before .before .before .before .before .before .before .before .before .before .before .before .before .before .before .before .before .before .before .before .before .before .before .before .before .before .before .before .before .before .before .before .before .before .before .before .before .before .before .before .before .before .before .before .before .before .before .before .before .before .truths-of .ensures) in
-    let L : 1 ≤ c .before .before .before .before .before .before .before .before .before .before .before .before .before .before .before .before .before .before .before .before .before .before .before .before .before .before .before .before .before .before .before .before .before .before .before .before .before .before .before .before .before .before .before .before .before .before .before .before .before .before .before .before .before .before .before .before .before .before .before .before .before .args .q .left = omega (arith, c .before .before .before .before .before .before .before .before .before .before .before .before .before .before .before .before .before .before .before .before .before .before .before .before .if1 .left) in
-    let X = taken T S R L (c .before .before .before .before .before .before .before .before .before .before .before .before .before .before .before .step-rest .ensures) _ _ (c .before .before .before .before .before .before .before .before .before .before .before .turn .given .1) in
-    let to = c .before .before .before .before .before .before .before .before .before .before .before .before .before .before .before .before .before .before .before .before .before .before .before .before .before .before .before .before .before .before .before .before .before .before .before .before .before .before .before .before .before .before .before .before .before .before .before .before .before .before .before .before .before .before .before .before .before .before .before .before .before .args .q .at + c .before .before .before .before .before .before .before .before .before .before .before .before .before .before .before .before .before .before .before .before .before .before .before .before .before .before .before .before .before .before .before .before .before .before .before .before .before .before .before .before .before .before .before .before .before .before .before .before .before .before .before .before .before .before .before .before .before .before .before .before .before .args .t .frame in
-    let next = c .before .before .before .before .before .before .state-after .ensures (S .held-is) (X .move .0) (X .known) (X .code) in
-    let P = subst (λ (z : State). StatePut z to (c .before .before .before .before .before .before .before .before .before .before .before .before .before .before .before .step-rest .last .1 .1 .1 .1 .1 .0) (c .before .before .before .before .before .write-state .last .0)) next (c .before .before .before .before .before .write-state .ensures) in
-    (omega (arith, L, c .before .before .before .before .before .before .before .before .before .before .before .before .before .before .before .before .before .before .before .before .before .before .before .before .before .before .before .before .before .before .before .before .before .before .before .before .before .before .before .before .before .before .before .before .before .before .before .before .before .before .before .before .before .before .before .before .before .before .before .before .before .pre .0), (T, ((leads X, stands-next T S R L X P, next-is-ready T S R L X P _ _ _), omega (arith, L, c .before .before .before .before .before .before .before .before .before .before .before .before .before .before .before .before .before .before .before .before .before .before .before .before .before .before .before .before .before .before .before .before .before .before .before .before .before .before .before .before .before .before .before .before .before .before .before .before .before .before .before .before .before .before .before .before .before .before .before .before .before .pre .1 .1 .1))))
+    let at-write-state = write-state-from-walk-requires c in
+    let at-state-after = at-write-state .before in
+    let at-turn = turn-from-state-after at-state-after in
+    let at-step-rest = at-turn .before .before .before .before in
+    let at-if1 = if1-from-step-rest at-step-rest in
+    let at-tally-of = tally-of-from-else1 at-if1 in
+    let at-truths-of = truths-of-from-tally-of at-tally-of in
+    let at-read-state = at-truths-of .before .before in
+    let at-start = start-from-read-state at-read-state in
+    let T = at-start .pre .1 .0 in
+    let R = at-start .pre .1 .1 .0 .2 in
+    let S = at-tally-of .tally-of .ensures (at-read-state .read-state .result) refl (at-truths-of .truths-of .ensures) in
+    let L : 1 ≤ at-start .args .q .left = omega (arith, at-if1 .if1 .left) in
+    let X = taken T S R L (at-step-rest .step-rest .ensures) _ _ (at-turn .turn .given .1) in
+    let to = at-start .args .q .at + at-start .args .t .frame in
+    let next = at-state-after .state-after .ensures (S .held-is) (X .move .0) (X .known) (X .code) in
+    let P = subst (λ (z : State). StatePut z to (at-step-rest .step-rest .last .1 .1 .1 .1 .1 .0) (at-write-state .write-state .last .0)) next (at-write-state .write-state .ensures) in
+    (omega (arith, L, at-start .pre .0), (T, ((leads X, stands-next T S R L X P, next-is-ready T S R L X P _ _ _), omega (arith, L, at-start .pre .1 .1 .1))))
 
 walk-same-length-3 : (t : ℕ) → walk-lts.Need-same-length-3 (claims t) (walk-at t) walk.Post
 walk-same-length-3 t c =
-    let T = c .before .before .before .before .before .before .before .before .before .before .before .before .before .before .before .before .before .before .before .before .before .before .before .before .before .before .before .before .before .before .before .before .before .before .before .before .before .before .before .before .before .before .before .before .before .before .before .before .before .before .before .before .before .before .before .before .before .before .before .before .before .before .before .before .pre .1 .0 in
-    let R = c .before .before .before .before .before .before .before .before .before .before .before .before .before .before .before .before .before .before .before .before .before .before .before .before .before .before .before .before .before .before .before .before .before .before .before .before .before .before .before .before .before .before .before .before .before .before .before .before .before .before .before .before .before .before .before .before .before .before .before .before .before .before .before .before .pre .1 .1 .0 .2 in
-    let S = c .before .before .before .before .before .before .before .before .before .before .before .before .before .before .before .before .before .before .before .before .before .before .before .before .before .before .before .before .before .before .before .before .before .before .before .before .before .before .before .before .before .tally-of .ensures (c .before .before .before .before .before .before .before .before .before .before .before .before .before .before .before .before .before .before .before .before .before .before .before .before .before .before .before .before .before .before .before .before .before .before .before .before .before .before .before .before .before .before .before .before .before .before .before .before .before .before .before .before .before .before .before .before .before .before .read-state .result) refl (c .before .before .before .before .before .before .before .before .before .before .before .before .before .before .before .before .before .before .before .before .before .before .before .before .before .before .before .before .before .before .before .before .before .before .before .before .before .before .before .before .before .before .before .before .before .before .before .before .before .before .before .before .before .before .before .before .truths-of .ensures) in
-    let L : 1 ≤ c .before .before .before .before .before .before .before .before .before .before .before .before .before .before .before .before .before .before .before .before .before .before .before .before .before .before .before .before .before .before .before .before .before .before .before .before .before .before .before .before .before .before .before .before .before .before .before .before .before .before .before .before .before .before .before .before .before .before .before .before .before .before .before .before .args .q .left = omega (arith, c .before .before .before .before .before .before .before .before .before .before .before .before .before .before .before .before .before .before .before .before .before .before .before .before .before .before .before .if1 .left) in
-    let X = taken T S R L (c .before .before .before .before .before .before .before .before .before .before .before .before .before .before .before .before .before .before .step-rest .ensures) _ _ (c .before .before .before .before .before .before .before .before .before .before .before .before .before .before .turn .given .1) in
-    let to = c .before .before .before .before .before .before .before .before .before .before .before .before .before .before .before .before .before .before .before .before .before .before .before .before .before .before .before .before .before .before .before .before .before .before .before .before .before .before .before .before .before .before .before .before .before .before .before .before .before .before .before .before .before .before .before .before .before .before .before .before .before .before .before .before .args .q .at + c .before .before .before .before .before .before .before .before .before .before .before .before .before .before .before .before .before .before .before .before .before .before .before .before .before .before .before .before .before .before .before .before .before .before .before .before .before .before .before .before .before .before .before .before .before .before .before .before .before .before .before .before .before .before .before .before .before .before .before .before .before .before .before .before .args .t .frame in
-    let next = c .before .before .before .before .before .before .before .before .before .state-after .ensures (S .held-is) (X .move .0) (X .known) (X .code) in
-    let P = subst (λ (z : State). StatePut z to (c .before .before .before .before .before .before .before .before .before .before .before .before .before .before .before .before .before .before .step-rest .last .1 .1 .1 .1 .1 .0) (c .before .before .before .before .before .before .before .before .write-state .last .0)) next (c .before .before .before .before .before .before .before .before .write-state .ensures) in
+    let at-write-state = write-state-from-walk (c .before .before) in
+    let at-state-after = at-write-state .before in
+    let at-turn = turn-from-state-after at-state-after in
+    let at-step-rest = at-turn .before .before .before .before in
+    let at-if1 = if1-from-step-rest at-step-rest in
+    let at-tally-of = tally-of-from-else1 at-if1 in
+    let at-truths-of = truths-of-from-tally-of at-tally-of in
+    let at-read-state = at-truths-of .before .before in
+    let at-start = start-from-read-state at-read-state in
+    let T = at-start .pre .1 .0 in
+    let R = at-start .pre .1 .1 .0 .2 in
+    let S = at-tally-of .tally-of .ensures (at-read-state .read-state .result) refl (at-truths-of .truths-of .ensures) in
+    let L : 1 ≤ at-start .args .q .left = omega (arith, at-if1 .if1 .left) in
+    let X = taken T S R L (at-step-rest .step-rest .ensures) _ _ (at-turn .turn .given .1) in
+    let to = at-start .args .q .at + at-start .args .t .frame in
+    let next = at-state-after .state-after .ensures (S .held-is) (X .move .0) (X .known) (X .code) in
+    let P = subst (λ (z : State). StatePut z to (at-step-rest .step-rest .last .1 .1 .1 .1 .1 .0) (at-write-state .write-state .last .0)) next (at-write-state .write-state .ensures) in
     c .before .before .walk .ensures ∙ kept-before T S R L X P .len
 
 walk-returns-3 : (t : ℕ) → walk-lts.Need-returns-3 (claims t) (walk-at t) walk.Post
 walk-returns-3 t c =
-    let T = c .before .before .before .before .before .before .before .before .before .before .before .before .before .before .before .before .before .before .before .before .before .before .before .before .before .before .before .before .before .before .before .before .before .before .before .before .before .before .before .before .before .before .before .before .before .before .before .before .before .before .before .before .before .before .before .before .before .before .before .before .before .before .before .before .pre .1 .0 in
-    let R = c .before .before .before .before .before .before .before .before .before .before .before .before .before .before .before .before .before .before .before .before .before .before .before .before .before .before .before .before .before .before .before .before .before .before .before .before .before .before .before .before .before .before .before .before .before .before .before .before .before .before .before .before .before .before .before .before .before .before .before .before .before .before .before .before .pre .1 .1 .0 .2 in
-    let S = c .before .before .before .before .before .before .before .before .before .before .before .before .before .before .before .before .before .before .before .before .before .before .before .before .before .before .before .before .before .before .before .before .before .before .before .before .before .before .before .before .before .tally-of .ensures (c .before .before .before .before .before .before .before .before .before .before .before .before .before .before .before .before .before .before .before .before .before .before .before .before .before .before .before .before .before .before .before .before .before .before .before .before .before .before .before .before .before .before .before .before .before .before .before .before .before .before .before .before .before .before .before .before .before .before .read-state .result) refl (c .before .before .before .before .before .before .before .before .before .before .before .before .before .before .before .before .before .before .before .before .before .before .before .before .before .before .before .before .before .before .before .before .before .before .before .before .before .before .before .before .before .before .before .before .before .before .before .before .before .before .before .before .before .before .before .before .truths-of .ensures) in
-    let L : 1 ≤ c .before .before .before .before .before .before .before .before .before .before .before .before .before .before .before .before .before .before .before .before .before .before .before .before .before .before .before .before .before .before .before .before .before .before .before .before .before .before .before .before .before .before .before .before .before .before .before .before .before .before .before .before .before .before .before .before .before .before .before .before .before .before .before .before .args .q .left = omega (arith, c .before .before .before .before .before .before .before .before .before .before .before .before .before .before .before .before .before .before .before .before .before .before .before .before .before .before .before .if1 .left) in
-    let X = taken T S R L (c .before .before .before .before .before .before .before .before .before .before .before .before .before .before .before .before .before .before .step-rest .ensures) _ _ (c .before .before .before .before .before .before .before .before .before .before .before .before .before .before .turn .given .1) in
-    let to = c .before .before .before .before .before .before .before .before .before .before .before .before .before .before .before .before .before .before .before .before .before .before .before .before .before .before .before .before .before .before .before .before .before .before .before .before .before .before .before .before .before .before .before .before .before .before .before .before .before .before .before .before .before .before .before .before .before .before .before .before .before .before .before .before .args .q .at + c .before .before .before .before .before .before .before .before .before .before .before .before .before .before .before .before .before .before .before .before .before .before .before .before .before .before .before .before .before .before .before .before .before .before .before .before .before .before .before .before .before .before .before .before .before .before .before .before .before .before .before .before .before .before .before .before .before .before .before .before .before .before .before .before .args .t .frame in
-    let next = c .before .before .before .before .before .before .before .before .before .state-after .ensures (S .held-is) (X .move .0) (X .known) (X .code) in
-    let P = subst (λ (z : State). StatePut z to (c .before .before .before .before .before .before .before .before .before .before .before .before .before .before .before .before .before .before .step-rest .last .1 .1 .1 .1 .1 .0) (c .before .before .before .before .before .before .before .before .write-state .last .0)) next (c .before .before .before .before .before .before .before .before .write-state .ensures) in
+    let at-write-state = write-state-from-walk (c .before .before) in
+    let at-state-after = at-write-state .before in
+    let at-turn = turn-from-state-after at-state-after in
+    let at-step-rest = at-turn .before .before .before .before in
+    let at-if1 = if1-from-step-rest at-step-rest in
+    let at-tally-of = tally-of-from-else1 at-if1 in
+    let at-truths-of = truths-of-from-tally-of at-tally-of in
+    let at-read-state = at-truths-of .before .before in
+    let at-start = start-from-read-state at-read-state in
+    let T = at-start .pre .1 .0 in
+    let R = at-start .pre .1 .1 .0 .2 in
+    let S = at-tally-of .tally-of .ensures (at-read-state .read-state .result) refl (at-truths-of .truths-of .ensures) in
+    let L : 1 ≤ at-start .args .q .left = omega (arith, at-if1 .if1 .left) in
+    let X = taken T S R L (at-step-rest .step-rest .ensures) _ _ (at-turn .turn .given .1) in
+    let to = at-start .args .q .at + at-start .args .t .frame in
+    let next = at-state-after .state-after .ensures (S .held-is) (X .move .0) (X .known) (X .code) in
+    let P = subst (λ (z : State). StatePut z to (at-step-rest .step-rest .last .1 .1 .1 .1 .1 .0) (at-write-state .write-state .last .0)) next (at-write-state .write-state .ensures) in
     c .before .before .walk .ensures ∙ kept-before T S R L X P .len
 
 pub +walk-spec : {M : Type 1} → statement M

@@ -22,15 +22,22 @@ returns c = search needs
 slice-relend-prefix-walk-from : tie.Need-slice-relend-prefix-walk-from
 slice-relend-prefix-walk-from c = search needs
 
+-- Places: what stands before a need, by name. Written by `named`: run it again when the code changes.
+abbrev start-from-else1 : tie.Else1 → tie.Start
+start-from-else1 c = c .before .before .before .before .before
+
 slice-aggregate-walk-from : tie.Need-slice-aggregate-walk-from
-slice-aggregate-walk-from c = sym (length-take-le (c .before .before .before .before .before .before .args .words) (now (c .before .before .before .before .before .before .args .work)) (c .before .if1 .left))
+slice-aggregate-walk-from c =
+    let at-start = start-from-else1 (c .before) in
+    sym (length-take-le (at-start .args .words) (now (at-start .args .work)) (c .before .if1 .left))
 
 walk-from-requires : tie.Need-walk-from-requires
 walk-from-requires c κs =
-    let s = now (c .before .before .before .before .before .before .args .s) in
-    let w = c .before .before .before .before .before .before .args .words in
-    let p = c .before .before .before .before .before .before .pre in
-    (((w, p), c .before .before .layout-of .ensures .0), length-take-le w (now (c .before .before .before .before .before .before .args .work)) (c .before .if1 .left) ∙ ruled s (w, p) .figure)
+    let at-start = start-from-else1 (c .before) in
+    let s = now (at-start .args .s) in
+    let w = at-start .args .words in
+    let p = at-start .pre in
+    (((w, p), c .before .before .layout-of .ensures .0), length-take-le w (now (at-start .args .work)) (c .before .if1 .left) ∙ ruled s (w, p) .figure)
 
 same-length : tie.Need-same-length
 same-length c = search needs

@@ -18,17 +18,24 @@ put-first-requires c κs = search needs
 
 walk-requires : tie.Need-walk-requires
 walk-requires c κs =
-    let s = now (c .before .before .before .before .before .before .before .before .before .args .s) in
-    let p = c .before .before .before .before .before .before .before .before .before .pre .0 in
-    let T = c .before .before .before .before .before .task-of .ensures .0 in
-    let Z = c .before .before .before .put-first .ensures in
+    let at-put-first = c .before .before .before in
+    let at-task-of = at-put-first .before .before in
+    let at-start = at-task-of .before .before .before .before in
+    let s = now (at-start .args .s) in
+    let p = at-start .pre .0 in
+    let T = at-task-of .task-of .ensures .0 in
+    let Z = at-put-first .put-first .ensures in
     let f = laid s (p .0) in
     let e = ap (λ (l : Layout). l .d) (p .1) in
-    let R = first-ready T (c .before .before .before .before .before .task-of .ensures .1 .1) (Z .1 ∙ c .before .before .before .before .before .before .before .before .before .pre .1) refl e (Z .0 .program) in
+    let R = first-ready T (at-task-of .task-of .ensures .1 .1) (Z .1 ∙ at-start .pre .1) refl e (Z .0 .program) in
     (T, ((heldFirst s, Z .0, R), omega (arith, e, f .d)))
 
+-- Places: what stands before a need, by name. Written by `named`: run it again when the code changes.
+abbrev put-first-from-walk : tie.After-walk → tie.After-put-first
+put-first-from-walk c = c .before .before .before .before
+
 same-length : tie.Need-same-length
-same-length c = c .before .before .walk .ensures ∙ c .before .before .before .before .before .before .put-first .ensures .1
+same-length c = c .before .before .walk .ensures ∙ put-first-from-walk (c .before .before) .put-first .ensures .1
 
 returns : tie.Need-returns
 returns c = search needs
