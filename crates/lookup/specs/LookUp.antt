@@ -23,3 +23,20 @@ lookedUp s x (checked.Refused n p) = looked.Refused n p
 -- fluent x of a sheet, which is checked first
 unfoldable pub lookOf : List ℕ → ℕ → Looked
 lookOf s x = lookedUp s x (checkOf s)
+
+-- document 01's number, place and values of an answer: number 0 where there is none, and "beside it every other result is 0"
+abbrev pub lookNumber : Looked → ℕ
+lookNumber (looked.Found m i) = 0
+lookNumber (looked.Refused n p) = n
+
+abbrev pub lookPlace : Looked → ℕ
+lookPlace (looked.Found m i) = 0
+lookPlace (looked.Refused n p) = p
+
+abbrev pub lookSize : Looked → ℕ
+lookSize (looked.Found m i) = m
+lookSize (looked.Refused n p) = 0
+
+abbrev pub lookInitial : Looked → ℕ
+lookInitial (looked.Found m i) = i
+lookInitial (looked.Refused n p) = 0

@@ -1,6 +1,6 @@
 -- The answer's number and values, case by case. Assumes nothing.
 use mathlib.Core.Path.{sym, _∙_, ap}
-use Rattle.planner_c.specs.Numbers.{lookNumber, lookSize, lookInitial, lookPlace}
+use Rattle.lookup.specs.LookUp.{lookNumber, lookSize, lookInitial, lookPlace}
 use borrow.Author.Needs.{needs}
 use Rattle.planner_c.proofs.planner_look_up.Statement.{statement}
 use Rattle.planner_c.proofs.planner_look_up.Tie as tie

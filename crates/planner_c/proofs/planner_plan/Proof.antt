@@ -1,6 +1,6 @@
 -- The answer's number and values, case by case. Assumes nothing.
 use mathlib.Core.Path.{sym, _∙_, ap}
-use Rattle.planner_c.specs.Numbers.{planNumber, planMoves, planTransitions, planPlace}
+use Rattle.planner.specs.Numbers.{planNumber, planMoves, planTransitions, planPlace}
 use borrow.Author.Needs.{needs}
 use Rattle.planner_c.proofs.planner_plan.Statement.{statement}
 use Rattle.planner_c.proofs.planner_plan.Tie as tie

@@ -1,6 +1,6 @@
 -- The answer's number and values, case by case. Assumes nothing.
 use mathlib.Core.Path.{sym, _∙_, ap}
-use Rattle.planner_c.specs.Numbers.{replyNumber, replyYes, replyPlace}
+use Rattle.planner.specs.Numbers.{replyNumber, replyYes, replyPlace}
 use borrow.Author.Needs.{needs}
 use Rattle.planner_c.proofs.planner_replay.Statement.{statement}
 use Rattle.planner_c.proofs.planner_replay.Tie as tie
