@@ -1,6 +1,6 @@
--- The thirteen worked cases, by computation: no row's answer is wrong. Assumes nothing.
-use mathlib.Core.List.{[]}
-use mathlib.Core.Path.{_≡_, refl}
+-- The thirteen worked cases, the further rows and the edges, each list by one computation. Assumes nothing.
+use mathlib.Core.List.{flatten}
+use mathlib.Core.Path.{refl}
 use Rattle.records.specs.Records.{fluentAt, formulaAt, effectAt, actionAt, programAt}
 use Rattle.records.specs.Lowest.{lowestFrom, lowest}
 use Rattle.records.specs.Table.{upTo, entryOf}
@@ -14,8 +14,27 @@ use Rattle.golog.specs.World.{truthOf, holds, possible, given, each, changed, p
 use Rattle.golog.specs.Prog.{construct, programOf}
 use Rattle.golog.specs.Steps.{final, steps}
 use Rattle.demands.specs.Planning.{verdictOf, acceptsOf, planOf, replayOf}
-use Rattle.demands.specs.Cases.{rows, wrong}
+use Rattle.demands.specs.Cases.{All, rows, further, edges}
 
-pub all-cases : wrong 1 rows ≡ []
-unfolding fluentAt formulaAt effectAt actionAt programAt lowestFrom lowest upTo entryOf fluentOk formulaOk effectOk actionOk programOk links over heightAt rise interrupts levels trailerIn limitsOk distanceOk layoutIn layoutOf refusedAt heightChecked programsChecked actionsChecked effectsChecked formulasChecked fluentsChecked trailerChecked checkOf truthOf holds possible given each changed perform construct programOf final steps verdictOf acceptsOf planOf replayOf
-all-cases = refl
+-- opens what the rows compute with: records, their rules, height, check, formulas and effects, programs and their steps, plan and replay
+computing : Unit {0}
+unfolding
+    flatten fluentAt formulaAt effectAt actionAt programAt lowestFrom lowest upTo entryOf
+    fluentOk formulaOk effectOk actionOk programOk links over heightAt rise interrupts levels
+    trailerIn limitsOk distanceOk layoutIn layoutOf refusedAt heightChecked programsChecked actionsChecked effectsChecked
+    formulasChecked fluentsChecked trailerChecked checkOf
+    truthOf holds possible given each changed perform construct programOf final steps
+    verdictOf acceptsOf planOf replayOf
+computing = tt
+
+pub all-cases : All rows
+unfolding computing
+all-cases = (refl, (refl, ((refl, refl), (refl, ((refl, refl), (refl, ((refl, refl, refl, refl), (refl, (refl, (refl, (refl, (refl, (refl, tt)))))))))))))
+
+pub all-further : All further
+unfolding computing
+all-further = ((refl, refl, refl, refl, refl, refl, refl), ((refl, refl, refl, refl, refl, refl), ((refl, refl, refl, refl, refl, refl), ((refl, refl, refl, refl, refl, refl), tt))))
+
+pub all-edges : All edges
+unfolding computing
+all-edges = ((refl, refl), ((refl, refl), ((refl, refl), tt)))

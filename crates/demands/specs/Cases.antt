@@ -1,145 +1,236 @@
--- The thirteen worked cases of document 01 (its example of three sections), as questions about whole sheets in bytes. Assumes nothing.
-use Prim.Native.Nat.{ℕ, suc, _+_, _*_}
-use mathlib.Core.Bool.{Bool, true, false, cond, _&&_, Bool·beq}
-use mathlib.Core.List.{List, [], _∷_, _++_}
-use lib.Dec.{eqb}
-use lib.ListN.{replicate}
+-- The thirteen worked cases of document 01 (its example of three sections) as a list of equations about whole sheets in bytes; beside
+-- them further rows, for the kinds that no case has, and document 01's edges of the check. Assumes nothing.
+use Prim.Native.Nat.{ℕ, zero, suc, _+_, _*_}
+use mathlib.Core.Bool.{true, false}
+use mathlib.Core.List.{List, [], _∷_, _++_, flatten}
+use mathlib.Core.Path.{_≡_}
+use lib.ListN.{length, replicate}
+use Rattle.sheet.specs.Check.{checkOf}
+use Rattle.sheet.specs.declared.Checked.the-variants.{Accepted, Refused}
 use Rattle.golog.specs.World.{perform}
 use Rattle.demands.specs.Decoded.{worldOf, initialOf}
-use Rattle.demands.specs.Planning.{Planned, found, Replayed, replied, planOf, replayOf}
+use Rattle.demands.specs.Planning.{Planned, found, replied, planOf, replayOf}
 
--- fluent 0, size 3, starts 1; fluent 1, size 3, starts 0
-abbrev fluents : List ℕ
-fluents = 3 ∷ 1 ∷ 3 ∷ 0 ∷ []
+-- each proposition of a list holds
+abbrev pub All : List (Type 0) → Type 0
+All [] = Unit {0}
+All (p ∷ ps) = p × All ps
+
+-- a table: its records, each in bytes
+abbrev Table : Type 0
+Table = List (List ℕ)
+
+-- a sheet without notes, of few records, and the bound d
+abbrev sheet : (fluents formulas effects actions programs : Table) → (d : ℕ) → List ℕ
+sheet fluents formulas effects actions programs d =
+    let f = length fluents in
+    let q = length formulas in
+    let e = length effects in
+    let a = length actions in
+    let p = length programs in
+    flatten (fluents ++ formulas ++ effects ++ actions ++ programs)
+    ++ (f ∷ 0 ∷ q ∷ 0 ∷ e ∷ 0 ∷ a ∷ 0 ∷ p ∷ 0 ∷ d ∷ 0 ∷ [])
+    ++ ((2 * f + 6 * q + 4 * e + 6 * a + 8 * p) ∷ 0 ∷ 0 ∷ 0 ∷ 0x42 ∷ 0x51 ∷ [])
+
+-- fluent 0, size 3, starts with v; fluent 1, size 3, starts 0
+abbrev fluentsFrom : ℕ → Table
+fluentsFrom v = (3 ∷ v ∷ []) ∷ (3 ∷ 0 ∷ []) ∷ []
 
 -- 0 fluent 1 is 0; 1 fluent 0 is 0; 2 both; 3 true
-abbrev formulas : List ℕ
+abbrev formulas : Table
 formulas =
-    2 ∷ 1 ∷ 0 ∷ 0 ∷ 0 ∷ 0
-    ∷ 2 ∷ 0 ∷ 0 ∷ 0 ∷ 0 ∷ 0
-    ∷ 6 ∷ 0 ∷ 0 ∷ 0 ∷ 1 ∷ 0
-    ∷ 0 ∷ 0 ∷ 0 ∷ 0 ∷ 0 ∷ 0
+    (2 ∷ 1 ∷ 0 ∷ 0 ∷ 0 ∷ 0 ∷ [])
+    ∷ (2 ∷ 0 ∷ 0 ∷ 0 ∷ 0 ∷ 0 ∷ [])
+    ∷ (6 ∷ 0 ∷ 0 ∷ 0 ∷ 1 ∷ 0 ∷ [])
+    ∷ (0 ∷ 0 ∷ 0 ∷ 0 ∷ 0 ∷ 0 ∷ [])
     ∷ []
 
--- under condition 3: fluent 0 becomes 0; fluent 1 becomes 2
-abbrev effects : List ℕ
-effects = 3 ∷ 0 ∷ 0 ∷ 0 ∷ 3 ∷ 0 ∷ 1 ∷ 2 ∷ []
+-- not formula 1
+abbrev not1 : List ℕ
+not1 = 5 ∷ 0 ∷ 1 ∷ 0 ∷ 0 ∷ 0 ∷ []
+
+-- under condition 3: fluent x becomes v
+abbrev effect : (x v : ℕ) → List ℕ
+effect x v = 3 ∷ 0 ∷ x ∷ v ∷ []
+
+abbrev effects : Table
+effects = effect 0 0 ∷ effect 1 2 ∷ []
+
+-- precondition, first effect, number of effects
+abbrev action : (precondition first count : ℕ) → List ℕ
+action precondition first count = precondition ∷ 0 ∷ first ∷ 0 ∷ count ∷ 0 ∷ []
 
 -- 0 "shift to 0": precondition 0, effect 0; 1 "berth on 1–2": precondition 2, effect 1
-abbrev actions : List ℕ
-actions = 0 ∷ 0 ∷ 0 ∷ 0 ∷ 1 ∷ 0 ∷ 2 ∷ 0 ∷ 1 ∷ 0 ∷ 1 ∷ 0 ∷ []
-
--- the trailer for small numbers of records
-abbrev trailer : (q e a p d : ℕ) → List ℕ
-trailer q e a p d =
-    2 ∷ 0 ∷ q ∷ 0 ∷ e ∷ 0 ∷ a ∷ 0 ∷ p ∷ 0 ∷ d ∷ 0 ∷ (4 + 6 * q + 4 * e + 6 * a + 8 * p) ∷ 0 ∷ 0 ∷ 0 ∷ 0x42 ∷ 0x51 ∷ []
-
--- a sheet of p program records and the bound d
-abbrev sheetOf : (p d : ℕ) → List ℕ → List ℕ
-sheetOf p d programs = fluents ++ formulas ++ effects ++ actions ++ programs ++ trailer 4 2 2 p d
-
--- the same with formula 4, not formula 1
-abbrev sheetNot : (p d : ℕ) → List ℕ → List ℕ
-sheetNot p d programs = fluents ++ formulas ++ (5 ∷ 0 ∷ 1 ∷ 0 ∷ 0 ∷ 0 ∷ []) ++ effects ++ actions ++ programs ++ trailer 5 2 2 p d
-
--- the same with action 2, whose two effects give fluent 0 the values 1 and 2
-abbrev sheetTwice : List ℕ
-sheetTwice =
-    fluents
-    ++ formulas
-    ++ effects
-    ++ (3 ∷ 0 ∷ 0 ∷ 1 ∷ 3 ∷ 0 ∷ 0 ∷ 2 ∷ [])
-    ++ actions
-    ++ (3 ∷ 0 ∷ 2 ∷ 0 ∷ 2 ∷ 0 ∷ [])
-    ++ (1 ∷ 0 ∷ 2 ∷ 0 ∷ 0 ∷ 0 ∷ 0 ∷ 0 ∷ [])
-    ++ trailer 4 4 3 1 1
+abbrev actions : Table
+actions = action 0 0 1 ∷ action 2 1 1 ∷ []
 
 -- one program record: kind, a, b, c
 abbrev line : (kind a b c : ℕ) → List ℕ
 line kind a b c = kind ∷ 0 ∷ a ∷ 0 ∷ b ∷ 0 ∷ c ∷ 0 ∷ []
 
+-- the twelve kinds: actions, formulas and lower program records by number
+abbrev nil : List ℕ
+nil = line 0 0 0 0
+
+abbrev act : (a : ℕ) → List ℕ
+act a = line 1 a 0 0
+
+abbrev test : (a : ℕ) → List ℕ
+test a = line 2 a 0 0
+
+abbrev seq : (a b : ℕ) → List ℕ
+seq a b = line 3 a b 0
+
+abbrev alt : (a b : ℕ) → List ℕ
+alt a b = line 4 a b 0
+
+abbrev star : (a : ℕ) → List ℕ
+star a = line 5 a 0 0
+
+abbrev ite : (c a b : ℕ) → List ℕ
+ite c a b = line 6 a b c
+
+abbrev while : (c a : ℕ) → List ℕ
+while c a = line 7 a 0 c
+
+abbrev conc : (a b : ℕ) → List ℕ
+conc a b = line 8 a b 0
+
+abbrev prio : (a b : ℕ) → List ℕ
+prio a b = line 9 a b 0
+
+abbrev iter : (a : ℕ) → List ℕ
+iter a = line 10 a 0 0
+
+abbrev intr : (c a : ℕ) → List ℕ
+intr c a = line 11 a 0 c
+
+-- document 01's sheet with the bound d and these program records, the last one the root
+abbrev sheetOf : (d : ℕ) → (programs : Table) → List ℕ
+sheetOf d programs = sheet (fluentsFrom 1) formulas effects actions programs d
+
+-- the same with formula 4, not formula 1
+abbrev sheetNot : (d : ℕ) → (programs : Table) → List ℕ
+sheetNot d programs = sheet (fluentsFrom 1) (formulas ++ (not1 ∷ [])) effects actions programs d
+
+-- the same with action 2, precondition 3, whose two effects give fluent 0 the values 1 and 2; fluent 0 starts 0, so that neither stands yet
+abbrev sheetTwice : (d : ℕ) → (programs : Table) → List ℕ
+sheetTwice d programs =
+    sheet (fluentsFrom 0) formulas (effects ++ (effect 0 1 ∷ effect 0 2 ∷ [])) (actions ++ (action 3 2 2 ∷ [])) programs d
+
 -- star(act 0); act 1
-abbrev starThenAct : List ℕ
-starThenAct = line 1 0 0 0 ++ line 5 0 0 0 ++ line 1 1 0 0 ++ line 3 1 2 0
+abbrev starThenAct : Table
+starThenAct = act 0 ∷ star 0 ∷ act 1 ∷ seq 1 2 ∷ []
+
+-- star(act 0) over act 1
+abbrev starOverAct : Table
+starOverAct = act 0 ∷ star 0 ∷ act 1 ∷ prio 1 2 ∷ []
 
 -- case 3 with the trailer as document 01 prints it
 abbrev case3 : List ℕ
 case3 =
-    fluents
-    ++ formulas
-    ++ effects
-    ++ actions
-    ++ starThenAct
+    flatten (fluentsFrom 1 ++ formulas ++ effects ++ actions ++ starThenAct)
     ++ (0x02 ∷ 0x00 ∷ 0x04 ∷ 0x00 ∷ 0x02 ∷ 0x00 ∷ 0x02 ∷ 0x00 ∷ 0x04 ∷ 0x00 ∷ 0x02 ∷ 0x00 ∷ 0x50 ∷ 0x00 ∷ 0x00 ∷ 0x00 ∷ 0x42 ∷ 0x51 ∷ [])
 
--- star(act 0) over act 1
-abbrev starOverAct : List ℕ
-starOverAct = line 1 0 0 0 ++ line 5 0 0 0 ++ line 1 1 0 0 ++ line 9 1 2 0
+-- case 13: the root is act 2
+abbrev case13 : List ℕ
+case13 = sheetTwice 1 (act 2 ∷ [])
 
--- a question with its answer: planning, a replay, the values after an action in the first state
-pub data Row : Type 0 where
-  plans : List ℕ → Planned → Row
-  replays : List ℕ → List ℕ → Replayed → Row
-  gives : List ℕ → ℕ → List ℕ → Row
-
-abbrev pub rows : List Row
+-- "Proved cases, root and verdict": a row each
+abbrev pub rows : List (Type 0)
 rows =
-    -- 1 nil, D 0
-    plans (sheetOf 1 0 (line 0 0 0 0)) (found [] 0)
-    -- 2 act 1, D 5
-    ∷ plans (sheetOf 1 5 (line 1 1 0 0)) (Planned.refused 13 0)
-    -- 3 star(act 0); act 1, D 2
-    ∷ plans case3 (found (0 ∷ 1 ∷ []) 2)
-    -- 4 the same, D 1
-    ∷ plans (sheetOf 4 1 starThenAct) (Planned.refused 14 0)
-    -- 5 test 3, D 0 and D 1
-    ∷ plans (sheetOf 1 0 (line 2 3 0 0)) (Planned.refused 14 0)
-    ∷ plans (sheetOf 1 1 (line 2 3 0 0)) (found [] 1)
-    -- 6 test 1, which does not hold, D 0
-    ∷ plans (sheetOf 1 0 (line 2 1 0 0)) (Planned.refused 13 0)
-    -- 7 act 0 over act 1, D 2; star(act 0) over act 1, D 2
-    ∷ replays (sheetOf 3 2 (line 1 0 0 0 ++ line 1 1 0 0 ++ line 9 0 1 0)) (0 ∷ 1 ∷ []) (replied true)
-    ∷ replays (sheetOf 3 2 (line 1 0 0 0 ++ line 1 1 0 0 ++ line 9 0 1 0)) (1 ∷ 0 ∷ []) (replied false)
-    ∷ replays (sheetOf 4 2 starOverAct) (0 ∷ 1 ∷ []) (replied false)
-    ∷ plans (sheetOf 4 2 starOverAct) (Planned.refused 14 0)
-    -- 8 act 1 over act 0, D 2
-    ∷ plans (sheetOf 3 2 (line 1 1 0 0 ++ line 1 0 0 0 ++ line 9 0 1 0)) (found (0 ∷ 1 ∷ []) 2)
-    -- 9 interrupt (not formula 1), act 0, D 3
-    ∷ plans (sheetNot 2 3 (line 1 0 0 0 ++ line 11 0 0 4)) (found (65534 ∷ 0 ∷ 65535 ∷ []) 3)
-    -- 10 interrupt true, nil, D 2
-    ∷ plans (sheetOf 2 2 (line 0 0 0 0 ++ line 11 0 0 3)) (found (65534 ∷ 65535 ∷ []) 2)
-    -- 11 interrupt true, act 0, D 4
-    ∷ plans (sheetOf 2 4 (line 1 0 0 0 ++ line 11 0 0 3)) (Planned.refused 14 0)
-    -- 12 while formula 0 do nil, D 0
-    ∷ plans (sheetOf 2 0 (line 0 0 0 0 ++ line 7 0 0 0)) (found [] 0)
-    -- 13 two holding effects on fluent 0, values 1 then 2
-    ∷ gives sheetTwice 2 (1 ∷ replicate 31 0)
+    -- 1 "nil, D 0: found 0 0"
+    (planOf (sheetOf 0 (nil ∷ [])) ≡ found [] 0)
+    -- 2 "act 1, D 5: 13"
+    ∷ (planOf (sheetOf 5 (act 1 ∷ [])) ≡ Planned.refused 13 0)
+    -- 3 "star(act 0); act 1, D 2: found 2 2, history 0 1"; "work 273"
+    ∷ ((planOf case3 ≡ found (0 ∷ 1 ∷ []) 2) × (checkOf case3 ≡ Accepted 273))
+    -- 4 "The same, D 1: 14"
+    ∷ (planOf (sheetOf 1 starThenAct) ≡ Planned.refused 14 0)
+    -- 5 "test 3, D 0: 14; D 1: found 0 1"
+    ∷ ((planOf (sheetOf 0 (test 3 ∷ [])) ≡ Planned.refused 14 0) × (planOf (sheetOf 1 (test 3 ∷ [])) ≡ found [] 1))
+    -- 6 "not-holding test 1, D 0: 13"
+    ∷ (planOf (sheetOf 0 (test 1 ∷ [])) ≡ Planned.refused 13 0)
+    -- 7 "act 0 over act 1, D 2: history 0 1 yes, 1 0 no; star(act 0) over act 1, D 2: history 0 1 no, plan 14"
+    ∷ ((replayOf (sheetOf 2 (act 0 ∷ act 1 ∷ prio 0 1 ∷ [])) (0 ∷ 1 ∷ []) ≡ replied true)
+    × (replayOf (sheetOf 2 (act 0 ∷ act 1 ∷ prio 0 1 ∷ [])) (1 ∷ 0 ∷ []) ≡ replied false)
+    × (replayOf (sheetOf 2 starOverAct) (0 ∷ 1 ∷ []) ≡ replied false)
+    × (planOf (sheetOf 2 starOverAct) ≡ Planned.refused 14 0))
+    -- 8 "act 1 over act 0, D 2: found 2 2, 0 1"
+    ∷ (planOf (sheetOf 2 (act 1 ∷ act 0 ∷ prio 0 1 ∷ [])) ≡ found (0 ∷ 1 ∷ []) 2)
+    -- 9 "interrupt (not formula 1), act 0, D 3: found 3 3, 65534 0 65535"
+    ∷ (planOf (sheetNot 3 (act 0 ∷ intr 4 0 ∷ [])) ≡ found (65534 ∷ 0 ∷ 65535 ∷ []) 3)
+    -- 10 "interrupt true, nil, D 2: found 2 2, 65534 65535"
+    ∷ (planOf (sheetOf 2 (nil ∷ intr 3 0 ∷ [])) ≡ found (65534 ∷ 65535 ∷ []) 2)
+    -- 11 "interrupt true, act 0, D 4: 14"
+    ∷ (planOf (sheetOf 4 (act 0 ∷ intr 3 0 ∷ [])) ≡ Planned.refused 14 0)
+    -- 12 "while formula 0 do nil, D 0: found 0 0"
+    ∷ (planOf (sheetOf 0 (nil ∷ while 0 0 ∷ [])) ≡ found [] 0)
+    -- 13 "An action with two holding effects on fluent 0, values 1 then 2: gives 1"
+    ∷ (perform (worldOf case13) 2 (initialOf case13) .values ≡ 1 ∷ replicate 31 0)
     ∷ []
 
-abbrev same : List ℕ → List ℕ → Bool
-same [] [] = true
-same [] (y ∷ ys) = false
-same (x ∷ xs) [] = false
-same (x ∷ xs) (y ∷ ys) = eqb x y && same xs ys
+-- beside the thirteen, a row for each kind that they do not have, with equations that tell it from its neighbours
+abbrev pub further : List (Type 0)
+further =
+    -- 4 "steps of either; final if either is"
+    -- act 1 | act 0, D 1: the second where the first is not possible
+    ((planOf (sheetOf 1 (act 1 ∷ act 0 ∷ alt 0 1 ∷ [])) ≡ found (0 ∷ []) 1)
+    -- act 0 | nil, D 2: no move or one, where act 0 together with nil takes one and star(act 0) also two
+    × (replayOf (sheetOf 2 (act 0 ∷ nil ∷ alt 0 1 ∷ [])) [] ≡ replied true)
+    × (replayOf (sheetOf 2 (act 0 ∷ nil ∷ alt 0 1 ∷ [])) (0 ∷ []) ≡ replied true)
+    × (replayOf (sheetOf 2 (act 0 ∷ nil ∷ alt 0 1 ∷ [])) (0 ∷ 0 ∷ []) ≡ replied false)
+    × (replayOf (sheetOf 2 (act 0 ∷ nil ∷ conc 0 1 ∷ [])) [] ≡ replied false)
+    × (replayOf (sheetOf 2 (act 0 ∷ star 0 ∷ [])) (0 ∷ 0 ∷ []) ≡ replied true)
+    -- (nil | act 0); test 1, D 2: the test does not hold before act 0 and holds after it
+    × (planOf (sheetOf 2 (nil ∷ act 0 ∷ alt 0 1 ∷ test 1 ∷ seq 2 3 ∷ [])) ≡ found (0 ∷ []) 2))
+    -- 6 "steps and finality of the branch that c picks now"
+    -- if formula 0 then act 0 else nil, D 1: the condition takes no transition, and the end of the branch not picked does not count
+    ∷ ((planOf (sheetOf 1 (act 0 ∷ nil ∷ ite 0 0 1 ∷ [])) ≡ found (0 ∷ []) 1)
+    × (replayOf (sheetOf 1 (act 0 ∷ nil ∷ ite 0 0 1 ∷ [])) [] ≡ replied false)
+    -- if formula 1 then act 0 else nil, D 1
+    × (planOf (sheetOf 1 (act 0 ∷ nil ∷ ite 1 0 1 ∷ [])) ≡ found [] 0)
+    × (replayOf (sheetOf 1 (act 0 ∷ nil ∷ ite 1 0 1 ∷ [])) (0 ∷ []) ≡ replied false)
+    -- act 0; (if formula 1 then act 1 else nil), D 2: the condition does not hold before act 0 and holds after it
+    × (planOf (sheetOf 2 (act 0 ∷ act 1 ∷ nil ∷ ite 1 1 2 ∷ seq 0 3 ∷ [])) ≡ found (0 ∷ 1 ∷ []) 2)
+    × (replayOf (sheetOf 2 (act 0 ∷ act 1 ∷ nil ∷ ite 1 1 2 ∷ seq 0 3 ∷ [])) (0 ∷ []) ≡ replied false))
+    -- 8 "either steps, the other stays. Final if both are"
+    -- act 0 together with act 2, D 2: both orders, where act 0; act 2 and act 0 over act 2 have only one; not act 0 alone
+    ∷ ((replayOf (sheetTwice 2 (act 0 ∷ act 2 ∷ conc 0 1 ∷ [])) (0 ∷ 2 ∷ []) ≡ replied true)
+    × (replayOf (sheetTwice 2 (act 0 ∷ act 2 ∷ conc 0 1 ∷ [])) (2 ∷ 0 ∷ []) ≡ replied true)
+    × (replayOf (sheetTwice 2 (act 0 ∷ act 2 ∷ seq 0 1 ∷ [])) (2 ∷ 0 ∷ []) ≡ replied false)
+    × (replayOf (sheetTwice 2 (act 0 ∷ act 2 ∷ prio 0 1 ∷ [])) (2 ∷ 0 ∷ []) ≡ replied false)
+    × (replayOf (sheetTwice 2 (act 0 ∷ act 2 ∷ conc 0 1 ∷ [])) (0 ∷ []) ≡ replied false)
+    -- (act 0 together with act 2); test 1, D 3: the test holds after act 0 and does not after act 2
+    × (planOf (sheetTwice 3 (act 0 ∷ act 2 ∷ conc 0 1 ∷ test 1 ∷ seq 2 3 ∷ [])) ≡ found (2 ∷ 0 ∷ []) 3))
+    -- 10 "a step of a leaves (rest together with the iteration). Always final"
+    -- (iteration of act 0); act 1, D 2: final after a round
+    ∷ ((planOf (sheetOf 2 (act 0 ∷ iter 0 ∷ act 1 ∷ seq 1 2 ∷ [])) ≡ found (0 ∷ 1 ∷ []) 2)
+    -- iteration of (act 0; act 2), D 4: rounds interleave, where those of star do not; each round ends
+    × (replayOf (sheetTwice 4 (act 0 ∷ act 2 ∷ seq 0 1 ∷ iter 2 ∷ [])) (0 ∷ 0 ∷ 2 ∷ 2 ∷ []) ≡ replied true)
+    × (replayOf (sheetTwice 4 (act 0 ∷ act 2 ∷ seq 0 1 ∷ star 2 ∷ [])) (0 ∷ 0 ∷ 2 ∷ 2 ∷ []) ≡ replied false)
+    × (replayOf (sheetTwice 4 (act 0 ∷ act 2 ∷ seq 0 1 ∷ iter 2 ∷ [])) (0 ∷ 0 ∷ 2 ∷ []) ≡ replied false)
+    -- iteration of (act 0 | (act 2; test 1)), D 3: the test does not hold after act 2 and holds after another round's act 0
+    × (replayOf (sheetTwice 3 (act 0 ∷ act 2 ∷ test 1 ∷ seq 1 2 ∷ alt 0 3 ∷ iter 4 ∷ [])) (2 ∷ 0 ∷ []) ≡ replied true)
+    × (replayOf (sheetTwice 3 (act 0 ∷ act 2 ∷ test 1 ∷ seq 1 2 ∷ alt 0 3 ∷ star 4 ∷ [])) (2 ∷ 0 ∷ []) ≡ replied false))
+    ∷ []
 
-abbrev samePlan : Planned → Planned → Bool
-samePlan (found h t) (found g u) = same h g && eqb t u
-samePlan (found h t) (Planned.refused n p) = false
-samePlan (Planned.refused n p) (found h t) = false
-samePlan (Planned.refused n p) (Planned.refused m q) = eqb n m && eqb p q
+-- n fluents that are always 0, and the root nil
+abbrev fluentsSheet : (n : ℕ) → List ℕ
+fluentsSheet n = sheet (replicate n (1 ∷ 0 ∷ [])) [] [] [] (nil ∷ []) 0
 
-abbrev sameReply : Replayed → Replayed → Bool
-sameReply (replied a) (replied b) = Bool·beq a b
-sameReply (replied a) (Replayed.refused n p) = false
-sameReply (Replayed.refused n p) (replied a) = false
-sameReply (Replayed.refused n p) (Replayed.refused m q) = eqb n m && eqb p q
+-- program records of height h: nil under h stars
+abbrev stars : (h : ℕ) → Table
+stars zero = nil ∷ []
+stars (suc h) = stars h ++ (star h ∷ [])
 
-abbrev right : Row → Bool
-right (plans s a) = samePlan (planOf s) a
-right (replays s h a) = sameReply (replayOf s h) a
-right (gives s a v) = same (perform (worldOf s) a (initialOf s) .values) v
-
--- the numbers, counted from i, of the rows whose answer is wrong
-abbrev pub wrong : ℕ → List Row → List ℕ
-wrong i [] = []
-wrong i (r ∷ rs) = let later : List ℕ = wrong (suc i) rs in cond (right r) later (i ∷ later)
+-- document 01, "Edges": those of the check
+abbrev pub edges : List (Type 0)
+edges =
+    -- "33 fluents 2, 32 pass"
+    ((checkOf (fluentsSheet 33) ≡ Refused 2 0) × (checkOf (fluentsSheet 32) ≡ Accepted 67))
+    -- "D 65 gives 2, 64 passes"
+    ∷ ((checkOf (sheetOf 65 (nil ∷ [])) ≡ Refused 2 0) × (checkOf (sheetOf 64 (nil ∷ [])) ≡ Accepted 4355))
+    -- "height 17 gives 9, 16 passes"
+    ∷ ((checkOf (sheetOf 1 (stars 17)) ≡ Refused 9 0) × (checkOf (sheetOf 1 (stars 16)) ≡ Accepted 326))
+    ∷ []
