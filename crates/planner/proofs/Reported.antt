@@ -22,7 +22,7 @@ use Rattle.demands.proofs.Demands.{plan-is, replay-is, plan-transitions}
 use Rattle.held.specs.Leaves.{movesHeld, finalHeld}
 use Rattle.search.specs.Outcome.{lay, Says, Reported, isFound}
 use Rattle.search.specs.Frames.{outcomeOf}
-use Rattle.search.proofs.Outcomes.{outcome-free, outcome-closed}
+use Rattle.runs.proofs.Outcomes.{outcome-free, outcome-closed}
 use Rattle.search.specs.declared.Outcome.{Outcome}
 use Rattle.search.specs.declared.Outcome.the-variants.{Found}
 use Rattle.planner.specs.Answers.{planAnswer, traced, reply, answerOf, traceOf, replyOf}

@@ -25,14 +25,15 @@ use Rattle.demands.specs.Held.{heldRecords}
 use Rattle.ends.specs.Ends.{finalIn, countIn, soonIn}
 use Rattle.ends.proofs.Tabled.{final-by, final-in, count-in}
 use Rattle.ends.proofs.Endings.{soon-in}
-use Rattle.search.specs.Outcome.{join, flagged, told, Says, Reported}
+use Rattle.runs.specs.Outcome.{join, flagged}
+use Rattle.search.specs.Outcome.{told, Says, Reported}
 use Rattle.search.specs.Frames.{Tasked, MayEnd, Settles, Placed, Ready, Surveyed, outcomeOf, branchesOf, lastOf}
 use Rattle.search.specs.declared.Task.{Task}
 use Rattle.search.specs.declared.Place.{Place}
 use Rattle.search.specs.declared.Outcome.{Outcome}
 use Rattle.search.specs.declared.Outcome.the-variants as o
 use Rattle.search.proofs.Seen.{sees}
-use Rattle.search.proofs.Outcomes.{plan-any, next-plan}
+use Rattle.runs.proofs.Outcomes.{plan-any, next-plan}
 use Rattle.search.proofs.Tried.{says-flag, more-reported}
 
 module _

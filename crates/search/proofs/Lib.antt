@@ -1,4 +1,3 @@
-pub mod Outcomes
 pub mod Tried
 pub mod Coded
 pub mod Known

@@ -9,13 +9,15 @@ use mathlib.Core.List.{List, [], _∷_}
 use mathlib.Core.Option.{Option, none, some}
 use mathlib.Core.Path.{_≡_, refl, sym, _∙_, ap, ap₂, subst}
 use lib.ListN.{length, drop, set, getElem?, drop-of-length-le}
-use Rattle.runs.specs.Search.{Verdict, plan, nothing, more, isPlan, orMore, before, tries}
+use Rattle.runs.specs.Search.{Verdict, plan, nothing, more, isPlan, before, tries}
 use Rattle.runs.specs.Guide.{only, follow1, follow}
-use Rattle.search.specs.Outcome.{join, flagged, Says, Reported, isFound, isMore, told}
+use Rattle.runs.specs.Outcome.{join, flagged}
+use Rattle.runs.proofs.Joined.{flag-nothing, join-assoc, before-flag, no-plan}
+use Rattle.search.specs.Outcome.{Says, Reported, isFound, isMore, told}
 use Rattle.search.specs.Moves.{passes, leftOver, entries, noted}
 use Rattle.search.specs.declared.Outcome.{Outcome}
 use Rattle.search.specs.declared.Outcome.the-variants.{Found, More}
-use Rattle.search.proofs.Outcomes.{tries-append}
+use Rattle.runs.proofs.Outcomes.{tries-append}
 
 nth-drop : {A : Type 0} (xs : List A) (k : ℕ) {x : A} → getElem? xs k ≡ some x → drop k xs ≡ x ∷ drop (suc k) xs
 nth-drop [] k h = cc
@@ -27,41 +29,9 @@ nth-less [] k h = let z : _≡_ {A = ℕ} 0 1 = cc in omega arith
 nth-less (a ∷ xs) zero h = omega arith
 nth-less (a ∷ xs) (suc k) h = let z = nth-less xs k h in omega arith
 
--- a flag and a verdict
-flag-nothing : (cut : Bool) → join (flagged cut) nothing ≡ flagged cut
-flag-nothing true = refl
-flag-nothing false = refl
-
-more-twice : (r : Verdict) → orMore (orMore r) ≡ orMore r
-more-twice (plan h t) = refl
-more-twice nothing = refl
-more-twice more = refl
-
-join-assoc : (u v w : Verdict) → join (join u v) w ≡ join u (join v w)
-join-assoc (plan h t) v w = refl
-join-assoc nothing v w = refl
-join-assoc more (plan h t) w = refl
-join-assoc more nothing w = refl
-join-assoc more more w = sym (more-twice w)
-
-before-flag : (m : Option ℕ) (cut : Bool) (v : Verdict) → before m (join (flagged cut) v) nothing ≡ join (flagged cut) (before m v nothing)
-before-flag m false v = refl
-before-flag m true (plan h t) = refl
-before-flag m true nothing = refl
-before-flag m true more = refl
-
 pub says-flag : (n d : ℕ) (trace : List ℕ) (cut : Bool) → Says n d trace trace (told cut) (flagged cut)
 says-flag n d trace true = (refl, refl)
 says-flag n d trace false = (refl, refl)
-
--- beside a run in which the bound ran out, what has no plan comes to more
-no-plan : (cut : Bool) (v : Verdict) → cut ≡ true → isPlan v ≡ false → join (flagged cut) v ≡ more
-no-plan cut v e h = ap (λ (b : Bool). join (flagged b) v) e ∙ go v h
-  where
-    go : (v : Verdict) → isPlan v ≡ false → orMore v ≡ more
-    go (plan h t) e = cc
-    go nothing e = refl
-    go more e = refl
 
 -- and the answer is that
 pub more-reported : (n d : ℕ) (trace : List ℕ) (cut : Bool) (v : Verdict) → cut ≡ true → isPlan v ≡ false → Reported n d trace trace More (join (flagged cut) v)

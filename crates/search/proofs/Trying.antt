@@ -23,7 +23,8 @@ use Rattle.steps.specs.Laid.{View, view, codeOf}
 use Rattle.steps.specs.Stepped.{CanStep, Stepped, StepsRest}
 use Rattle.steps.specs.declared.Turn.{Turn}
 use Rattle.steps.specs.declared.Turn.the-variants as turn
-use Rattle.search.specs.Outcome.{join, flagged, told, Reported}
+use Rattle.runs.specs.Outcome.{join, flagged}
+use Rattle.search.specs.Outcome.{told, Reported}
 use Rattle.search.specs.Moves.{Known, Action, passes, leftOver, entries, noted}
 use Rattle.search.specs.Frames.{Stands, Tasked, Ready, Surveyed, outcomeOf, Branched}
 use Rattle.search.specs.declared.Task.{Task}

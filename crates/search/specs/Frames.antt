@@ -24,7 +24,8 @@ use Rattle.words.specs.Words.{At}
 use Rattle.ends.specs.Ends.{Within}
 use Rattle.steps.specs.Laid.{view}
 use Rattle.steps.specs.Stepped.{Tabled}
-use Rattle.search.specs.Outcome.{outcome, join, flagged, Reported}
+use Rattle.runs.specs.Outcome.{outcome, join, flagged}
+use Rattle.search.specs.Outcome.{Reported}
 use Rattle.search.specs.declared.Task.{Task}
 use Rattle.search.specs.declared.Place.{Place}
 use Rattle.search.specs.declared.Outcome.{Outcome}

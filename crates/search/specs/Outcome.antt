@@ -1,33 +1,12 @@
--- What the depth-first search over frames computes, for any transition system: the guided search of `runs`, but at the bound it asks
--- only whether there is a transition at all. Free and with no moves to make it is plain planning, closed it finds a plan exactly where
--- replay does: proofs/Outcomes.antt. Assumes nothing.
-use Prim.Native.Nat.{ℕ, zero, suc, _+_}
+-- What a search answers and leaves in the trace, for a verdict. Assumes nothing.
+use Prim.Native.Nat.{ℕ, _+_}
 use mathlib.Core.Bool.{Bool, true, false}
 use mathlib.Core.List.{List, [], _∷_}
-use mathlib.Core.Option.{Option}
 use mathlib.Core.Path.{_≡_}
 use lib.ListN.{length, set}
-use Rattle.runs.specs.Search.{Verdict, plan, nothing, more, orMore, tries, anyStep, unless}
-use Rattle.runs.specs.Guide.{movesG, finG}
+use Rattle.runs.specs.Search.{Verdict, plan, nothing, more}
 use Rattle.search.specs.declared.Outcome.{Outcome}
 use Rattle.search.specs.declared.Outcome.the-variants.{Found, Nothing, More}
-
-module _ {C : Type 0} (moves : C → List (Option ℕ × C)) (fin : C → Bool) (free : Bool) where
-  -- within k transitions from c, while the moves g are still to be made
-  abbrev pub outcome : ℕ → C × List ℕ → Verdict
-  outcome zero c = unless (finG fin c) (anyStep (moves (c .0)))
-  outcome (suc k) c = let r = tries (λ (d : C × List ℕ). outcome k d) (movesG free moves c) in unless (finG fin c) r
-
--- a verdict on earlier transitions, then one on later ones: the first plan, else what the two say together
-abbrev pub join : Verdict → Verdict → Verdict
-join (plan h t) r = plan h t
-join nothing r = r
-join more r = orMore r
-
--- what transitions without a plan leave: whether the bound ran out in any
-abbrev pub flagged : Bool → Verdict
-flagged true = more
-flagged false = nothing
 
 -- the history h laid into a trace from place n on
 abbrev pub lay : (trace : List ℕ) → (n : ℕ) → List ℕ → List ℕ

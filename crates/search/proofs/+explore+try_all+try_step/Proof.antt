@@ -19,7 +19,8 @@ use Rattle.demands.specs.Held.{heldRecords}
 use Rattle.state.specs.Header.{Full, StatePut}
 use Rattle.words.specs.Words.{At, Kept}
 use Rattle.words.proofs.Written.{kept-refl, kept-less, kept-trans}
-use Rattle.search.specs.Outcome.{join, flagged, Reported}
+use Rattle.runs.specs.Outcome.{join, flagged}
+use Rattle.search.specs.Outcome.{Reported}
 use Rattle.search.specs.Frames.{Config, Counts, outcomeOf, branchesOf, Branched}
 use Rattle.search.specs.declared.Outcome.{Outcome}
 use Rattle.search.specs.declared.Outcome.the-variants.{Found, More}

@@ -6,9 +6,9 @@ use mathlib.Core.List.{List, [], _∷_, _++_, List·Memᴰ, List·Memᴰ·head, 
 use mathlib.Core.Option.{Option, none, some}
 use mathlib.Core.Path.{_≡_, refl, sym, _∙_, ap, ap₂}
 use lib.Dec.{eqb}
 use Rattle.runs.specs.Search.{Verdict, plan, nothing, more, isPlan, before, tries, anyStep, unless, search}
 use Rattle.runs.specs.Guide.{isNil, only, follow1, follow, movesG, finG, accepts}
-use Rattle.search.specs.Outcome.{outcome, join}
+use Rattle.runs.specs.Outcome.{outcome, join}
 
 -- the verdict on two rows of transitions, one after the other
 before-join : (m : Option ℕ) (v r t : Verdict) → before m v (join r t) ≡ join (before m v r) t

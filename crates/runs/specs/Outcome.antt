@@ -1,0 +1,26 @@
+-- The bounded search that a strategy makes, for any transition system: the guided search, but at the bound it asks only whether there is
+-- a transition at all. Free and with no moves to make it is plain planning, closed it finds a plan exactly where replay does:
+-- proofs/Outcomes.antt. And verdicts on rows of transitions, one after the other. Assumes nothing.
+use Prim.Native.Nat.{ℕ, zero, suc}
+use mathlib.Core.Bool.{Bool, true, false}
+use mathlib.Core.List.{List}
+use mathlib.Core.Option.{Option}
+use Rattle.runs.specs.Search.{Verdict, plan, nothing, more, orMore, tries, anyStep, unless}
+use Rattle.runs.specs.Guide.{movesG, finG}
+
+module _ {C : Type 0} (moves : C → List (Option ℕ × C)) (fin : C → Bool) (free : Bool) where
+  -- within k transitions from c, while the moves g are still to be made
+  abbrev pub outcome : ℕ → C × List ℕ → Verdict
+  outcome zero c = unless (finG fin c) (anyStep (moves (c .0)))
+  outcome (suc k) c = let r = tries (λ (d : C × List ℕ). outcome k d) (movesG free moves c) in unless (finG fin c) r
+
+-- a verdict on earlier transitions, then one on later ones: the first plan, else what the two say together
+abbrev pub join : Verdict → Verdict → Verdict
+join (plan h t) r = plan h t
+join nothing r = r
+join more r = orMore r
+
+-- what transitions without a plan leave: whether the bound ran out in any
+abbrev pub flagged : Bool → Verdict
+flagged true = more
+flagged false = nothing
