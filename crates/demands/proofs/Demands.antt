@@ -8,7 +8,9 @@ use mathlib.Core.List.{List}
 use mathlib.Core.Logic.{_↔_, Iff·trans}
 use mathlib.Core.Option.{Option}
 use Prim.Native.Nat.{ℕ, _≤_}
+use native.Mathlib.Omega.{arith}
 use lib.Dec.{T}
+use Rattle.height.specs.Work.{workWords}
 use Rattle.runs.specs.Runs.{ExactlyOne}
 use Rattle.runs.specs.Search.{Verdict, plan, nothing, more, search, Lists, Decides, Means}
 use Rattle.runs.proofs.Searched.{search-means}
@@ -21,10 +23,13 @@ use Rattle.golog.proofs.Exact.{steps-exact, final-exact}
 use Rattle.sheet.specs.Check.{Accepts, checkOf}
 use Rattle.sheet.specs.declared.Checked.{Checked}
 use Rattle.sheet.specs.declared.Checked.the-variants.{Accepted, Refused}
+use Rattle.sheet.proofs.Accepted.{trailed}
 use Rattle.demands.specs.Decoded.{worldOf, firstOf, boundOf}
 use Rattle.demands.specs.Planning.{Goes, Ends, movesIn, finalIn, RunEndsFinal, HistoryOfRun, NoneOfAnyLength, NoneInTheBound, RunOf, verdictOf, acceptsOf, Planned, found, answer, plannedFrom, planOf, Replayed, replied, replayedFrom, replayOf}
-use Rattle.demands.specs.Raised.{SameButBound}
-use Rattle.demands.proofs.Raised.{world-same, first-same}
+use Rattle.demands.specs.Held.{levelsOf}
+use Rattle.demands.specs.Raised.{SameButBound, withBound}
+use Rattle.demands.proofs.Tables.{world-same, first-same}
+use Rattle.demands.proofs.Raised.{tables-same, accepted-too, bound-alone, bound-put}
 
 -- the lists of transitions are the paper's Trans, the test for final configurations its Final
 pub listed : (W : World) → Lists (movesIn W) (Goes W)
@@ -133,14 +138,14 @@ module _ (s : List ℕ) (accepted : Accepts s) where
       let W = worldOf s in
       exactly-one (Goes W) (Ends W) (search (movesIn W) (finalIn W)) (means W) (boundOf s) (firstOf s)
 
--- "Raising D alone keeps a plan a plan and 13 a 13"
+-- "Raising D alone keeps a plan a plan and 13 a 13": two sheets that differ in D alone
 module _ (s s′ : List ℕ) (accepted : Accepts s) (accepted′ : Accepts s′) (but : SameButBound s s′) (raised : boundOf s ≤ boundOf s′) where
   -- the verdict within any bound is that of the first sheet
   verdict-same : verdictOf s′ ≡ search (movesIn (worldOf s)) (finalIn (worldOf s)) (boundOf s′) (firstOf s)
   unfolding verdictOf
   verdict-same =
-      ap₂ (λ (W : World) (c : Config). search (movesIn W) (finalIn W) (boundOf s′) c) (world-same s s′ accepted accepted′ but)
-      (first-same s s′ accepted accepted′ but)
+      let same = tables-same s s′ accepted but in
+      ap₂ (λ (W : World) (c : Config). search (movesIn W) (finalIn W) (boundOf s′) c) (world-same same) (first-same same)
 
   pub plan-stays-plan : (h : List ℕ) (t : ℕ) → planOf s ≡ found h t → (g : List ℕ) × (u : ℕ) × (planOf s′ ≡ found g u)
   unfolding verdictOf
@@ -157,3 +162,27 @@ module _ (s s′ : List ℕ) (accepted : Accepts s) (accepted′ : Accepts s′)
       let r = nothing-stays (Goes W) (Ends W) (search (movesIn W) (finalIn W)) (means W) (boundOf s′) (boundOf s) (firstOf s) raised
       (answer-nothing (verdictOf s) .0 (same-answer s accepted (Planned.refused 13 0) .0 e)) in
       same-answer s′ accepted′ (Planned.refused 13 0) .1 (answer-nothing (verdictOf s′) .1 (verdict-same ∙ r))
+
+-- the same of one accepted sheet whose D is raised: "puts a higher D, at most 64, into the trailer"
+module _ (s : List ℕ) (accepted : Accepts s) (d : ℕ) where
+  -- the sheet with d put in differs in D alone, and its D is d
+  pub raised-alone : SameButBound s (withBound s d) × (boundOf (withBound s d) ≡ d)
+  raised-alone = let long = trailed s accepted .long in (bound-alone s long d, bound-put s long d)
+
+  -- "D 0–64": it is accepted too, with the figure for d
+  pub raised-accepted : d ≤ 64 → checkOf (withBound s d) ≡ Accepted (workWords (levelsOf s) d)
+  raised-accepted small =
+      let e = raised-alone .1 in
+      accepted-too s (withBound s d) accepted (raised-alone .0) (omega arith) ∙ ap (λ (b : ℕ). Accepted (workWords (levelsOf s) b)) e
+
+  module _ (raised : boundOf s ≤ d) (small : d ≤ 64) where
+    higher : boundOf s ≤ boundOf (withBound s d)
+    higher = let e = raised-alone .1 in omega arith
+
+    -- "keeps a plan a plan"
+    pub raised-plan-stays : (h : List ℕ) (t : ℕ) → planOf s ≡ found h t → (g : List ℕ) × (u : ℕ) × (planOf (withBound s d) ≡ found g u)
+    raised-plan-stays = plan-stays-plan s (withBound s d) accepted (_, raised-accepted small) (raised-alone .0) higher
+
+    -- "and 13 a 13"
+    pub raised-thirteen-stays : planOf s ≡ Planned.refused 13 0 → planOf (withBound s d) ≡ Planned.refused 13 0
+    raised-thirteen-stays = thirteen-stays-thirteen s (withBound s d) accepted (_, raised-accepted small) (raised-alone .0) higher

@@ -1,25 +1,24 @@
--- Sheets that differ in the bound alone have the same world, the same program and the same first configuration: every table lies
--- where it lay, with the same bytes. Assumes nothing.
-use mathlib.Core.Path.{_≡_, refl, sym, _∙_, ap, ap₂}
+-- Sheets that differ in the bound alone have the same tables: every table lies where it lay, with the same bytes. So an accepted sheet
+-- with another bound is accepted, with the figure for that bound. Assumes nothing.
+use mathlib.Core.Path.{_≡_, sym, _∙_, ap, ap₂, subst}
 use mathlib.Core.List.{List}
-use Prim.Native.Nat.{ℕ, _+_, _-_, _*_, _≤_, _<_}
+use Prim.Native.Nat.{ℕ, _+_, _-_, _*_, _/_, _%_, _≤_, _<_}
 use native.Mathlib.Omega.{arith}
-use lib.ListN.{length, getD, drop, length-drop}
-use lib.Seq.{ext-getD, getD-take, getD-drop, length-take-le}
+use lib.ListN.{length, getD, drop, set, length-drop, length-set}
+use lib.Seq.{ext-getD, getD-take, getD-drop, getD-set-same, getD-set-other, length-take-le, lt-length-set}
 use Rattle.records.specs.Bytes.{part, le16}
-use Rattle.records.specs.Records.{programAt}
-use Rattle.height.specs.Height.{interrupts}
-use Rattle.sheet.specs.Trailer.{trailerIn, trailerOf}
-use Rattle.sheet.specs.Layout.{layoutIn, layoutOf, Fits, fluentsIn, formulasIn, effectsIn, actionsIn, programsIn}
-use Rattle.sheet.specs.Check.{Accepts}
+use Rattle.height.specs.Work.{workWords}
+use Rattle.sheet.specs.Trailer.{trailerIn, trailerOf, Within, recordBytes}
+use Rattle.sheet.specs.Layout.{layoutIn, layoutOf, fluentsIn, formulasIn, effectsIn, actionsIn, programsIn}
+use Rattle.sheet.specs.Check.{Accepts, checkOf}
 use Rattle.sheet.specs.declared.Trailer.{Trailer}
 use Rattle.sheet.specs.declared.Layout.{Layout}
-use Rattle.sheet.proofs.Accepted.{trailed, laid}
-use Rattle.golog.specs.Decoded.{world}
-use Rattle.golog.specs.Prog.{programOf, started}
-use Rattle.golog.specs.Steps.{Config}
-use Rattle.demands.specs.Decoded.{worldOf, startingWith, firstOf}
-use Rattle.demands.specs.Raised.{SameButBound}
+use Rattle.sheet.specs.declared.Checked.the-variants.{Accepted}
+use Rattle.sheet.proofs.Accepted.{Trailed, trailed, trailed-checked, laid}
+use Rattle.sheet.proofs.Tables.{SameTables, figured, figureOf, checked-alike}
+use Rattle.demands.specs.Decoded.{boundOf}
+use Rattle.demands.specs.Held.{levelsOf}
+use Rattle.demands.specs.Raised.{SameButBound, withBound}
 
 -- equal bytes up to n give equal parts up to n
 part-same : (s s′ : List ℕ) (n a e : ℕ) → length s′ ≡ length s → n ≤ length s → ((i : ℕ) → i < n → getD s′ i 0 ≡ getD s i 0) → e ≤ n → part s′ a e ≡ part s a e
@@ -42,100 +41,150 @@ tail-at s l k h =
     let n = length s in
     getD-take (n - (n - 18)) (drop (n - 18) s) k 0 (omega arith) ∙ getD-drop (n - 18) s k 0
 
-module _ (s s′ : List ℕ) (accepted : Accepts s) (accepted′ : Accepts s′) (but : SameButBound s s′) where
-  long : 18 ≤ length s
-  long = trailed s accepted .long
+-- the same trailer, but for the bound
+abbrev rebound : Trailer → (d : ℕ) → Trailer
+rebound t d = record { f = t .f; q = t .q; e = t .e; a = t .a; p = t .p; d = d; distance = t .distance; magic = t .magic }
+
+module _ (s s′ : List ℕ) (long : 18 ≤ length s) (but : SameButBound s s′) where
+  abbrev tail : List ℕ
+  tail = part s (length s - 18) (length s)
+
+  abbrev tail′ : List ℕ
+  tail′ = part s′ (length s′ - 18) (length s′)
 
   -- byte k of the trailer, but for the two of the bound
-  trailer-at : (k : ℕ) → k < 18 → ¬ (k ≡ 10) → ¬ (k ≡ 11) → getD (part s′ (length s′ - 18) (length s′)) k 0 ≡ getD (part s (length s - 18) (length s)) k 0
+  trailer-at : (k : ℕ) → k < 18 → ¬ (k ≡ 10) → ¬ (k ≡ 11) → getD tail′ k 0 ≡ getD tail k 0
   trailer-at k h n m =
-      let l = long in
       let e = but .len in
       tail-at s′ (omega arith) k h
       ∙ ap (λ (n : ℕ). getD s′ (n - 18 + k) 0) e
       ∙ but .bytes (length s - 18 + k) (λ q. n (omega arith)) (λ q. m (omega arith))
-      ∙ sym (tail-at s l k h)
+      ∙ sym (tail-at s long k h)
 
   -- a field of two bytes before the bound's, and one behind it
-  field-before : (k : ℕ) → k + 1 < 10 → le16 (part s′ (length s′ - 18) (length s′)) k ≡ le16 (part s (length s - 18) (length s)) k
+  field-before : (k : ℕ) → k + 1 < 10 → le16 tail′ k ≡ le16 tail k
   field-before k h =
       ap₂ (λ (x y : ℕ). x + 256 * y) (trailer-at k (omega arith) (λ q. omega arith) (λ q. omega arith))
       (trailer-at (k + 1) (omega arith) (λ q. omega arith) (λ q. omega arith))
 
-  field-behind : (k : ℕ) → 11 < k → k + 1 < 18 → le16 (part s′ (length s′ - 18) (length s′)) k ≡ le16 (part s (length s - 18) (length s)) k
+  field-behind : (k : ℕ) → 11 < k → k + 1 < 18 → le16 tail′ k ≡ le16 tail k
   field-behind k g h =
       ap₂ (λ (x y : ℕ). x + 256 * y) (trailer-at k (omega arith) (λ q. omega arith) (λ q. omega arith))
       (trailer-at (k + 1) (omega arith) (λ q. omega arith) (λ q. omega arith))
 
+  trailer-same : trailerOf s′ ≡ rebound (trailerOf s) (boundOf s′)
+  unfolding trailerIn layoutOf layoutIn
+  trailer-same =
+      λ i. record {
+        f = field-before 0 (omega arith) i;
+        q = field-before 2 (omega arith) i;
+        e = field-before 4 (omega arith) i;
+        a = field-before 6 (omega arith) i;
+        p = field-before 8 (omega arith) i;
+        d = boundOf s′;
+        distance = field-behind 12 (omega arith) (omega arith) i + 65536 * field-behind 14 (omega arith) (omega arith) i;
+        magic = field-behind 16 (omega arith) (omega arith) i;
+      }
+
   -- so each table has as many records and starts where it did
-  same-f : layoutOf s′ .f ≡ layoutOf s .f
-  unfolding layoutOf layoutIn trailerIn
-  same-f = field-before 0 (omega arith)
+  layout-same : layoutOf s′ ≡ layoutIn (rebound (trailerOf s) (boundOf s′)) (length s - 18)
+  unfolding layoutOf
+  layout-same = ap₂ (λ (t : Trailer) (n : ℕ). layoutIn t (n - 18)) trailer-same (but .len)
 
-  same-p : layoutOf s′ .p ≡ layoutOf s .p
-  unfolding layoutOf layoutIn trailerIn
-  same-p = field-before 8 (omega arith)
-
-  same-fluents : layoutOf s′ .fluents ≡ layoutOf s .fluents
-  unfolding layoutOf layoutIn trailerIn
-  same-fluents =
-      ap₂ (λ (n d : ℕ). n - 18 - d) (but .len)
-      (ap₂ (λ (x y : ℕ). x + 65536 * y) (field-behind 12 (omega arith) (omega arith)) (field-behind 14 (omega arith) (omega arith)))
-
-  same-formulas : layoutOf s′ .formulas ≡ layoutOf s .formulas
-  unfolding layoutOf layoutIn trailerIn
-  same-formulas = ap₂ (λ (x n : ℕ). x + 2 * n) same-fluents (field-before 0 (omega arith))
-
-  same-effects : layoutOf s′ .effects ≡ layoutOf s .effects
-  unfolding layoutOf layoutIn trailerIn
-  same-effects = ap₂ (λ (x n : ℕ). x + 6 * n) same-formulas (field-before 2 (omega arith))
-
-  same-actions : layoutOf s′ .actions ≡ layoutOf s .actions
-  unfolding layoutOf layoutIn trailerIn
-  same-actions = ap₂ (λ (x n : ℕ). x + 4 * n) same-effects (field-before 4 (omega arith))
-
-  same-programs : layoutOf s′ .programs ≡ layoutOf s .programs
-  unfolding layoutOf layoutIn trailerIn
-  same-programs = ap₂ (λ (x n : ℕ). x + 6 * n) same-actions (field-before 6 (omega arith))
-
-  same-end : layoutOf s′ .end ≡ layoutOf s .end
-  unfolding layoutOf layoutIn trailerIn
-  same-end = ap₂ (λ (x n : ℕ). x + 8 * n) same-programs (field-before 8 (omega arith))
-
-  fits : Fits (layoutOf s) (length s)
-  fits = laid s accepted
+module _ (s s′ : List ℕ) (accepted : Accepts s) (but : SameButBound s s′) where
+  long : 18 ≤ length s
+  long = trailed s accepted .long
 
   -- and has the same bytes
-  table-same : (a e a′ e′ : ℕ) → a′ ≡ a → e′ ≡ e → e ≤ layoutOf s .end → part s′ a′ e′ ≡ part s a e
-  table-same a e a′ e′ p q l =
-      let g = fits .inside in
-      ap₂ (part s′) p q
-      ∙ part-same s s′ (length s - 18) a e (but .len) (omega arith)
-      (λ i h. but .bytes i (λ z. omega arith) (λ z. omega arith)) (omega arith)
+  table-same : (a e : ℕ) → e ≤ layoutOf s .end → part s′ a e ≡ part s a e
+  table-same a e l =
+      let g = laid s accepted .inside in
+      part-same s s′ (length s - 18) a e (but .len) (omega arith) (λ i h. but .bytes i (λ z. omega arith) (λ z. omega arith)) (omega arith)
 
-  fluents-same : fluentsIn s′ (layoutOf s′) ≡ fluentsIn s (layoutOf s)
-  fluents-same =
-      let f = fits in
-      table-same _ _ _ _ same-fluents same-formulas (omega (arith, f .at-effects, f .at-actions, f .at-programs, f .at-end))
+  pub tables-same : SameTables s s′
+  unfolding layoutOf layoutIn
+  tables-same =
+      let l = layout-same s s′ long but in
+      let m = layoutOf s in
+      let at = laid s accepted in
+      record {
+        f = ap (λ (l : Layout). l .f) l;
+        q = ap (λ (l : Layout). l .q) l;
+        e = ap (λ (l : Layout). l .e) l;
+        a = ap (λ (l : Layout). l .a) l;
+        p = ap (λ (l : Layout). l .p) l;
+        fluents = ap (fluentsIn s′) l ∙ table-same (m .fluents) (m .formulas) (omega arith);
+        formulas = ap (formulasIn s′) l ∙ table-same (m .formulas) (m .effects) (omega arith);
+        effects = ap (effectsIn s′) l ∙ table-same (m .effects) (m .actions) (omega arith);
+        actions = ap (actionsIn s′) l ∙ table-same (m .actions) (m .programs) (omega arith);
+        programs = ap (programsIn s′) l ∙ table-same (m .programs) (m .end) (omega arith);
+      }
 
-  formulas-same : formulasIn s′ (layoutOf s′) ≡ formulasIn s (layoutOf s)
-  formulas-same = let f = fits in table-same _ _ _ _ same-formulas same-effects (omega (arith, f .at-actions, f .at-programs, f .at-end))
+  -- the trailer keeps its rules with any bound up to 64
+  trailed-too : boundOf s′ ≤ 64 → Trailed s′
+  trailed-too small =
+      let old = trailed s accepted in
+      let w = old .within in
+      let e = trailer-same s s′ long but in
+      let len = but .len in
+      let far = ap (λ (t : Trailer). t .distance) e in
+      record {
+        long = omega arith;
+        magic = ap (λ (t : Trailer). t .magic) e ∙ old .magic;
+        within = subst Within (sym e) record {
+          some-fluent = w .some-fluent;
+          f = w .f;
+          q = w .q;
+          e = w .e;
+          a = w .a;
+          some-record = w .some-record;
+          p = w .p;
+          d = small;
+        };
+        sum = far ∙ old .sum ∙ sym (ap recordBytes e);
+        room = omega arith;
+      }
 
-  effects-same : effectsIn s′ (layoutOf s′) ≡ effectsIn s (layoutOf s)
-  effects-same = let f = fits in table-same _ _ _ _ same-effects same-actions (omega (arith, f .at-programs, f .at-end))
+  -- and the sheet is accepted, with the figure for its bound
+  pub accepted-too : boundOf s′ ≤ 64 → checkOf s′ ≡ Accepted (workWords (levelsOf s) (boundOf s′))
+  accepted-too small =
+      trailed-checked s′ (trailed-too small)
+      ∙ checked-alike tables-same
+      ∙ ap (figured (figureOf s (boundOf s′))) (sym (trailed-checked s (trailed s accepted)) ∙ accepted .1)
 
-  actions-same : actionsIn s′ (layoutOf s′) ≡ actionsIn s (layoutOf s)
-  actions-same = let f = fits in table-same _ _ _ _ same-actions same-programs (omega (arith, f .at-end))
+-- the sheet with a bound put in
+module _ (s : List ℕ) (long : 18 ≤ length s) (d : ℕ) where
+  put-len : length (withBound s d) ≡ length s
+  unfolding withBound
+  put-len = simp length-set
 
-  programs-same : programsIn s′ (layoutOf s′) ≡ programsIn s (layoutOf s)
-  programs-same = table-same _ _ _ _ same-programs same-end (omega arith)
+  -- differs in the bound alone
+  pub bound-alone : SameButBound s (withBound s d)
+  unfolding withBound
+  bound-alone =
+      record {
+        len = put-len;
+        bytes = λ i n₈ n₇.
+            getD-set-other (set s (length s - 8) (d % 256)) (length s - 7) i (d / 256) 0 (λ e. n₇ (omega arith))
+            ∙ getD-set-other s (length s - 8) i (d % 256) 0 (λ e. n₈ (omega arith));
+      }
 
-  pub world-same : worldOf s′ ≡ worldOf s
-  world-same = λ i. world (formulas-same i) (effects-same i) (actions-same i)
+  -- its two bytes, and the bound that they make
+  put-at : (k i : ℕ) → k < 18 → i + 18 ≡ length s + k → let x = withBound s d in getD (part x (length x - 18) (length x)) k 0 ≡ getD x i 0
+  put-at k i h e =
+      let x = withBound s d in
+      let l = put-len in
+      tail-at x (omega arith) k h ∙ ap (λ (j : ℕ). getD x j 0) (omega arith)
 
-  pub first-same : firstOf s′ ≡ firstOf s
-  first-same =
-      λ i. (
-        started (interrupts (programAt (programs-same i)) (same-p i)) (programOf (programAt (programs-same i)) (same-p i - 1)),
-        startingWith (fluents-same i) (same-f i),
-      )
+  pub bound-put : boundOf (withBound s d) ≡ d
+  unfolding layoutOf layoutIn trailerIn withBound
+  bound-put =
+      let n = length s in
+      let low =
+      put-at 10 (n - 8) (omega arith) (omega arith)
+      ∙ getD-set-other (set s (n - 8) (d % 256)) (n - 7) (n - 8) (d / 256) 0 (λ e. omega arith)
+      ∙ getD-set-same s (n - 8) (d % 256) 0 (omega arith) in
+      let high =
+      put-at 11 (n - 7) (omega arith) (omega arith)
+      ∙ getD-set-same (set s (n - 8) (d % 256)) (n - 7) (d / 256) 0 (lt-length-set s (n - 8) (d % 256) (omega arith)) in
+      ap₂ (λ (x y : ℕ). x + 256 * y) low high ∙ omega arith

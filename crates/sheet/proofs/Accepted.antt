@@ -17,7 +17,7 @@ use Rattle.height.specs.Work.{levels, workWords}
 use Rattle.sheet.specs.Trailer.{trailerOf, limitsOk, Within, recordBytes, distanceOk}
 use Rattle.sheet.specs.Layout.{layoutIn, layoutOf, Fits, fluentsIn, formulasIn, effectsIn, actionsIn, programsIn}
 use Rattle.sheet.specs.Check.{refusedAt, heightChecked, programsChecked, actionsChecked, effectsChecked, formulasChecked, fluentsChecked, trailerChecked, checkOf, Accepts}
-use Rattle.sheet.proofs.Laws.{within, placed, fits}
+use Rattle.sheet.proofs.Laws.{within, limits-kept, placed, distance-kept, fits, in-place}
 use Rattle.sheet.specs.declared.Layout.{Layout}
 use Rattle.sheet.specs.declared.Checked.{Checked}
 use Rattle.sheet.specs.declared.Checked.the-variants.{Accepted, Refused}
@@ -39,6 +39,13 @@ pub record Trailed (s : List ℕ) : Type 0 where
   pub within : Within (trailerOf s)
   pub sum : trailerOf s .distance ≡ recordBytes (trailerOf s)
   pub room : trailerOf s .distance ≤ length s - 18
+
+-- of such a sheet numbers 4 to 9 are asked
+pub trailed-checked : (s : List ℕ) → Trailed s → checkOf s ≡ fluentsChecked s (layoutOf s)
+unfolding layoutOf
+trailed-checked s t =
+    let r = trailerOf s in
+    sym (in-place s refl (t .long) (t .magic) (limits-kept r (t .within)) (distance-kept r (length s - 18) (t .sum) (t .room)) refl)
 
 -- what numbers 4 to 9 leave
 pub record Ruled (s : List ℕ) (l : Layout) (w : ℕ) : Type 0 where

@@ -4,7 +4,7 @@ use mathlib.Core.Bool.{Bool, true, false, _&&_}
 use mathlib.Core.List.{List}
 use Prim.Native.Nat.{ℕ, _+_, _≤_, _<_, _-_}
 use native.Mathlib.Omega.{arith}
-use borrow.Author.Tests.{lt-ltb, le-ltb, eq-eqb, ne-eqb, leb-true, eqb-true}
+use borrow.Author.Tests.{lt-ltb, le-ltb, le-leb, eq-eqb, ne-eqb, leb-true, eqb-true}
 use lib.ListN.{length}
 use lib.Dec.{leb, eqb}
 use Rattle.records.proofs.Truth.{and-left, and-right}
@@ -65,12 +65,32 @@ within t h =
       d = leb-true _ _ (and-right l₇ (leb (t .d) 64) h);
     }
 
+-- and back
+pub limits-kept : (t : Trailer) → Within t → limitsOk t ≡ true
+unfolding limitsOk
+limits-kept t w =
+    simp (
+      le-leb 1 (t .f) (w .some-fluent),
+      le-leb (t .f) 32 (w .f),
+      le-leb (t .q) 512 (w .q),
+      le-leb (t .e) 512 (w .e),
+      le-leb (t .a) 64 (w .a),
+      le-leb 1 (t .p) (w .some-record),
+      le-leb (t .p) 256 (w .p),
+      le-leb (t .d) 64 (w .d),
+    )
+
 pub placed : (t : Trailer) (room : ℕ) → distanceOk t room ≡ true → (t .distance ≡ recordBytes t) × (t .distance ≤ room)
 unfolding distanceOk
 placed t room e =
     let a : Bool = eqb (t .distance) (recordBytes t) in
     let b : Bool = leb (t .distance) room in
     (eqb-true (t .distance) (recordBytes t) (and-left a b e), leb-true (t .distance) room (and-right a b e))
+
+-- and back
+pub distance-kept : (t : Trailer) (room : ℕ) → t .distance ≡ recordBytes t → t .distance ≤ room → distanceOk t room ≡ true
+unfolding distanceOk
+distance-kept t room e l = simp (eq-eqb (t .distance) (recordBytes t) e, le-leb (t .distance) room l)
 
 -- where the distance is the sum and there is room for it, the tables fit
 pub fits : (t : Trailer) (room : ℕ) → Within t → t .distance ≡ recordBytes t → t .distance ≤ room → Fits (layoutIn t room) (room + 18)

@@ -2,3 +2,4 @@ pub mod Accepted
 pub mod Laws
 pub mod Lower
 pub mod Numbers
+pub mod Tables
