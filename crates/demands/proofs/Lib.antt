@@ -1,5 +1,6 @@
 pub mod Demands
 pub mod Held
+pub mod Notes
 pub mod Raised
 pub mod Tables
 pub mod Cases

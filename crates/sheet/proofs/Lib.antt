@@ -2,4 +2,5 @@ pub mod Accepted
 pub mod Laws
 pub mod Lower
 pub mod Numbers
+pub mod OtherNotes
 pub mod Tables

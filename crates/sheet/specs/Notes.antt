@@ -1,7 +1,8 @@
 -- The notes (document 01: "Bytes before that point are notes, never interpreted"). Assumes nothing.
-use Prim.Native.Nat.{ℕ}
-use mathlib.Core.List.{List}
-use lib.ListN.{take}
+use Prim.Native.Nat.{ℕ, _-_, _≤_}
+use mathlib.Core.List.{List, _++_}
+use lib.ListN.{length, take, drop}
+use Rattle.sheet.specs.Trailer.{trailerOf}
 use Rattle.sheet.specs.Layout.{layoutOf}
 use Rattle.sheet.specs.Check.{checkOf}
 use Rattle.sheet.specs.declared.Checked.{Checked}
@@ -14,3 +15,12 @@ notesCount s (Refused n p) = 0
 
 abbrev pub notesOf : List ℕ → List ℕ
 notesOf s = take (notesCount s (checkOf s)) s
+
+-- "a four-byte distance back from the trailer's start to the first record": it leads to a place in the sheet
+pub record FirstRecord (s : List ℕ) : Type 0 where
+  pub long : 18 ≤ length s
+  pub room : trailerOf s .distance ≤ length s - 18
+
+-- the sheet with other notes: from the first record on it stays
+unfoldable pub withNotes : List ℕ → (notes : List ℕ) → List ℕ
+withNotes s notes = notes ++ drop (layoutOf s .fluents) s
