@@ -1,3 +1,4 @@
+pub mod Formulas
 pub mod Demands
 pub mod Held
 pub mod Notes

@@ -1,4 +1,5 @@
 pub mod Tests
 pub mod Exact
 pub mod Truths
+pub mod Formulas
 pub mod Moves

@@ -1,4 +1,5 @@
 pub mod World
+pub mod Says
 pub mod Prog
 pub mod Trans
 pub mod Steps

@@ -1,0 +1,36 @@
+-- What formulas say, kind by kind, as statements about values: the second reading of document 01's "Formula" beside the computed one
+-- (`truthOf`, World.antt). The theorem of proofs/Formulas.antt says that the two agree. Assumes nothing.
+use Prim.Native.Nat.{ℕ, _≤_, _<_}
+use mathlib.Core.List.{List, [], _∷_}
+use mathlib.Core.Logic.{_⊎_}
+use mathlib.Core.Path.{_≡_}
+use lib.Dec.{T}
+use lib.ListN.{getD}
+use Rattle.records.specs.declared.Formula.{Formula}
+use Rattle.golog.specs.declared.State.{State}
+use Rattle.golog.specs.World.{World, holds}
+
+-- the value of fluent x
+abbrev pub valueOf : State → ℕ → ℕ
+valueOf s x = getD (s .values) x 0
+
+-- what a formula says of a state; one of unknown kind never holds
+unfoldable pub Says : World → State → Formula → Type 0
+Says W s r =
+    getD
+    (
+    Unit {0} ∷  -- 0 true
+    ⊥ ∷  -- 1 false
+    (valueOf s (r .x) ≡ r .a) ∷  -- 2 fluent x has value a
+    (valueOf s (r .x) < r .a) ∷  -- 3 fluent x is less than a
+    (valueOf s (r .x) ≡ valueOf s (r .a)) ∷  -- 4 fluents x and a have equal values
+    (¬ T (holds W (r .a) s)) ∷  -- 5 not a
+    (T (holds W (r .a) s) × T (holds W (r .b) s)) ∷  -- 6 a and b
+    (T (holds W (r .a) s) ⊎ T (holds W (r .b) s)) ∷  -- 7 a or b
+    []
+    )
+    (r .kind) ⊥
+
+-- "In 5 to 7, a and b are formulas with lower numbers": of formula q, those that its kind has
+abbrev pub PartsLower : (q : ℕ) → Formula → Type 0
+PartsLower q r = (5 ≤ r .kind → r .a < q) × (6 ≤ r .kind → r .b < q)
