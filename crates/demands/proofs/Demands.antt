@@ -15,7 +15,7 @@ use Rattle.runs.specs.Runs.{ExactlyOne}
 use Rattle.runs.specs.Search.{Verdict, plan, nothing, more, search, Lists, Decides, Means}
 use Rattle.runs.proofs.Searched.{search-means}
 use Rattle.runs.proofs.Verdicts.{plan-iff, nothing-iff, more-iff, exactly-one, says}
-use Rattle.runs.proofs.Raised.{plan-stays, nothing-stays}
+use Rattle.runs.proofs.Raised.{none-of-any-length, plan-stays, nothing-stays}
 use Rattle.runs.proofs.Guided.{accepts-iff, plan-accepted}
 use Rattle.golog.specs.World.{World}
 use Rattle.golog.specs.Steps.{Config}
@@ -25,7 +25,7 @@ use Rattle.sheet.specs.declared.Checked.{Checked}
 use Rattle.sheet.specs.declared.Checked.the-variants.{Accepted, Refused}
 use Rattle.sheet.proofs.Accepted.{trailed}
 use Rattle.demands.specs.Decoded.{worldOf, firstOf, boundOf}
-use Rattle.demands.specs.Planning.{Goes, Ends, movesIn, finalIn, RunEndsFinal, HistoryOfRun, NoneOfAnyLength, NoneInTheBound, RunOf, verdictOf, acceptsOf, Planned, found, answer, plannedFrom, planOf, Replayed, replied, replayedFrom, replayOf}
+use Rattle.demands.specs.Planning.{Goes, Ends, movesIn, finalIn, RunEndsFinal, HistoryOfRun, NoPlanAtAll, NoPlanWithinBound, NoRunEndsFinal, RunOf, verdictOf, acceptsOf, Planned, found, answer, plannedFrom, planOf, Replayed, replied, replayedFrom, replayOf}
 use Rattle.demands.specs.Held.{levelsOf}
 use Rattle.demands.specs.Raised.{SameButBound, withBound}
 use Rattle.demands.proofs.Tables.{world-same, first-same}
@@ -115,7 +115,7 @@ module _ (s : List ℕ) (accepted : Accepts s) where
       (plan-iff (Goes W) (Ends W) (search (movesIn W) (finalIn W)) (means W) (boundOf s) (firstOf s))
 
   -- "13 exactly when none does and no run has D + 1"
-  pub thirteen-exactly : (planOf s ≡ Planned.refused 13 0) ↔ NoneOfAnyLength s
+  pub thirteen-exactly : (planOf s ≡ Planned.refused 13 0) ↔ NoPlanAtAll s
   unfolding verdictOf
   thirteen-exactly =
       let W = worldOf s in
@@ -123,8 +123,12 @@ module _ (s : List ℕ) (accepted : Accepts s) where
       (Iff·trans (answer-nothing (verdictOf s))
       (nothing-iff (Goes W) (Ends W) (search (movesIn W) (finalIn W)) (means W) (boundOf s) (firstOf s)))
 
+  -- 13 at every length: it is no matter of the bound
+  pub thirteen-none-ends : planOf s ≡ Planned.refused 13 0 → NoRunEndsFinal s
+  thirteen-none-ends e = let W = worldOf s in none-of-any-length (Goes W) (Ends W) (boundOf s) (firstOf s) (thirteen-exactly .0 e)
+
   -- "14 exactly when none does and some run has D + 1"
-  pub fourteen-exactly : (planOf s ≡ Planned.refused 14 0) ↔ NoneInTheBound s
+  pub fourteen-exactly : (planOf s ≡ Planned.refused 14 0) ↔ NoPlanWithinBound s
   unfolding verdictOf
   fourteen-exactly =
       let W = worldOf s in
@@ -133,7 +137,7 @@ module _ (s : List ℕ) (accepted : Accepts s) where
       (more-iff (Goes W) (Ends W) (search (movesIn W) (finalIn W)) (means W) (boundOf s) (firstOf s)))
 
   -- the three verdicts exclude each other, and one always holds
-  pub one-verdict : ExactlyOne (RunEndsFinal s) (NoneOfAnyLength s) (NoneInTheBound s)
+  pub one-verdict : ExactlyOne (RunEndsFinal s) (NoPlanAtAll s) (NoPlanWithinBound s)
   one-verdict =
       let W = worldOf s in
       exactly-one (Goes W) (Ends W) (search (movesIn W) (finalIn W)) (means W) (boundOf s) (firstOf s)

@@ -37,11 +37,17 @@ RunEndsFinal s = FinalRun (Goes (worldOf s)) (Ends (worldOf s)) (boundOf s) (fir
 abbrev pub HistoryOfRun : List ℕ → List ℕ → Type 0
 HistoryOfRun s h = Legal (Goes (worldOf s)) (Ends (worldOf s)) (boundOf s) (firstOf s) h
 
-abbrev pub NoneOfAnyLength : List ℕ → Type 0
-NoneOfAnyLength s = NoneAtAll (Goes (worldOf s)) (Ends (worldOf s)) (boundOf s) (firstOf s)
+-- number 13, "none at all"
+abbrev pub NoPlanAtAll : List ℕ → Type 0
+NoPlanAtAll s = NoneAtAll (Goes (worldOf s)) (Ends (worldOf s)) (boundOf s) (firstOf s)
 
-abbrev pub NoneInTheBound : List ℕ → Type 0
-NoneInTheBound s = NoneWithin (Goes (worldOf s)) (Ends (worldOf s)) (boundOf s) (firstOf s)
+-- number 14, "none within the bound"
+abbrev pub NoPlanWithinBound : List ℕ → Type 0
+NoPlanWithinBound s = NoneWithin (Goes (worldOf s)) (Ends (worldOf s)) (boundOf s) (firstOf s)
+
+-- no run of any length ends final
+abbrev pub NoRunEndsFinal : List ℕ → Type 0
+NoRunEndsFinal s = (n : ℕ) (h : List ℕ) (d : Config) → Run (Goes (worldOf s)) n (firstOf s) h d → ¬ Ends (worldOf s) d
 
 -- some run of exactly t transitions has history h and ends final
 abbrev pub RunOf : List ℕ → List ℕ → ℕ → Type 0

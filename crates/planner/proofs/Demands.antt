@@ -14,9 +14,9 @@ use Rattle.sheet.specs.Check.{checkOf}
 use Rattle.sheet.specs.declared.Checked.the-variants as checked
 use Rattle.demands.specs.Decoded.{boundOf}
 use Rattle.demands.specs.Planning as meant
-use Rattle.demands.specs.Planning.{planOf, replayOf, RunEndsFinal, HistoryOfRun, NoneOfAnyLength, NoneInTheBound, RunOf}
+use Rattle.demands.specs.Planning.{planOf, replayOf, RunEndsFinal, HistoryOfRun, NoPlanAtAll, NoPlanWithinBound, NoRunEndsFinal, RunOf}
 use Rattle.demands.specs.Raised.{SameButBound}
-use Rattle.demands.proofs.Demands.{history-accepted, plan-accepted-history, plan-transitions, plan-exactly, thirteen-exactly, fourteen-exactly, plan-stays-plan, thirteen-stays-thirteen}
+use Rattle.demands.proofs.Demands.{history-accepted, plan-accepted-history, plan-transitions, plan-exactly, thirteen-exactly, thirteen-none-ends, fourteen-exactly, plan-stays-plan, thirteen-stays-thirteen}
 use Rattle.planner.specs.Answers.{Stage, refused, searching, withWork, planStage, replayStage, planChecked, replayChecked, planAnswer, planAt, traced, traceAt, workAt, answerOf, traceOf, planWork, reply, replayAt, replyOf, replayWork}
 use Rattle.planner.specs.declared.Planned.{Planned}
 use Rattle.planner.specs.declared.Planned.the-variants as planned
@@ -164,11 +164,15 @@ module _ (s : List ℕ) (w : ℕ) (accepted : checkOf s ≡ checked.Accepted w) 
       number-iff n = Iff·trans (λ e. sym answer-is ∙ e, λ e. answer-is ∙ e) (refused-of (planOf s) n 0)
 
       -- "13 exactly when none does and no run has D + 1"
-      pub thirteen : (answerOf s (length work) (length trace) ≡ planned.Refused 13 0) ↔ NoneOfAnyLength s
+      pub thirteen : (answerOf s (length work) (length trace) ≡ planned.Refused 13 0) ↔ NoPlanAtAll s
       thirteen = Iff·trans (number-iff 13) (thirteen-exactly s (w, accepted))
 
+      -- 13 at every length: no run of any length ends final
+      pub thirteen-at-every-length : answerOf s (length work) (length trace) ≡ planned.Refused 13 0 → NoRunEndsFinal s
+      thirteen-at-every-length e = thirteen-none-ends s (w, accepted) (number-iff 13 .0 e)
+
       -- "14 exactly when none does and some run has D + 1"
-      pub fourteen : (answerOf s (length work) (length trace) ≡ planned.Refused 14 0) ↔ NoneInTheBound s
+      pub fourteen : (answerOf s (length work) (length trace) ≡ planned.Refused 14 0) ↔ NoPlanWithinBound s
       fourteen = Iff·trans (number-iff 14) (fourteen-exactly s (w, accepted))
 
       -- under a number the trace is untouched
