@@ -2,10 +2,10 @@
 -- The runs are those of the paper's Trans and Final (golog, specs/Trans.antt) from a sheet's first configuration; planOf and
 -- replayOf (specs/Planning.antt) are what the calls answer. A sheet is accepted when no cause of 1 to 9 holds of it.
 -- Assumes nothing.
-use mathlib.Core.Path.{_≡_, refl, sym, _∙_, ap, ap₂, subst}
+use mathlib.Core.Path.{_≡_, refl, sym, _∙_, ap, ap₂}
 use mathlib.Core.Bool.{Bool, true, false}
 use mathlib.Core.List.{List}
-use mathlib.Core.Logic.{_↔_, Iff·trans}
+use mathlib.Core.Logic.{_↔_, Iff·trans, Iff·not}
 use mathlib.Core.Option.{Option}
 use Prim.Native.Nat.{ℕ, _≤_}
 use native.Mathlib.Omega.{arith}
@@ -25,7 +25,8 @@ use Rattle.sheet.specs.declared.Checked.{Checked}
 use Rattle.sheet.specs.declared.Checked.the-variants.{Accepted, Refused}
 use Rattle.sheet.proofs.Accepted.{trailed}
 use Rattle.demands.specs.Decoded.{worldOf, firstOf, boundOf}
-use Rattle.demands.specs.Planning.{Goes, Ends, movesIn, finalIn, RunEndsFinal, HistoryOfRun, NoPlanAtAll, NoPlanWithinBound, NoRunEndsFinal, RunOf, verdictOf, acceptsOf, Planned, found, answer, plannedFrom, planOf, Replayed, replied, replayedFrom, replayOf}
+use Rattle.demands.specs.Planning.{Goes, Ends, movesIn, finalIn, RunEndsFinal, HistoryOfRun, NoPlanAtAll, NoPlanWithinBound, NoRunEndsFinal, RunOf}
+use Rattle.demands.specs.Planning.{verdictOf, acceptsOf, Planned, found, answer, plannedFrom, planOf, Replayed, replied, replayedFrom, replayOf}
 use Rattle.demands.specs.Held.{levelsOf}
 use Rattle.demands.specs.Raised.{SameButBound, withBound}
 use Rattle.demands.proofs.Tables.{world-same, first-same}
@@ -59,10 +60,11 @@ answer-more more = (λ e. refl, λ e. refl)
 
 yes-true : (b : Bool) → (replied b ≡ replied true) ↔ T b
 yes-true true = (λ e. tt, λ t. refl)
-yes-true false = (λ e. let z : false ≡ true = cc in no z, λ t. absurd t)
-  where
-    no : false ≡ true → ⊥
-    no z = subst (λ (b : Bool). T b → ⊥) z (λ t. t) tt
+yes-true false = (λ e. let z : _≡_ {A = ℕ} 0 1 = cc in omega arith, λ t. absurd t)
+
+no-false : (b : Bool) → (replied b ≡ replied false) ↔ (¬ T b)
+no-false true = (λ e t. let z : _≡_ {A = ℕ} 0 1 = cc in omega arith, λ f. absurd (f tt))
+no-false false = (λ e t. t, λ f. refl)
 
 module _ (s : List ℕ) (accepted : Accepts s) where
   pub plan-is : planOf s ≡ answer (verdictOf s)
@@ -76,14 +78,22 @@ module _ (s : List ℕ) (accepted : Accepts s) where
   same-answer : (a : Planned) → (planOf s ≡ a) ↔ (answer (verdictOf s) ≡ a)
   same-answer a = (λ e. sym plan-is ∙ e, λ e. plan-is ∙ e)
 
+  same-reply : (h : List ℕ) (a : Replayed) → (replayOf s h ≡ a) ↔ (replied (acceptsOf s h) ≡ a)
+  same-reply h a = (λ e. sym (replay-is h) ∙ e, λ e. replay-is h ∙ e)
+
+  accepts-exactly : (h : List ℕ) → T (acceptsOf s h) ↔ HistoryOfRun s h
+  unfolding acceptsOf
+  accepts-exactly h =
+      let W = worldOf s in
+      accepts-iff (Goes W) (Ends W) (movesIn W) (finalIn W) (listed W) (decided W) (boundOf s) (firstOf s) h
+
   -- "A history is accepted exactly when some run of at most D transitions makes exactly those moves and ends final"
   pub history-accepted : (h : List ℕ) → (replayOf s h ≡ replied true) ↔ HistoryOfRun s h
-  unfolding acceptsOf
-  history-accepted h =
-      let W = worldOf s in
-      Iff·trans (λ e. sym (replay-is h) ∙ e, λ e. replay-is h ∙ e)
-      (Iff·trans (yes-true (acceptsOf s h))
-      (accepts-iff (Goes W) (Ends W) (movesIn W) (finalIn W) (listed W) (decided W) (boundOf s) (firstOf s) h))
+  history-accepted h = Iff·trans (same-reply h (replied true)) (Iff·trans (yes-true (acceptsOf s h)) (accepts-exactly h))
+
+  -- "Replay says yes or no": no exactly when there is no such run
+  pub history-refused : (h : List ℕ) → (replayOf s h ≡ replied false) ↔ (¬ HistoryOfRun s h)
+  history-refused h = Iff·trans (same-reply h (replied false)) (Iff·trans (no-false (acceptsOf s h)) (Iff·not (accepts-exactly h)))
 
   -- "every plan handed out is such a history"
   pub plan-accepted-history : (h : List ℕ) (t : ℕ) → planOf s ≡ found h t → replayOf s h ≡ replied true

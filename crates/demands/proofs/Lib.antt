@@ -1,5 +1,6 @@
 pub mod Formulas
 pub mod Demands
+pub mod Entries
 pub mod Held
 pub mod Notes
 pub mod Raised

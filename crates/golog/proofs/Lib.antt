@@ -3,3 +3,4 @@ pub mod Exact
 pub mod Truths
 pub mod Formulas
 pub mod Moves
+pub mod Acts

@@ -3,7 +3,7 @@
 -- and replayWork (specs/Answers.antt); the theorems here say what those are, in the demands' words. Assumes nothing.
 use mathlib.Core.Path.{_≡_, refl, sym, _∙_, ap}
 use mathlib.Core.Bool.{Bool, true, false}
-use mathlib.Core.List.{List, [], _++_}
+use mathlib.Core.List.{List, [], _++_, List·Memᴰ}
 use mathlib.Core.Logic.{_↔_, Iff·trans}
 use Prim.Native.Nat.{ℕ, _+_, _≤_, _<_}
 use native.Mathlib.Omega.{arith}
@@ -15,8 +15,11 @@ use Rattle.sheet.specs.declared.Checked.the-variants as checked
 use Rattle.demands.specs.Decoded.{boundOf}
 use Rattle.demands.specs.Planning as meant
 use Rattle.demands.specs.Planning.{planOf, replayOf, RunEndsFinal, HistoryOfRun, NoPlanAtAll, NoPlanWithinBound, NoRunEndsFinal, RunOf}
+use Rattle.demands.specs.Entries.{KnownEntry}
 use Rattle.demands.specs.Raised.{SameButBound}
-use Rattle.demands.proofs.Demands.{history-accepted, plan-accepted-history, plan-transitions, plan-exactly, thirteen-exactly, thirteen-none-ends, fourteen-exactly, plan-stays-plan, thirteen-stays-thirteen}
+use Rattle.demands.proofs.Demands.{history-accepted, history-refused, plan-accepted-history, plan-transitions, plan-exactly}
+use Rattle.demands.proofs.Demands.{thirteen-exactly, thirteen-none-ends, fourteen-exactly, plan-stays-plan, thirteen-stays-thirteen}
+use Rattle.demands.proofs.Entries.{unknown-entry-no}
 use Rattle.planner.specs.Answers.{Stage, refused, searching, withWork, planStage, replayStage, planChecked, replayChecked, planAnswer, planAt, traced, traceAt, workAt, answerOf, traceOf, planWork, reply, replayAt, replyOf, replayWork}
 use Rattle.planner.specs.declared.Planned.{Planned}
 use Rattle.planner.specs.declared.Planned.the-variants as planned
@@ -90,14 +93,28 @@ module _ (s : List ℕ) (w : ℕ) (accepted : checkOf s ≡ checked.Accepted w) 
     unfolding replyOf
     reply-is h = ap (λ (c : Stage). replayAt s h c) stage-replay
 
+    reply-iff : (r : meant.Replayed) (b : Bool) → (reply r ≡ reply (meant.replied b)) ↔ (r ≡ meant.replied b)
+    reply-iff (meant.replied true) true = (λ e. refl, λ e. refl)
+    reply-iff (meant.replied true) false = (λ e. cc, λ e. cc)
+    reply-iff (meant.replied false) true = (λ e. cc, λ e. cc)
+    reply-iff (meant.replied false) false = (λ e. refl, λ e. refl)
+    reply-iff (meant.Replayed.refused n p) true = (λ e. cc, λ e. cc)
+    reply-iff (meant.Replayed.refused n p) false = (λ e. cc, λ e. cc)
+
+    same-reply : (h : List ℕ) (b : Bool) → (replyOf s h (length work) ≡ reply (meant.replied b)) ↔ (replayOf s h ≡ meant.replied b)
+    same-reply h b = Iff·trans (λ e. sym (reply-is h) ∙ e, λ e. reply-is h ∙ e) (reply-iff (replayOf s h) b)
+
     -- Demand 2: "A history is accepted exactly when some run of at most D transitions makes exactly those moves and ends final"
     pub yes-exactly : (h : List ℕ) → (replyOf s h (length work) ≡ replayed.Yes) ↔ HistoryOfRun s h
-    yes-exactly h = Iff·trans (Iff·trans (λ e. sym (reply-is h) ∙ e, λ e. reply-is h ∙ e) (yes-iff (replayOf s h))) (history-accepted s (w, accepted) h)
-      where
-        yes-iff : (r : meant.Replayed) → (reply r ≡ replayed.Yes) ↔ (r ≡ meant.replied true)
-        yes-iff (meant.replied true) = (λ e. refl, λ e. refl)
-        yes-iff (meant.replied false) = (λ e. cc, λ e. cc)
-        yes-iff (meant.Replayed.refused n p) = (λ e. cc, λ e. cc)
+    yes-exactly h = Iff·trans (same-reply h true) (history-accepted s (w, accepted) h)
+
+    -- "Replay says yes or no": no exactly when there is no such run
+    pub no-exactly : (h : List ℕ) → (replyOf s h (length work) ≡ replayed.No) ↔ (¬ HistoryOfRun s h)
+    no-exactly h = Iff·trans (same-reply h false) (history-refused s (w, accepted) h)
+
+    -- "an unknown entry means no"
+    pub unknown-no : (h : List ℕ) (e : ℕ) → List·Memᴰ e h → ¬ KnownEntry s e → replyOf s h (length work) ≡ replayed.No
+    unknown-no h e k unknown = reply-is h ∙ ap reply (unknown-entry-no s (w, accepted) h e k unknown)
 
     module _ (trace : List ℕ) (long : boundOf s ≤ length trace) where
       stage-plan : planStage s (length work) (length trace) ≡ searching w

@@ -43,6 +43,19 @@ module _ (ok : ℕ → Bool) where
   unfolding lowest
   all n h j l = from-all n 0 j (omega arith) (omega arith) (omega arith)
 
+  from-fails : (k i : ℕ) → lowestFrom ok i k < i + k → ok (lowestFrom ok i k) ≡ false
+  from-fails zero i h = absurd (omega (arith, from-none i))
+  from-fails (suc k) i h = go (ok i) refl (from-fails k (suc i))
+    where
+      go : (t : Bool) → ok i ≡ t → (lowestFrom ok (suc i) k < suc i + k → ok (lowestFrom ok (suc i) k) ≡ false) → ok (lowestFrom ok i (suc k)) ≡ false
+      go false e next = ap ok (from-false i k e) ∙ e
+      go true e next = ap ok (from-true i k e) ∙ next (omega (arith, from-true i k e))
+
+  -- where the search finds an index, the rule fails there
+  pub fails : (n : ℕ) → lowest ok n < n → ok (lowest ok n) ≡ false
+  unfolding lowest
+  fails n h = from-fails n 0 (omega arith)
+
   pub start : (n : ℕ) → Scan ok n 0
   unfolding lowest
   start n = record { within = omega arith; same = ap (lowestFrom ok 0) (sub-zero n) }

@@ -3,6 +3,7 @@ use mathlib.Core.Path.{_≡_, refl}
 use mathlib.Core.Bool.{Bool, true, false, _&&_, _||_}
 use mathlib.Core.Logic.{_⊎_, inl, inr, ⊎-elim, ⊎-map}
 use Prim.Native.Nat.{ℕ, _+_, _≤_, _<_}
+use native.Mathlib.Omega.{arith}
 use borrow.Author.Tests.{leb-true, ltb-true, eqb-true}
 use lib.Dec.{leb, ltb, eqb}
 use Rattle.rules.specs.Rules.{fluentOk, formulaOk, effectOk, actionOk, programOk}
@@ -94,6 +95,21 @@ pub data ProgramRow (nq na i : ℕ) (r : Program) : Type 0 where
   loop : (r .kind ≡ 5) ⊎ (r .kind ≡ 10) → r .a < i → ProgramRow nq na i r
   choice : r .kind ≡ 6 → r .a < i → r .b < i → r .c < nq → ProgramRow nq na i r
   guarded : (r .kind ≡ 7) ⊎ (r .kind ≡ 11) → r .a < i → r .c < nq → ProgramRow nq na i r
+
+-- an act names an action
+pub act-kept : (nq na i : ℕ) (r : Program) → ProgramRow nq na i r → r .kind ≡ 1 → r .a < na
+act-kept nq na i r (empty e) k = absurd (omega arith)
+act-kept nq na i r (action e l) k = l
+act-kept nq na i r (test e l) k = absurd (omega arith)
+act-kept nq na i r (pair (inl (inl e)) l m) k = absurd (omega arith)
+act-kept nq na i r (pair (inl (inr e)) l m) k = absurd (omega arith)
+act-kept nq na i r (pair (inr (inl e)) l m) k = absurd (omega arith)
+act-kept nq na i r (pair (inr (inr e)) l m) k = absurd (omega arith)
+act-kept nq na i r (loop (inl e) l) k = absurd (omega arith)
+act-kept nq na i r (loop (inr e) l) k = absurd (omega arith)
+act-kept nq na i r (choice e l m c) k = absurd (omega arith)
+act-kept nq na i r (guarded (inl e) l c) k = absurd (omega arith)
+act-kept nq na i r (guarded (inr e) l c) k = absurd (omega arith)
 
 four-of : (k : ℕ) → (eqb k 3 || eqb k 4 || eqb k 8 || eqb k 9) ≡ true → ((k ≡ 3) ⊎ (k ≡ 4)) ⊎ ((k ≡ 8) ⊎ (k ≡ 9))
 four-of k e =

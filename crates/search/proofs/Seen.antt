@@ -13,7 +13,7 @@ use lib.Seq.{length-take-le}
 use Rattle.records.specs.Bytes.{part}
 use Rattle.records.specs.Records.{actionAt}
 use Rattle.records.specs.declared.Program.{Program}
-use Rattle.rules.proofs.Rows.{ProgramRow, empty, action, test, pair, loop, choice, guarded}
+use Rattle.rules.proofs.Rows.{ProgramRow, empty, action, test, pair, loop, choice, guarded, act-kept}
 use Rattle.sheet.specs.Layout.{layoutOf, Fits, effectsIn, actionsIn}
 use Rattle.sheet.specs.Check.{Accepts}
 use Rattle.sheet.specs.declared.Layout.{Layout}
@@ -101,18 +101,7 @@ module _ (s : List ℕ) (accepted : Accepts s) where
         (λ i l. seen i (recordsOf s i) (program-of s accepted i l))
 
   act-known : (i : ℕ) (r : Program) → ProgramRow (layoutOf s .q) (layoutOf s .a) i r → r .kind ≡ 1 → Action s (r .a)
-  act-known i r (empty e) k = absurd (omega arith)
-  act-known i r (action e l) k = let b = fits .a in (omega arith, λ h. l)
-  act-known i r (test e l) k = absurd (omega arith)
-  act-known i r (pair (inl (inl e)) l m) k = absurd (omega arith)
-  act-known i r (pair (inl (inr e)) l m) k = absurd (omega arith)
-  act-known i r (pair (inr (inl e)) l m) k = absurd (omega arith)
-  act-known i r (pair (inr (inr e)) l m) k = absurd (omega arith)
-  act-known i r (loop (inl e) l) k = absurd (omega arith)
-  act-known i r (loop (inr e) l) k = absurd (omega arith)
-  act-known i r (choice e l m c) k = absurd (omega arith)
-  act-known i r (guarded (inl e) l c) k = absurd (omega arith)
-  act-known i r (guarded (inr e) l c) k = absurd (omega arith)
+  act-known i r row k = let l = act-kept _ _ i r row k in let b = fits .a in (omega arith, λ h. l)
 
   virtual-known : (b : Bool) (n k : ℕ) → getD (virtual b n) k nothing-there .kind ≡ 1 → Action s (getD (virtual b n) k nothing-there .a)
   virtual-known true n zero e = (omega arith, λ h. absurd (omega arith))
