@@ -1,11 +1,63 @@
 //! The verified planner behind safe functions: one for each function of include/planner.h.
 //!
-//! An answer is handed on as the library gives it, number, place and results, so that a comparison sees all of it.
+//! An answer is handed on as the library gives it, number, place and results, so that a comparison sees all of it. The
+//! model is not named here, and [`Refusal`] is not the model's: the two sides of a comparison share nothing.
+//!
+//! ```
+//! /// The moves of a plan.
+//! fn moves(sheet: &[u8]) -> Result<Vec<u16>, library::Refusal> {
+//!     let [words] = library::check(sheet).into_result()?;
+//!     let (mut work, mut trace) = (vec![0; words], vec![0; 64]);
+//!     let [n, _] = library::plan(sheet, &mut work, &mut trace).into_result()?;
+//!     trace.truncate(n);
+//!     Ok(trace)
+//! }
+//!
+//! let refusal = moves(b"not a sheet").unwrap_err();
+//! assert_eq!(refusal.to_string(), "refused 1 0: under 18 bytes, or last two bytes wrong");
+//! ```
 
-use model::planner::Plan;
-use model::sheet::Refusal;
+use std::error::Error;
+use std::fmt;
 
-/// Number and place of document 01, and the other results; those a call leaves unwritten keep [`UNWRITTEN`].
+/// A number of document 01 with its place.
+#[derive(Clone, Copy, Debug, PartialEq, Eq)]
+pub struct Refusal {
+    pub number: u32,
+    pub place: usize,
+}
+
+/// The causes of 1 to 14, in the words of document 01.
+const CAUSES: [&str; 14] = [
+    "under 18 bytes, or last two bytes wrong",
+    "a count, or D, outside its limits",
+    "distance not the sum, or more than the bytes before the trailer",
+    "a fluent record breaks its rule",
+    "a formula record breaks its rule or has an unknown kind",
+    "an effect record breaks its rule",
+    "an action record breaks its rule",
+    "a program record breaks its rule or has an unknown kind",
+    "height above 16",
+    "trace shorter than D",
+    "work shorter than required",
+    "lookup of a fluent not below F",
+    "no run of at most D transitions ends final, and no run has D + 1",
+    "no run of at most D transitions ends final, but some run has D + 1",
+];
+
+impl fmt::Display for Refusal {
+    fn fmt(&self, f: &mut fmt::Formatter) -> fmt::Result {
+        let Refusal { number, place } = *self;
+        let cause =
+            (number as usize).checked_sub(1).and_then(|at| CAUSES.get(at)).unwrap_or(&"no number of document 01");
+        write!(f, "refused {number} {place}: {cause}")
+    }
+}
+
+impl Error for Refusal {}
+
+/// Number (0 where there is none) and place of document 01, and the other results; those a call leaves unwritten keep
+/// [`UNWRITTEN`].
 #[derive(Clone, Copy, Debug, PartialEq, Eq)]
 pub struct Answer<const N: usize> {
     pub number: u32,
@@ -16,13 +68,12 @@ pub struct Answer<const N: usize> {
 /// What the places for results hold before a call.
 pub const UNWRITTEN: usize = 0xa5a5_a5a5;
 
-impl Answer<2> {
-    /// Planning's answer in the model's form, with the trace that it left.
-    pub fn plan(&self, trace: &[u16]) -> Result<Plan, Refusal> {
-        let [n, t] = self.results;
+impl<const N: usize> Answer<N> {
+    /// The results, unless there is a number.
+    pub fn into_result(self) -> Result<[usize; N], Refusal> {
         match self.number {
-            0 => Ok(Plan { history: trace[..n].to_vec(), transitions: t }),
-            number => Err(Refusal { number: number.try_into().expect("1 to 14"), place: self.place }),
+            0 => Ok(self.results),
+            number => Err(Refusal { number, place: self.place }),
         }
     }
 }

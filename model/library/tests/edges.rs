@@ -1,26 +1,23 @@
-//! Document 01's edges of the lent areas, on case 3: "272 words give 11, trace of 1 gives 10, both give 10".
+//! Document 01's edges of the lent areas, on case 3: "272 words give 11, trace of 1 gives 10, both give 10". What a
+//! refusal says in words.
 
-use library::{check, plan, replay, Answer};
+use library::{check, plan, replay, Answer, Refusal};
+use sheets::cases::{three_sections, CASE_3};
 
-const CASE_3: [u8; 98] = [
-    3, 1, 3, 0, // fluents
-    2, 1, 0, 0, 0, 0, 2, 0, 0, 0, 0, 0, 6, 0, 0, 0, 1, 0, 0, 0, 0, 0, 0, 0, // formulas
-    3, 0, 0, 0, 3, 0, 1, 2, // effects
-    0, 0, 0, 0, 1, 0, 2, 0, 1, 0, 1, 0, // actions
-    1, 0, 0, 0, 0, 0, 0, 0, 5, 0, 0, 0, 0, 0, 0, 0, 1, 0, 1, 0, 0, 0, 0, 0, 3, 0, 1, 0, 2, 0, 0, 0, // program
-    0x02, 0x00, 0x04, 0x00, 0x02, 0x00, 0x02, 0x00, 0x04, 0x00, 0x02, 0x00, 0x50, 0x00, 0x00, 0x00, 0x42, 0x51,
-];
+fn case_3() -> Vec<u8> {
+    three_sections(&CASE_3, 2).bytes()
+}
 
 /// Plans in areas of these lengths that hold ones: the answer, the trace and the work area.
 fn planned(words: usize, entries: usize) -> (Answer<2>, Vec<u16>, Vec<u32>) {
     let (mut work, mut trace) = (vec![1; words], vec![1; entries]);
-    let answer = plan(&CASE_3, &mut work, &mut trace);
+    let answer = plan(&case_3(), &mut work, &mut trace);
     (answer, trace, work)
 }
 
 #[test]
 fn figure() {
-    assert_eq!(check(&CASE_3), Answer { number: 0, place: 0, results: [273] });
+    assert_eq!(check(&case_3()), Answer { number: 0, place: 0, results: [273] });
 }
 
 #[test]
@@ -48,9 +45,25 @@ fn short_areas_stay_untouched() {
 #[test]
 fn replay_needs_the_same_words() {
     let mut work = vec![1; 272];
-    assert_eq!(replay(&CASE_3, &[0, 1], &mut work), Answer { number: 11, place: 0, results: [0] });
+    assert_eq!(replay(&case_3(), &[0, 1], &mut work), Answer { number: 11, place: 0, results: [0] });
     assert!(work.iter().all(|&word| word == 1));
     let mut work = vec![1; 274];
-    assert_eq!(replay(&CASE_3, &[0, 1], &mut work), Answer { number: 0, place: 0, results: [1] });
+    assert_eq!(replay(&case_3(), &[0, 1], &mut work), Answer { number: 0, place: 0, results: [1] });
     assert!(work[..273].iter().all(|&word| word == 0) && work[273] == 1);
+}
+
+#[test]
+fn a_number_is_an_error() {
+    let (answer, ..) = planned(273, 2);
+    assert_eq!(answer.into_result(), Ok([2, 2]));
+    let (answer, ..) = planned(272, 2);
+    assert_eq!(answer.into_result(), Err(Refusal { number: 11, place: 0 }));
+}
+
+#[test]
+fn library_and_model_have_the_same_words() {
+    for number in 0..=15 {
+        let model = model::refusal::Refusal { number, place: 3 };
+        assert_eq!(Refusal { number: number.into(), place: 3 }.to_string(), model.to_string());
+    }
 }

@@ -2,11 +2,15 @@
 //! `cargo run --release --package library --bin bench`. Both take a sheet's bytes, check them and plan. They follow the
 //! same transitions in the same order, and every sheet ends in 14, so that all of the search is made.
 
+#![forbid(unsafe_code)]
+
 use library::Answer;
-use model::planner::{explore, Plan};
-use model::sheet::{check, Formula, Program, Refusal};
-use model::source::*;
-use model::write::Records;
+use model::planner::{self, Plan};
+use model::refusal::Refusal;
+use model::sheet::{check, Formula, Program};
+use sheets::runs;
+use sheets::source::*;
+use sheets::write::Records;
 use std::hint::black_box;
 use std::time::{Duration, Instant};
 
@@ -157,25 +161,22 @@ struct Measured<T> {
     time: Duration,
 }
 
-/// The model's answer, and the transitions that it followed.
-type Explored = (Result<Plan, Refusal>, usize);
-
 /// Calls the two in turn until the time is up. Filling the library's areas with garbage is not timed.
-fn measure(bytes: &[u8], words: usize, bound: usize) -> (Measured<Answer<2>>, Vec<u16>, Measured<Explored>) {
+fn measure(bytes: &[u8], words: usize, bound: usize) -> (Measured<Answer<2>>, Measured<Result<Plan, Refusal>>) {
     let (mut work, mut trace) = (vec![0; words], vec![0; bound]);
     let mut library = || {
         work.fill(0xa5a5_a5a5);
         trace.fill(0xa5a5);
         timed(|| library::plan(black_box(bytes), &mut work, &mut trace))
     };
-    let model = || timed(|| explore(&check(black_box(bytes)).expect("the sheet is accepted")));
+    let model = || timed(|| planner::plan(&check(black_box(bytes)).expect("the sheet is accepted")));
     let begun = Instant::now();
     let (mut by_library, mut by_model) = (library(), model());
     while begun.elapsed() < TIME {
         by_library.time = by_library.time.min(library().time);
         by_model.time = by_model.time.min(model().time);
     }
-    (by_library, trace, by_model)
+    (by_library, by_model)
 }
 
 fn timed<T>(call: impl FnOnce() -> T) -> Measured<T> {
@@ -197,10 +198,10 @@ fn main() {
         let mut first = None;
         for (size, bytes) in sheets {
             let sheet = check(&bytes).expect("the sheet is accepted");
-            let (library, trace, model) = measure(&bytes, sheet.work(), sheet.bound);
-            let (expected, followed) = model.answer;
-            assert_eq!(library.answer.plan(&trace), expected, "{name}, {size}");
-            let verdict = expected.map_or_else(|refusal| refusal.number.to_string(), |_| "plan".to_string());
+            let followed = runs::count(&sheet, sheet.bound, usize::MAX).expect("no limit is set") - 1;
+            let (library, model) = measure(&bytes, sheet.work(), sheet.bound);
+            let verdict = library.answer.number;
+            assert_eq!((verdict, model.answer), (14, Err(Refusal::number(14))), "{name}, {size}");
             let [ms, model_ms] = [library.time, model.time].map(|time| time.as_secs_f64() * 1e3);
             let one = ms * 1e6 / followed as f64;
             let growth = one / *first.get_or_insert(one);

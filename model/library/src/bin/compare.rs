@@ -5,18 +5,20 @@
 //! longer, one short, both short, empty. A plan is judged by the model's layers, and is also the first in listed order.
 //! The first disagreement ends the program with status 1 and the sheet in hex.
 
+#![forbid(unsafe_code)]
+
 use library::Answer;
-use model::examples::examples;
-use model::planner::{self, depth_first, judge, verdict, Plan};
-use model::program;
-use model::random::{accepted, damaged, large, near_miss, run, searchable, unknown, Random};
-use model::sheet::{self, Refusal, Sheet};
+use model::planner::{self, judge, verdict, Plan};
+use model::refusal::Refusal;
+use model::sheet::{self, Sheet};
+use sheets::examples::examples;
+use sheets::random::{accepted, damaged, large, near_miss, run, searchable, unknown, Random};
+use sheets::runs;
+use std::env;
 use std::fmt::Debug;
 use std::hint::black_box;
 use std::ops::Range;
-use std::path::Path;
 use std::process::ExitCode;
-use std::{env, fs};
 
 /// Sheets, unless COUNT says otherwise: about two minutes.
 const COUNT: usize = 120_000;
@@ -237,7 +239,7 @@ impl Compare {
             self.short(&given, lengths)?;
         }
 
-        let found = depth_first(sheet);
+        let found = planner::plan(sheet);
         let (words, entries) = (sheet.work(), sheet.bound);
         let longer = [words, entries].map(|length| length + self.random.between(1, 40));
         self.plan(&given, &found, words, entries)?;
@@ -269,8 +271,8 @@ impl Compare {
     /// A sheet with large tables; it is planned only if its search ends soon.
     fn large(&mut self, bytes: &[u8]) -> Outcome {
         self.counts.large += 1;
-        let sheet = sheet::check(bytes).map_err(|refusal| format!("the model refuses a large sheet: {refusal:?}"))?;
-        if planner::runs(&sheet, MOST_RUNS).is_some() {
+        let sheet = sheet::check(bytes).map_err(|refusal| format!("the model says of a large sheet: {refusal}"))?;
+        if runs::few(&sheet, MOST_RUNS) {
             return self.searched(bytes, &sheet);
         }
         let given = self.given(bytes);
@@ -291,17 +293,6 @@ impl Compare {
         self.plan(&given, &none, 0, 0)?;
         self.replay(&given, &[0], words)?;
         self.replay(&given, &[], 0)
-    }
-
-    /// What the program prints for an example by the library, against the file in examples/.
-    fn example(&mut self, name: &str, bytes: &[u8]) -> Outcome {
-        let (mut work, mut trace) = ([0; program::WORK], [0; program::TRACE]);
-        let plan = library::plan(bytes, &mut work, &mut trace).plan(&trace);
-        let file = Path::new(env!("CARGO_MANIFEST_DIR")).join("../../examples").join(name).with_extension("expected");
-        let expected = fs::read_to_string(&file).map_err(|error| format!("{}: {error}", file.display()))?;
-        same(name, expected, program::lines(&plan))?;
-        let sheet = sheet::check(bytes).map_err(|refusal| format!("{name}: the model refuses it: {refusal:?}"))?;
-        self.searched(bytes, &sheet)
     }
 
     /// Random sheets, then the examples; a disagreement comes with its sheet.
@@ -329,7 +320,9 @@ impl Compare {
             self.counts.sheets += 1;
         }
         for example in examples() {
-            self.example(example.name, &example.sheet).map_err(|what| (what, example.sheet))?;
+            let sheet = sheet::check(&example.sheet).expect("the examples keep every rule");
+            self.searched(&example.sheet, &sheet)
+                .map_err(|what| (format!("{}: {what}", example.name), example.sheet))?;
             self.counts.examples += 1;
         }
         Ok(())

@@ -1,12 +1,14 @@
 //! That `compare` catches wrong models: breaks a copy of the model, one construct at a time, and counts the sheets until
 //! the comparison with the library ends in a disagreement, for three seeds each. The edits add runs, since the library
-//! searches sheets that have few runs by the broken model's count.
+//! searches sheets that have few runs by the broken model's count. The test sees that each edit still applies.
+
+#![forbid(unsafe_code)]
 
 use std::path::{Path, PathBuf};
 use std::process::{exit, Command};
 use std::{env, fs, io};
 
-/// What is broken, a text that occurs once in src/meaning.rs, and what takes its place.
+/// What is broken, a text that occurs once in the model's sources, and what takes its place.
 struct Edit(&'static str, &'static str, &'static str);
 
 #[rustfmt::skip]
@@ -52,11 +54,19 @@ const EDITS: [Edit; 13] = [
         "!self.state.interrupts || !self.holds(*c) || self.is_final(a)"),
 ];
 
+fn repository() -> PathBuf {
+    Path::new(env!("CARGO_MANIFEST_DIR")).join("../..")
+}
+
+fn archive() -> PathBuf {
+    env::var_os("PLANNER_LIB_DIR").map_or(repository().join("target/staticlib"), PathBuf::from)
+}
+
 fn copy(from: &Path, to: &Path) -> io::Result<()> {
     if from.is_file() {
+        fs::create_dir_all(to.parent().expect("a file is in a folder"))?;
         return fs::copy(from, to).map(|_| ());
     }
-    fs::create_dir_all(to)?;
     for entry in fs::read_dir(from)? {
         let entry = entry?;
         copy(&entry.path(), &to.join(entry.file_name()))?;
@@ -64,34 +74,57 @@ fn copy(from: &Path, to: &Path) -> io::Result<()> {
     Ok(())
 }
 
-/// The copy with one edit made, and the comparison built over it.
-fn build(repository: &Path, copied: &Path, archive: &Path, Edit(what, old, new): &Edit) -> io::Result<PathBuf> {
-    let (model, broken) = (repository.join("model"), copied.join("model"));
-    for part in ["Cargo.toml", "Cargo.lock", "src", "library"] {
-        fs::create_dir_all(&broken)?;
-        copy(&model.join(part), &broken.join(part))?;
-    }
-    copy(&repository.join("examples"), &copied.join("examples"))?;
+/// A copy of the three packages, in a folder of its own, whose model can be broken.
+struct Copied {
+    workspace: PathBuf,
+    target: PathBuf,
+}
 
-    let file = broken.join("src/meaning.rs");
-    let text = fs::read_to_string(&file)?;
-    if text.matches(*old).count() != 1 {
-        return Err(io::Error::other(format!("not once in src/meaning.rs: {old}")));
+impl Copied {
+    fn new(name: &str) -> io::Result<Self> {
+        let folder = repository().join("model/target").join(name);
+        let copied = Copied { workspace: folder.join("model"), target: folder.join("target") };
+        if copied.workspace.exists() {
+            fs::remove_dir_all(&copied.workspace)?;
+        }
+        for part in ["model/Cargo.toml", "model/Cargo.lock", "model/model", "model/sheets", "model/library", "examples"]
+        {
+            copy(&repository().join(part), &folder.join(part))?;
+        }
+        Ok(copied)
     }
-    fs::write(&file, text.replace(*old, new))?;
 
-    let target = copied.join("target");
-    let built = Command::new(env::var_os("CARGO").unwrap_or("cargo".into()))
-        .args(["build", "--quiet", "--release", "--package", "library", "--bin", "compare"])
-        .current_dir(&broken)
-        .env("CARGO_TARGET_DIR", &target)
-        .env("PLANNER_LIB_DIR", archive)
-        .env("RUSTFLAGS", "--allow warnings")
-        .status()?;
-    if !built.success() {
-        return Err(io::Error::other(format!("no build with: {what}")));
+    /// Runs cargo on the copy with the edit made, and takes the edit back.
+    fn cargo(&self, arguments: &[&str], Edit(what, old, new): &Edit) -> io::Result<()> {
+        let (file, text) = self.source(old)?;
+        fs::write(&file, text.replace(old, new))?;
+        let status = Command::new(env::var_os("CARGO").unwrap_or("cargo".into()))
+            .args(arguments)
+            .current_dir(&self.workspace)
+            .env("CARGO_TARGET_DIR", &self.target)
+            .env("PLANNER_LIB_DIR", fs::canonicalize(archive())?)
+            .env("RUSTFLAGS", "--allow warnings")
+            .status()?;
+        fs::write(&file, text)?;
+        if !status.success() {
+            return Err(io::Error::other(format!("it does not compile: {what}")));
+        }
+        Ok(())
     }
-    Ok(target.join("release/compare"))
+
+    /// The one source of the model that has this text, once.
+    fn source(&self, old: &str) -> io::Result<(PathBuf, String)> {
+        let mut found = vec![];
+        for file in fs::read_dir(self.workspace.join("model/src"))? {
+            let file = file?.path();
+            let text = fs::read_to_string(&file)?;
+            found.extend(text.matches(old).map(|_| (file.clone(), text.clone())));
+        }
+        if found.len() != 1 {
+            return Err(io::Error::other(format!("{} times in the model's sources: {old}", found.len())));
+        }
+        Ok(found.remove(0))
+    }
 }
 
 /// The sheets that agree before the first disagreement, or none where all agree.
@@ -109,17 +142,14 @@ fn caught(compare: &Path, seed: usize) -> io::Result<Option<usize>> {
 }
 
 fn run() -> io::Result<bool> {
-    let repository = Path::new(env!("CARGO_MANIFEST_DIR")).join("../..");
-    let archive = env::var_os("PLANNER_LIB_DIR").map_or(repository.join("target/staticlib"), PathBuf::from);
-    let archive = fs::canonicalize(archive)?;
-    let copied = repository.join("model/target/wrong-models");
+    let copied = Copied::new("wrong-models")?;
     println!("sheets that agree before the wrong model is caught, for seeds 1, 2, 3");
     let mut all = true;
     for edit in &EDITS {
-        let compare = build(&repository, &copied, &archive, edit)?;
+        copied.cargo(&["build", "--quiet", "--release", "--package", "library", "--bin", "compare"], edit)?;
         let mut counts = String::new();
         for seed in 1..=3 {
-            let sheets = caught(&compare, seed)?;
+            let sheets = caught(&copied.target.join("release/compare"), seed)?;
             all &= sheets.is_some();
             counts += &sheets.map_or("   never".to_string(), |sheets| format!("{sheets:8}"));
         }
@@ -137,4 +167,12 @@ fn main() {
             exit(2);
         }
     }
+}
+
+#[test]
+fn every_edit_applies_and_compiles() {
+    let copied = Copied::new("wrong-models-test").expect("a copy");
+    let wrong = EDITS.map(|edit| copied.cargo(&["check", "--quiet", "--package", "model"], &edit).err());
+    let wrong: Vec<String> = wrong.iter().flatten().map(|error| error.to_string()).collect();
+    assert!(wrong.is_empty(), "{}", wrong.join("\n"));
 }

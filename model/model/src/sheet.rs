@@ -1,20 +1,7 @@
 //! "The sheet, read from its end" and numbers 1 to 9 and 12 of "Who can cause which number".
 
+use crate::refusal::Refusal;
 use std::ops::Range;
-
-/// A number of document 01 with its place.
-#[derive(Clone, Copy, Debug, PartialEq, Eq, PartialOrd, Ord)]
-pub struct Refusal {
-    pub number: u8,
-    pub place: usize,
-}
-
-impl Refusal {
-    /// A number whose place is 0.
-    pub const fn number(number: u8) -> Self {
-        Refusal { number, place: 0 }
-    }
-}
 
 /// Fluent: domain size 1 to 16, initial value below it.
 #[derive(Clone, Copy, Debug, PartialEq, Eq)]

@@ -1,12 +1,13 @@
 //! The thin program of "Who can cause which number": a sheet from standard input, and what it prints.
 
-use crate::planner::{depth_first, lent, Plan};
-use crate::sheet::{check, Refusal};
+use crate::planner::{self, lent, Plan};
+use crate::refusal::Refusal;
+use crate::sheet::check;
 
 /// What the program lends to planning, and the most that it reads.
-pub const WORK: usize = 16_384;
-pub const TRACE: usize = 64;
-pub const MOST_BYTES: usize = 16_384;
+const WORK: usize = 16_384;
+const TRACE: usize = 64;
+const MOST_BYTES: usize = 16_384;
 
 /// What it prints for this input.
 pub fn printed(input: &[u8]) -> String {
@@ -19,11 +20,11 @@ pub fn printed(input: &[u8]) -> String {
 fn plan(bytes: &[u8]) -> Result<Plan, Refusal> {
     let sheet = check(bytes)?;
     lent(&sheet, Some(TRACE), WORK)?;
-    depth_first(&sheet)
+    planner::plan(&sheet)
 }
 
 /// `refused`, number, place; or `found`, n, t, then one entry a line.
-pub fn lines(answer: &Result<Plan, Refusal>) -> String {
+fn lines(answer: &Result<Plan, Refusal>) -> String {
     match answer {
         Ok(plan) => {
             let first = format!("found {} {}\n", plan.history.len(), plan.transitions);

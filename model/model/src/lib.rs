@@ -5,14 +5,13 @@
 //! is decoded into plain records, a program is a tree, and a verdict is read off the sets of configurations that
 //! can be reached in exactly 0, 1, 2, .. transitions.
 //!
-//! Nothing here links to the verified library: the package `library` does, and takes its sheets and histories from
-//! [`random`] and [`examples`] and the model's answers from [`sheet`] and [`planner`].
+//! What need not be believed stands elsewhere: sheets to try it with in the package `sheets`, the verified library
+//! and its comparison with this model in `library`.
 
-pub mod examples;
+#![forbid(unsafe_code)]
+
 pub mod meaning;
 pub mod planner;
 pub mod program;
-pub mod random;
+pub mod refusal;
 pub mod sheet;
-pub mod source;
-pub mod write;

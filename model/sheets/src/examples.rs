@@ -1,23 +1,23 @@
 //! The examples: sheets for a reader to try, each small enough for the program `plan`.
 
+use crate::cases::Case;
 use crate::source::*;
 
-/// A sheet with its name, under which examples/ keeps what the program prints for it.
-pub struct Example {
-    pub name: &'static str,
-    pub sheet: Vec<u8>,
-}
-
-pub fn examples() -> Vec<Example> {
-    let example = |name, sheet| Example { name, sheet };
+/// Each with what examples/ keeps for it.
+pub fn examples() -> Vec<Case> {
+    macro_rules! example {
+        ($name:literal, $sheet:expr) => {
+            Case::new($name, $sheet, include_str!(concat!("../../../examples/", $name, ".expected")))
+        };
+    }
     vec![
-        example("three-sections", three_sections()),
-        example("berth", berth(3)),
-        example("berth-too-soon", berth(2)),
-        example("priorities", priority()),
-        example("interrupts", interrupts()),
-        example("table", table()),
-        example("elevator", elevator()),
+        example!("three-sections", three_sections()),
+        example!("berth", berth(3)),
+        example!("berth-too-soon", berth(2)),
+        example!("priorities", priority()),
+        example!("interrupts", interrupts()),
+        example!("table", table()),
+        example!("elevator", elevator()),
     ]
 }
 

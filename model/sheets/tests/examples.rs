@@ -1,16 +1,12 @@
 //! The examples: the builder's sheets, and what the program prints for them.
 
-use model::examples::examples;
 use model::program::printed;
 use model::sheet::check;
+use sheets::examples::examples;
 use std::collections::BTreeSet;
-use std::path::{Path, PathBuf};
+use std::fs;
+use std::path::Path;
 use std::process::Command;
-use std::{env, fs};
-
-fn expected() -> PathBuf {
-    Path::new(env!("CARGO_MANIFEST_DIR")).join("../examples")
-}
 
 /// The names of the files with this ending.
 fn names(folder: &Path, ending: &str) -> BTreeSet<String> {
@@ -21,14 +17,21 @@ fn names(folder: &Path, ending: &str) -> BTreeSet<String> {
 
 #[test]
 fn every_sheet_gives_what_its_file_says() {
+    for example in examples() {
+        assert_eq!(printed(&example.sheet), example.printed, "{}", example.name);
+    }
+}
+
+#[test]
+fn every_file_has_its_sheet() {
     let folder = Path::new(env!("CARGO_TARGET_TMPDIR")).join("examples");
     let built = Command::new(env!("CARGO_BIN_EXE_build_examples")).arg(&folder).status();
     assert!(built.expect("the builder runs").success());
-    assert_eq!(names(&folder, "sheet"), names(&expected(), "expected"));
-    for name in names(&folder, "sheet") {
-        let sheet = fs::read(folder.join(&name).with_extension("sheet")).expect("a sheet");
-        let says = fs::read_to_string(expected().join(&name).with_extension("expected")).expect("a text");
-        assert_eq!(printed(&sheet), says, "{name}");
+    let expected = Path::new(env!("CARGO_MANIFEST_DIR")).join("../../examples");
+    assert_eq!(names(&folder, "sheet"), names(&expected, "expected"));
+    for example in examples() {
+        let sheet = fs::read(folder.join(&example.name).with_extension("sheet")).expect("a sheet");
+        assert!(sheet == example.sheet, "{}", example.name);
     }
 }
 

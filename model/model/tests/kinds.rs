@@ -3,7 +3,7 @@
 use model::meaning::Prog::*;
 use model::meaning::{Moment, Prog, State};
 use model::sheet::{check, Formula, Program, Sheet};
-use model::write::Records;
+use sheets::write::Records;
 use std::rc::Rc;
 
 const YES: usize = 0;

@@ -1,7 +1,7 @@
 //! A writer of sheets: records as they lie in the five tables, the bound and the notes, turned into bytes. It applies
 //! no rule, so that faulty sheets can be written too.
 
-use crate::sheet::{Formula, Program};
+use model::sheet::{Formula, Program};
 
 /// The fields of every record, in the order of their bytes.
 #[derive(Clone, Debug, Default, PartialEq, Eq)]

@@ -1,8 +1,9 @@
 //! Verdicts, replay and plans: "Work area" and numbers 10, 11, 13 and 14 of "Who can cause which number".
 
 use crate::meaning::{Configuration, Moment};
-use crate::sheet::{Refusal, Sheet};
-use std::collections::{HashMap, HashSet};
+use crate::refusal::Refusal;
+use crate::sheet::Sheet;
+use std::collections::HashSet;
 use std::ops::ControlFlow::{self, Break, Continue};
 
 /// Numbers 10 and 11: the entries of trace (none for replay) and the words of work that the caller lends.
@@ -72,27 +73,20 @@ pub struct Plan {
     pub transitions: usize,
 }
 
-/// The first plan, depth first in listed order, to at most D transitions and with no memory of configurations.
-pub fn depth_first(sheet: &Sheet) -> Result<Plan, Refusal> {
-    explore(sheet).0
-}
-
-/// The same, and the number of transitions that were followed on the way.
-pub fn explore(sheet: &Sheet) -> (Result<Plan, Refusal>, usize) {
-    let mut search = DepthFirst { sheet, history: vec![], followed: 0, longer: false };
-    let answer = match search.from(&Configuration::first(sheet), 0) {
+/// Planning. Which plan comes out is left open (any that [`judge`] accepts will do); here it is the first, depth first in
+/// listed order, to at most D transitions and with no memory of configurations.
+pub fn plan(sheet: &Sheet) -> Result<Plan, Refusal> {
+    let mut search = DepthFirst { sheet, history: vec![], longer: false };
+    match search.from(&Configuration::first(sheet), 0) {
         Break(transitions) => Ok(Plan { history: search.history, transitions }),
         Continue(()) => Err(Refusal::number(if search.longer { 14 } else { 13 })),
-    };
-    (answer, search.followed)
+    }
 }
 
 struct DepthFirst<'a> {
     sheet: &'a Sheet,
     /// The entries on the way to the configuration that is explored.
     history: Vec<u16>,
-    /// The transitions followed so far.
-    followed: usize,
     /// Whether a run of D + 1 transitions was seen.
     longer: bool,
 }
@@ -112,37 +106,9 @@ impl DepthFirst<'_> {
         moment.each(&configuration.program, &mut |step| {
             let entries = self.history.len();
             self.history.extend(step.entry);
-            self.followed += 1;
             self.from(&step.to, made + 1)?;
             self.history.truncate(entries);
             Continue(())
         })
     }
-}
-
-/// The number of runs of at most D + 1 transitions, each transition counted as often as it is listed, or none where
-/// it is above `limit`. No depth-first search follows more transitions than this.
-pub fn runs(sheet: &Sheet, limit: usize) -> Option<usize> {
-    let mut total = 1;
-    let mut layer = HashMap::from([(Configuration::first(sheet), 1)]);
-    for _ in 0..=sheet.bound {
-        let mut next = HashMap::new();
-        for (configuration, count) in layer {
-            let moment = Moment::new(sheet, configuration.state);
-            let counted = moment.each(&configuration.program, &mut |step| {
-                *next.entry(step.to).or_insert(0) += count;
-                total += count;
-                if total > limit {
-                    Break(())
-                } else {
-                    Continue(())
-                }
-            });
-            if counted.is_break() {
-                return None;
-            }
-        }
-        layer = next;
-    }
-    Some(total)
 }

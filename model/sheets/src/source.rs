@@ -1,8 +1,8 @@
 //! Sheets from readable sources: conditions and programs are written as trees, fluents and actions by name. Equal
 //! records are written once, and the names go into the notes.
 
-use crate::sheet;
 use crate::write::Records;
+use model::sheet;
 use std::ops::{BitAnd, BitOr, Not};
 use std::rc::Rc;
 

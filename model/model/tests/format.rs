@@ -1,8 +1,9 @@
 //! "The sheet, read from its end" and numbers 1 to 9 and 12.
 
-use model::random::{large, Random};
-use model::sheet::{check, look_up, Fluent, Formula, Program, Refusal, Sheet};
-use model::write::Records;
+use model::refusal::Refusal;
+use model::sheet::{check, look_up, Fluent, Formula, Program, Sheet};
+use sheets::write::Records;
+use std::collections::BTreeSet;
 
 /// Three fluents of sizes 3, 16 and 1, three formulas, two effects, two actions, and five program records: nil three
 /// times, the two others free for a test to replace.
@@ -295,28 +296,11 @@ fn lookup_of_one_fluent() {
 }
 
 #[test]
-fn what_is_read_can_be_written_again() {
-    let mut random = Random::new(1);
-    for _ in 0..200 {
-        let records = large(&mut random);
-        let sheet = check(&records.bytes()).expect("the generator keeps every rule");
-        assert!(sheet.height() <= 16);
-        let mut again = Records { bound: records.bound, notes: records.notes.clone(), ..Records::default() };
-        for fluent in &sheet.fluents {
-            again.fluent(fluent.size, fluent.initial);
-        }
-        for formula in &sheet.formulas {
-            again.formula(*formula);
-        }
-        for effect in &sheet.effects {
-            again.effect(effect.condition, effect.fluent, effect.value);
-        }
-        for action in &sheet.actions {
-            again.action(action.precondition, action.effects.start, action.effects.len());
-        }
-        for program in &sheet.programs {
-            again.program(*program);
-        }
-        assert_eq!(again, records);
-    }
+fn a_refusal_in_words() {
+    let mut records = base();
+    records.formulas[2].0[0] = 8;
+    let refusal: Box<dyn std::error::Error> = Box::new(check(&records.bytes()).expect_err("formula 2 is faulty"));
+    assert_eq!(refusal.to_string(), "refused 5 2: a formula record breaks its rule or has an unknown kind");
+    let causes: BTreeSet<&str> = (0..=15).map(|number| Refusal::number(number).cause()).collect();
+    assert_eq!(causes.len(), 15, "14 numbers, and one cause for what is no number");
 }

@@ -1,7 +1,9 @@
 //! Writes the examples' sheets into a folder: `cargo run --bin build_examples -- FOLDER`.
 
-use model::examples::examples;
-use std::path::Path;
+#![forbid(unsafe_code)]
+
+use sheets::examples::examples;
+use std::path::{Path, PathBuf};
 use std::process::ExitCode;
 use std::{env, fs, io};
 
@@ -14,11 +16,11 @@ fn write(folder: &Path) -> io::Result<()> {
 }
 
 fn main() -> ExitCode {
-    let Some(folder) = env::args_os().nth(1) else {
+    let Some(folder) = env::args_os().nth(1).map(PathBuf::from) else {
         eprintln!("usage: build_examples FOLDER");
         return ExitCode::from(2);
     };
-    match write(folder.as_ref()) {
+    match write(&folder) {
         Ok(()) => ExitCode::SUCCESS,
         Err(error) => {
             eprintln!("{}: {error}", folder.display());

@@ -1,0 +1,122 @@
+//! Document 01, "A quay of three sections": its cases and edges, each with what the program prints.
+
+use crate::write::Records;
+use model::sheet::Formula;
+use model::sheet::Program::{self, *};
+
+/// A sheet with its name and what the program prints for it.
+#[derive(Clone)]
+pub struct Case {
+    pub name: String,
+    pub sheet: Vec<u8>,
+    pub printed: String,
+}
+
+impl Case {
+    pub fn new(name: impl Into<String>, sheet: Vec<u8>, printed: impl Into<String>) -> Self {
+        Case { name: name.into(), sheet, printed: printed.into() }
+    }
+}
+
+/// star(act 0); act 1.
+pub const CASE_3: [Program; 4] = [Act(0), Star(0), Act(1), Sequence(1, 2)];
+
+/// The quay's fluents, formulas, effects and actions, with these program records and this bound.
+pub fn three_sections(programs: &[Program], bound: u16) -> Records {
+    let mut records = Records { bound, ..Records::default() };
+    records.fluent(3, 1);
+    records.fluent(3, 0);
+    records.formula(Formula::Is(1, 0));
+    records.formula(Formula::Is(0, 0));
+    records.formula(Formula::And(0, 1));
+    records.formula(Formula::True);
+    records.effect(3, 0, 0);
+    records.effect(3, 1, 2);
+    records.action(0, 0, 1);
+    records.action(2, 1, 1);
+    for program in programs {
+        records.program(*program);
+    }
+    records
+}
+
+/// The thirteen cases, of 7 what is planned.
+pub fn cases() -> Vec<Case> {
+    let case =
+        |name, programs: &[Program], bound, printed| Case::new(name, three_sections(programs, bound).bytes(), printed);
+    vec![
+        case("case 1", &[Nil], 0, "found 0 0\n"),
+        case("case 2", &[Act(1)], 5, "refused 13 0\n"),
+        case("case 3", &CASE_3, 2, "found 2 2\n0\n1\n"),
+        case("case 4", &CASE_3, 1, "refused 14 0\n"),
+        case("case 5, D 0", &[Test(3)], 0, "refused 14 0\n"),
+        case("case 5, D 1", &[Test(3)], 1, "found 0 1\n"),
+        case("case 6", &[Test(1)], 0, "refused 13 0\n"),
+        case("case 7", &[Act(0), Star(0), Act(1), Over(1, 2)], 2, "refused 14 0\n"),
+        case("case 8", &[Act(1), Act(0), Over(0, 1)], 2, "found 2 2\n0\n1\n"),
+        Case::new("case 9", case_9().bytes(), "found 3 3\n65534\n0\n65535\n"),
+        case("case 10", &[Nil, Interrupt(3, 0)], 2, "found 2 2\n65534\n65535\n"),
+        case("case 11", &[Act(0), Interrupt(3, 0)], 4, "refused 14 0\n"),
+        case("case 12", &[Nil, While(0, 0)], 0, "found 0 0\n"),
+        Case::new("case 13", case_13().bytes(), "found 1 2\n2\n"),
+    ]
+}
+
+/// Formula 4 is "not formula 1".
+fn case_9() -> Records {
+    let mut records = three_sections(&[Act(0), Interrupt(4, 0)], 3);
+    records.formula(Formula::Not(1));
+    records
+}
+
+/// Action 2 has two holding effects on fluent 0, which starts 0, values 1 then 2; a test that it is 1 follows.
+pub fn case_13() -> Records {
+    let mut records = three_sections(&[Act(2), Test(4), Sequence(0, 1)], 2);
+    records.fluents[0] = [3, 0];
+    records.formula(Formula::Is(0, 1));
+    records.effect(3, 0, 1);
+    records.effect(3, 0, 2);
+    records.action(3, 2, 2);
+    records
+}
+
+/// The edges of a sheet and of the program's input, on case 3 or on nil.
+pub fn edges() -> Vec<Case> {
+    let edge = |name, records: Records, printed| Case::new(name, records.bytes(), printed);
+    let found = "found 2 2\n0\n1\n";
+    vec![
+        Case::new("empty input", vec![], "refused 1 0\n"),
+        edge("16,384 bytes", noted(16_384), found),
+        edge("16,385 bytes", noted(16_385), "too long\n"),
+        edge("32 fluents", with_fluents(32), found),
+        edge("33 fluents", with_fluents(33), "refused 2 0\n"),
+        edge("height 16", of_height(16), "found 0 0\n"),
+        edge("height 17", of_height(17), "refused 9 0\n"),
+        // 64 passes, but takes more words than the program lends.
+        edge("D 64", three_sections(&CASE_3, 64), "refused 11 0\n"),
+        edge("D 65", three_sections(&CASE_3, 65), "refused 2 0\n"),
+    ]
+}
+
+/// Case 3 with as many notes as make so many bytes.
+fn noted(bytes: usize) -> Records {
+    let records = three_sections(&CASE_3, 2);
+    let notes = vec![0; bytes - records.bytes().len()];
+    Records { notes, ..records }
+}
+
+/// Case 3 with so many fluents.
+fn with_fluents(count: usize) -> Records {
+    let mut records = three_sections(&CASE_3, 2);
+    records.fluents.resize(count, [1, 0]);
+    records
+}
+
+/// So many stars, one around the other, around nil.
+fn of_height(links: usize) -> Records {
+    let mut records = three_sections(&[Nil], 2);
+    for below in 0..links {
+        records.program(Star(below));
+    }
+    records
+}

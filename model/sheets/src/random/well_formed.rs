@@ -1,0 +1,176 @@
+//! Sheets that keep every rule.
+
+use super::limits::{formula_limits, program_limits};
+use super::Random;
+use crate::runs;
+use crate::write::Records;
+use model::sheet::{check, Formula, Program, Sheet};
+
+/// Draws fluents, formulas, effects and actions, as many as `counts` says; no formulas, then no effects or actions.
+fn world(random: &mut Random, records: &mut Records, counts: [usize; 4], most_size: usize) {
+    let [fluents, formulas, effects, actions] = counts;
+    for _ in 0..fluents {
+        let size = random.between(1, most_size);
+        let initial = random.below(size);
+        records.fluent(size as u8, initial as u8);
+    }
+    for number in 0..formulas {
+        let kinds: &[u8] =
+            if number == 0 { &[0, 0, 0, 0, 0, 1, 2, 3, 4] } else { &[0, 1, 2, 2, 2, 3, 3, 4, 5, 5, 6, 7] };
+        let kind = random.pick(kinds);
+        let x = random.below(formula_limits(kind, 0, number, &records.fluents)[0]);
+        let [_, a, b] = formula_limits(kind, x, number, &records.fluents).map(|limit| random.below(limit) as u16);
+        records.formulas.push(([kind, x as u8], [a, b]));
+    }
+    if formulas == 0 {
+        return;
+    }
+    // Most conditions are the first formula, which often is `true`.
+    let condition = |random: &mut Random| if random.percent(60) { 0 } else { random.below(formulas) };
+    for _ in 0..effects {
+        let fluent = random.below(fluents);
+        let value = random.below(usize::from(records.fluents[fluent][0]));
+        records.effect(condition(random), fluent, value as u8);
+    }
+    for _ in 0..actions {
+        let first = random.below(effects + 1);
+        let count = random.below((effects - first).min(4) + 1);
+        records.action(condition(random), first, count);
+    }
+}
+
+/// Draws one program record of a kind out of `kinds`, or nil where the tables have nothing for it to name.
+fn program(random: &mut Random, records: &mut Records, kinds: &[u16], links: usize) -> usize {
+    let kind = random.pick(kinds);
+    let limits = program_limits(kind, links, records.formulas.len(), records.actions.len());
+    if limits.contains(&0) {
+        return records.program(Program::Nil);
+    }
+    let [a, b, c] = limits.map(|limit| {
+        let recent = links > 3 && limit == links && random.percent(60);
+        let field = if recent { random.between(limit - 3, limit - 1) } else { random.below(limit) };
+        field as u16
+    });
+    records.programs.push([kind, a, b, c]);
+    records.programs.len() - 1
+}
+
+/// Leaves: mostly actions.
+const LEAVES: [u16; 9] = [1, 1, 1, 1, 1, 1, 2, 2, 0];
+/// Inner records, interrupts left out and put in.
+const CALM: [u16; 16] = [3, 3, 3, 3, 3, 3, 4, 4, 5, 6, 7, 8, 8, 9, 9, 10];
+const INTERRUPTED: [u16; 10] = [3, 3, 4, 6, 8, 9, 9, 11, 11, 11];
+
+/// A small well-formed sheet: every kind, shared records, and often a test of some value at the end, so that a plan
+/// needs moves.
+pub fn small(random: &mut Random) -> Records {
+    let bound = match random.below(20) {
+        0..=1 => 0,
+        2..=11 => random.between(1, 4),
+        12..=17 => random.between(5, 8),
+        18 => random.between(9, 14),
+        _ => random.between(15, 64),
+    };
+    let mut records = Records { bound: bound as u16, ..Records::default() };
+    let fluents = if random.percent(5) { 32 } else { random.between(1, 4) };
+    let formulas = if random.percent(3) { 0 } else { random.between(2, 9) };
+    let counts = [fluents, formulas, random.between(1, 7), random.between(1, 4)];
+    let most_size = random.pick(&[2, 3, 4, 16]);
+    world(random, &mut records, counts, most_size);
+
+    for _ in 0..random.between(2, 4) {
+        let links = records.programs.len();
+        program(random, &mut records, &LEAVES, links);
+    }
+    let inner: &[u16] = if random.percent(35) { &INTERRUPTED } else { &CALM };
+    for _ in 0..random.between(1, 6) {
+        let links = records.programs.len();
+        program(random, &mut records, inner, links);
+    }
+    close(random, &mut records);
+    notes(random, &mut records);
+    records
+}
+
+/// Puts something after the root that was drawn, which by itself is often final at once: mostly a test of a goal, with
+/// or without the action that reaches it.
+fn close(random: &mut Random, records: &mut Records) {
+    let root = records.programs.len() - 1;
+    let (goal, action) = goal(random, records);
+    let closing = random.below(8);
+    if closing == 0 {
+        return;
+    }
+    if closing == 1 {
+        let leaf = program(random, records, &LEAVES, root);
+        records.program(Program::Sequence(root, leaf));
+        return;
+    }
+    let mut body = root;
+    if let (Some(action), 4..) = (action, closing) {
+        let act = records.program(Program::Act(action));
+        let join = if closing < 6 { Program::Sequence(root, act) } else { Program::Choice(root, act) };
+        body = records.program(join);
+    }
+    if closing % 2 == 1 {
+        body = records.program(Program::Star(body));
+    }
+    let goal = records.formula(goal);
+    let test = records.program(Program::Test(goal));
+    records.program(Program::Sequence(body, test));
+}
+
+/// A goal that does not hold at the start and an action that may reach it, or any goal.
+fn goal(random: &mut Random, records: &Records) -> (Formula, Option<usize>) {
+    for _ in 0..8 {
+        if records.actions.is_empty() {
+            break;
+        }
+        let action = random.below(records.actions.len());
+        let [_, first, count] = records.actions[action].map(usize::from);
+        let given = &records.effects[first..first + count];
+        let wanted = given.iter().find(|(_, [fluent, value])| records.fluents[usize::from(*fluent)][1] != *value);
+        if let Some((_, [fluent, value])) = wanted {
+            return (Formula::Is(usize::from(*fluent), usize::from(*value)), Some(action));
+        }
+    }
+    let fluent = random.below(records.fluents.len());
+    let value = random.below(usize::from(records.fluents[fluent][0]));
+    (Formula::Is(fluent, value), None)
+}
+
+/// A well-formed sheet with large tables, for checking more than for planning. Its program records lie in 17 blocks
+/// and link to lower blocks only, so the height is at most 16.
+pub fn large(random: &mut Random) -> Records {
+    let mut records = Records { bound: random.below(65) as u16, ..Records::default() };
+    let full = random.percent(30);
+    let [fluents, formulas, effects, actions, programs] =
+        [32, 512, 512, 64, 256].map(|most| if full { most } else { random.between(1, most) });
+    world(random, &mut records, [fluents, formulas, effects, actions], 16);
+    for number in 0..programs {
+        let block = number * 17 / programs;
+        let links = (block * programs).div_ceil(17);
+        let kind = random.below(12) as u16;
+        program(random, &mut records, &[kind], links);
+    }
+    notes(random, &mut records);
+    records
+}
+
+/// Notes are anything at all, mostly nothing.
+fn notes(random: &mut Random, records: &mut Records) {
+    if random.percent(30) {
+        records.notes = (0..random.between(1, 40)).map(|_| random.below(256) as u8).collect();
+    }
+}
+
+/// A small sheet with [few](runs::few) runs, so that a search without memory ends soon.
+pub fn searchable(random: &mut Random, limit: usize) -> (Vec<u8>, Sheet) {
+    loop {
+        let bytes = small(random).bytes();
+        let sheet = check(&bytes).expect("the generator keeps every rule");
+        if runs::few(&sheet, limit) {
+            return (bytes, sheet);
+        }
+    }
+}

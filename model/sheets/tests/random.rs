@@ -1,0 +1,110 @@
+//! What the generators make.
+
+use model::planner::{plan, replay};
+use model::sheet::{check, Program, Sheet};
+use sheets::random::{accepted, damaged, near_miss, run, searchable, unknown, Random};
+use std::collections::{BTreeSet, HashMap};
+use std::mem::discriminant;
+
+/// The program records that the root reaches.
+fn reached(sheet: &Sheet) -> BTreeSet<usize> {
+    let mut reached = BTreeSet::from([sheet.programs.len() - 1]);
+    for number in (0..sheet.programs.len()).rev() {
+        if reached.contains(&number) {
+            reached.extend(sheet.programs[number].links());
+        }
+    }
+    reached
+}
+
+#[test]
+fn every_verdict_and_every_kind_has_a_fair_share() {
+    let mut random = Random::new(5);
+    let count = 3000;
+    let (mut plans, mut moves, mut nothing, mut more) = (0, 0, 0, 0);
+    let (mut interrupted, mut shared, mut nested) = (0, 0, 0);
+    let mut kinds = HashMap::new();
+    for _ in 0..count {
+        let (_, sheet) = searchable(&mut random, 3000);
+        match plan(&sheet) {
+            Ok(plan) => {
+                plans += 1;
+                moves += usize::from(plan.history.len() >= 2);
+            }
+            Err(refusal) if refusal.number == 13 => nothing += 1,
+            Err(_) => more += 1,
+        }
+        interrupted += usize::from(sheet.has_interrupt());
+        let reached: Vec<Program> = reached(&sheet).iter().map(|&number| sheet.programs[number]).collect();
+        let links: Vec<usize> = reached.iter().flat_map(|program| program.links()).collect();
+        shared += usize::from(links.iter().collect::<BTreeSet<_>>().len() < links.len());
+        let is_over = |&number: &usize| matches!(sheet.programs[number], Program::Over(..));
+        nested += usize::from(reached.iter().any(|p| matches!(p, Program::Over(..)) && p.links().iter().any(is_over)));
+        for program in reached {
+            *kinds.entry(discriminant(&program)).or_insert(0) += 1;
+        }
+    }
+    println!("of {count}: plans {plans} (two moves or more {moves}), 13 {nothing}, 14 {more}");
+    println!("interrupts {interrupted}, shared records {shared}, over right under over {nested}");
+    for share in [plans, nothing, more] {
+        assert!(share * 4 > count);
+    }
+    assert!(moves * 7 > count && interrupted * 6 > count && shared * 4 > count && nested * 100 > count);
+    assert!(kinds.len() == 12 && kinds.values().all(|&reached| reached * 20 > count));
+}
+
+#[test]
+fn a_fault_gets_its_number_and_place() {
+    let mut random = Random::new(6);
+    for _ in 0..200 {
+        for number in 1..=9 {
+            let (bytes, refusal) = damaged(&mut random, &[number]);
+            assert_eq!(refusal.number, number);
+            assert_eq!(check(&bytes), Err(refusal));
+        }
+    }
+}
+
+#[test]
+fn of_two_faults_the_lower_number_and_place_count() {
+    let mut random = Random::new(7);
+    for _ in 0..40 {
+        for first in 1..=9 {
+            for second in 1..=9 {
+                let (bytes, refusal) = damaged(&mut random, &[first, second]);
+                assert_eq!(refusal.number, first.min(second));
+                assert_eq!(check(&bytes), Err(refusal));
+            }
+        }
+    }
+}
+
+#[test]
+fn histories_are_of_the_sort_they_are_drawn_as() {
+    let mut random = Random::new(8);
+    let (mut yes, mut near_yes, mut near_no) = (0, 0, 0);
+    for _ in 0..1000 {
+        let (_, sheet) = searchable(&mut random, 3000);
+        let (reached, ends) = run(&mut random, &sheet);
+        assert!(!ends || replay(&sheet, &reached));
+        assert!(!replay(&sheet, &unknown(&mut random, &sheet, &reached)));
+        if let Some(history) = accepted(&mut random, &sheet) {
+            assert!(replay(&sheet, &history));
+            yes += 1;
+            if replay(&sheet, &near_miss(&mut random, &sheet, &history)) {
+                near_yes += 1;
+            } else {
+                near_no += 1;
+            }
+        }
+    }
+    println!("accepted {yes}; near misses yes {near_yes}, no {near_no}");
+    assert!(yes > 200 && near_yes > 20 && near_no > 100);
+}
+
+#[test]
+fn the_same_seed_gives_the_same_sheets() {
+    let draw = |seed| searchable(&mut Random::new(seed), 1000).0;
+    assert_eq!(draw(9), draw(9));
+    assert_ne!(draw(9), draw(10));
+}
