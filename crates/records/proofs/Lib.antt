@@ -1,4 +1,5 @@
 pub mod Fills
+pub mod Lowest
 pub mod Scan
 pub mod Truth
 pub mod Written

@@ -10,7 +10,7 @@ use lib.ListN.{length}
 use lib.Dec.{ltb, eqb}
 use Rattle.records.specs.Lowest.{lowest}
 use Rattle.records.specs.Records.{programAt}
-use Rattle.records.proofs.Scan.{all}
+use Rattle.records.proofs.Lowest.{lower-true}
 use Rattle.rules.specs.Tables.{fluentsOk, formulasOk, effectsOk, actionsOk, programsOk}
 use Rattle.height.specs.Height.{heightOf}
 use Rattle.height.specs.Work.{levels, workWords}
@@ -30,7 +30,10 @@ passed false n p x e = (refl, e)
 -- and has found no faulty record
 kept : (number : ℕ) (ok : ℕ → Bool) (n : ℕ) (next : Checked) {w : ℕ} → refusedAt number (lowest ok n) n next ≡ Accepted w → ((i : ℕ) → i < n → ok i ≡ true) × (next ≡ Accepted w)
 unfolding refusedAt
-kept number ok n next e = let r = passed (ltb (lowest ok n) n) number (lowest ok n) next e in (all ok n (ltb-false (lowest ok n) n (r .0)), r .1)
+kept number ok n next e =
+    let r = passed (ltb (lowest ok n) n) number (lowest ok n) next e in
+    let l = ltb-false (lowest ok n) n (r .0) in
+    (λ i h. lower-true ok n i (omega arith), r .1)
 
 -- what numbers 1 to 3 leave
 pub record Trailed (s : List ℕ) : Type 0 where

@@ -6,7 +6,9 @@ use Prim.Native.Nat.{ℕ, _+_, _-_, _≤_, _<_}
 use native.Mathlib.Omega.{arith}
 use Rattle.records.specs.Records.{fluentAt, formulaAt, effectAt, actionAt, programAt}
 use Rattle.records.specs.declared.Program.{Program}
-use Rattle.rules.proofs.Rows.{fluent-kept, effect-kept, action-kept, formula-kept, program-kept, FormulaRow, ProgramRow, empty, action, test, pair, loop, choice, guarded}
+use Rattle.rules.specs.Kept.{FluentKept, FormulaKept, EffectKept, ActionKept}
+use Rattle.rules.proofs.Kept.{fluent-exactly, formula-exactly, effect-exactly, action-exactly, program-exactly}
+use Rattle.rules.proofs.Rows.{ProgramRow, program-row, empty, action, test, pair, loop, choice, guarded}
 use Rattle.height.specs.Height.{links, heightOf}
 use Rattle.height.proofs.Paths.{Lower, Down, height-is-most}
 use Rattle.sheet.specs.Layout.{layoutOf, fluentsIn, formulasIn, effectsIn, actionsIn, programsIn}
@@ -43,30 +45,21 @@ module _ (s : List ℕ) (accepted : Accepts s) where
   abbrev fluents : List ℕ
   fluents = fluentsIn s (layoutOf s)
 
-  pub fluent-of : (i : ℕ) → i < layoutOf s .f → let r = fluentAt fluents i in (1 ≤ r .size) × (r .size ≤ 16) × (r .initial < r .size)
-  fluent-of i l = fluent-kept _ (ruled s accepted .fluent i l)
+  pub fluent-of : (i : ℕ) → i < layoutOf s .f → FluentKept fluents i
+  fluent-of i l = fluent-exactly _ .0 (ruled s accepted .fluent i l)
 
-  pub formula-of :
-      (i : ℕ)
-      → i < layoutOf s .q
-      → let r = formulaAt (formulasIn s (layoutOf s)) i in FormulaRow (layoutOf s .f) (fluentAt fluents (r .x) .size) i r
-  formula-of i l = formula-kept _ _ _ _ (ruled s accepted .formula i l)
+  pub formula-of : (i : ℕ) → i < layoutOf s .q → FormulaKept fluents (layoutOf s .f) (formulasIn s (layoutOf s)) i
+  formula-of i l = formula-exactly _ _ _ _ .0 (ruled s accepted .formula i l)
 
-  pub effect-of :
-      (i : ℕ)
-      → i < layoutOf s .e
-      → let r = effectAt (effectsIn s (layoutOf s)) i in (r .condition < layoutOf s .q) × (r .fluent < layoutOf s .f) × (r .value < fluentAt fluents (r .fluent) .size)
-  effect-of i l = effect-kept _ _ _ _ (ruled s accepted .effect i l)
+  pub effect-of : (i : ℕ) → i < layoutOf s .e → EffectKept fluents (layoutOf s .f) (layoutOf s .q) (effectsIn s (layoutOf s)) i
+  effect-of i l = effect-exactly _ _ _ _ .0 (ruled s accepted .effect i l)
 
-  pub action-of :
-      (i : ℕ)
-      → i < layoutOf s .a
-      → let r = actionAt (actionsIn s (layoutOf s)) i in (r .precondition < layoutOf s .q) × (r .first + r .count ≤ layoutOf s .e)
-  action-of i l = action-kept _ _ _ (ruled s accepted .action i l)
+  pub action-of : (i : ℕ) → i < layoutOf s .a → ActionKept (layoutOf s .q) (layoutOf s .e) (actionsIn s (layoutOf s)) i
+  action-of i l = action-exactly _ _ _ .0 (ruled s accepted .action i l)
 
   pub program-of :
       (i : ℕ) → i < layoutOf s .p → ProgramRow (layoutOf s .q) (layoutOf s .a) i (programAt (programsIn s (layoutOf s)) i)
-  program-of i l = program-kept _ _ _ _ (ruled s accepted .program i l)
+  program-of i l = program-row _ _ _ _ (program-exactly _ _ _ _ .0 (ruled s accepted .program i l))
 
   -- the links of program records lead to lower records
   pub lower : Lower (programAt (programsIn s (layoutOf s))) (layoutOf s .p)
