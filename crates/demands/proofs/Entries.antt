@@ -12,7 +12,8 @@ use Rattle.records.specs.declared.Program.{Program}
 use Rattle.rules.proofs.Rows.{act-kept}
 use Rattle.height.specs.Height.{hasTwo}
 use Rattle.height.proofs.Paths.{Lower}
-use Rattle.height.proofs.Interrupts.{interrupts-iff}
+use Rattle.height.specs.Work.{Interrupted}
+use Rattle.height.proofs.Levels.{interrupts-exactly}
 use Rattle.sheet.specs.Layout.{layoutOf}
 use Rattle.sheet.specs.Check.{Accepts}
 use Rattle.sheet.proofs.Accepted.{laid}
@@ -27,7 +28,7 @@ use Rattle.runs.specs.Runs.{Run}
 use Rattle.runs.proofs.Histories.{history-has}
 use Rattle.demands.specs.Decoded.{worldOf, recordsOf, interruptsIn, firstOf}
 use Rattle.demands.specs.Planning.{Goes, replied, replayOf}
-use Rattle.demands.specs.Entries.{AnyInterrupt, KnownEntry}
+use Rattle.demands.specs.Entries.{KnownEntry}
 use Rattle.demands.proofs.Demands.{history-refused}
 
 module _ (K : ℕ → Type 0) where
@@ -69,7 +70,7 @@ module _ (s : List ℕ) (accepted : Accepts s) where
   first-acts : Acts (KnownEntry s) (firstOf s .0)
   first-acts =
       let n = layoutOf s .p in
-      let there : interruptsIn s ≡ true → AnyInterrupt s = interrupts-iff (recordsOf s) n .0 in
+      let there : interruptsIn s ≡ true → Interrupted (recordsOf s) n = interrupts-exactly (recordsOf s) n .0 in
       let some-record = laid s accepted .some-record in
       started-acts (KnownEntry s) (interruptsIn s) (programOf (recordsOf s) (n - 1))
       (program-acts (KnownEntry s) (recordsOf s) n (lower s accepted) (λ i l e. inl (act-kept _ _ i _ (program-of s accepted i l) e)) (n - 1) (omega arith))

@@ -3,13 +3,10 @@ use mathlib.Core.List.{List}
 use mathlib.Core.Logic.{_⊎_}
 use mathlib.Core.Path.{_≡_}
 use Prim.Native.Nat.{ℕ, _<_}
+use Rattle.height.specs.Work.{Interrupted}
 use Rattle.sheet.specs.Layout.{layoutOf}
 use Rattle.demands.specs.Decoded.{recordsOf}
 
--- "If any program record has kind 11"
-abbrev pub AnyInterrupt : List ℕ → Type 0
-AnyInterrupt s = (i : ℕ) × (i < layoutOf s .p) × (recordsOf s i .kind ≡ 11)
-
--- start and stop, which then run, "stand in histories as 65534 and 65535. Other entries are action numbers"
+-- "If any program record has kind 11", start and stop run and "stand in histories as 65534 and 65535. Other entries are action numbers"
 abbrev pub KnownEntry : List ℕ → ℕ → Type 0
-KnownEntry s e = (e < layoutOf s .a) ⊎ (((e ≡ 65534) ⊎ (e ≡ 65535)) × AnyInterrupt s)
+KnownEntry s e = (e < layoutOf s .a) ⊎ (((e ≡ 65534) ⊎ (e ≡ 65535)) × Interrupted (recordsOf s) (layoutOf s .p))

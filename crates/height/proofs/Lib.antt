@@ -1,4 +1,4 @@
 pub mod Links
 pub mod Heights
 pub mod Paths
-pub mod Interrupts
+pub mod Levels

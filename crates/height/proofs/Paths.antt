@@ -1,8 +1,8 @@
 -- The height is the most links on a path down (document 01): where links lead to lower records, no path from record i has more
 -- links than `rise p i`, and one has as many. Assumes nothing.
 use mathlib.Core.Path.{_≡_, refl, sym, _∙_, ap, ap₂, subst}
-use mathlib.Core.List.{List, [], _∷_, List·Memᴰ, List·Memᴰ·head, List·Memᴰ·tail, List·Memᴰ·not-nil, List·Memᴰ·cases-cons}
-use mathlib.Core.Logic.{_⊎_, inl, inr, ⊎-elim}
+use mathlib.Core.List.{List, [], _∷_, List·Memᴰ, List·Memᴰ·head, List·Memᴰ·tail}
+use mathlib.Core.Logic.{_⊎_, inl, inr, _↔_}
 use Prim.Native.Nat.{ℕ, zero, suc, _-_, _≤_, _<_, max, zero-le}
 use native.Mathlib.Decide.{decLt}
 use native.Mathlib.Omega.{arith}
@@ -10,12 +10,9 @@ use lib.ListN.{getD}
 use Rattle.records.specs.Table.{upTo}
 use Rattle.records.proofs.Fills.{up-at, entry-is}
 use Rattle.records.specs.declared.Program.{Program}
+use Rattle.height.specs.Down.{Link, Down, stop, step, IsHeight, HeightAbove}
 use Rattle.height.specs.Height.{links, over, heightAt, rise, heightOf}
-
--- a path down from record i, of k links
-pub data Down (p : ℕ → Program) : ℕ → ℕ → Type 0 where
-  stop : {i : ℕ} → Down p i 0
-  step : {i j k : ℕ} → List·Memᴰ j (links (p i)) → Down p j k → Down p i (suc k)
+use Rattle.height.proofs.Links.{link-exactly}
 
 -- the links of the first n records lead to lower records
 abbrev pub Lower : (ℕ → Program) → ℕ → Type 0
@@ -66,10 +63,10 @@ module _ (p : ℕ → Program) (n : ℕ) (low : Lower p n) where
   -- no path has more links than the height
   pub at-most : {i k : ℕ} → i < n → Down p i k → k ≤ rise p i
   at-most l stop = zero-le
-  at-most {i = i} l (step {j = j} w d) = let h = at-most (below i j l w) d in omega (arith, rise-less i j l w)
+  at-most {i = i} l (step {j = j} w d) = let h = at-most (below i j l w) d in omega (arith, rise-less i j l (link-exactly (p i) j .1 w))
     where
-      below : (i j : ℕ) → i < n → List·Memᴰ j (links (p i)) → j < n
-      below i j l w = omega (arith, low i j l w)
+      below : (i j : ℕ) → i < n → Link (p i) j → j < n
+      below i j l w = omega (arith, low i j l (link-exactly (p i) j .1 w))
 
   -- one path has as many
   reach : (above-i i : ℕ) → i < above-i → i < n → Down p i (rise p i)
@@ -81,11 +78,14 @@ module _ (p : ℕ → Program) (n : ℕ) (low : Lower p n) where
           → ((j : ℕ) → List·Memᴰ j (links (p i)) → Down p j (rise p j))
           → Down p i (rise p i)
       go (inl e) next = subst (Down p i) (sym (rise-above i l ∙ e)) stop
-      go (inr (j, w, e)) next = subst (Down p i) (sym (rise-above i l ∙ e)) (step w (next j w))
+      go (inr (j, w, e)) next = subst (Down p i) (sym (rise-above i l ∙ e)) (step (link-exactly (p i) j .0 w) (next j w))
 
   pub reached : (i : ℕ) → i < n → Down p i (rise p i)
   reached i l = reach (suc i) i (omega arith) l
 
   -- the height of the table, by document 01's words: some path down from the root has that many links, and none has more
-  pub height-is-most : 1 ≤ n → Down p (n - 1) (heightOf p n) × ((k : ℕ) → Down p (n - 1) k → k ≤ heightOf p n)
+  pub height-is-most : 1 ≤ n → IsHeight p n (heightOf p n)
   height-is-most l = (reached (n - 1) (omega arith), λ k d. at-most (omega arith) d)
+
+  pub above-exactly : 1 ≤ n → (m : ℕ) → HeightAbove p n m ↔ (m < heightOf p n)
+  above-exactly l m = (λ (k, h, d). let u = height-is-most l .1 k d in omega arith, λ h. (heightOf p n, h, height-is-most l .0))

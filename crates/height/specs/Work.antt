@@ -1,10 +1,22 @@
--- The work figure (document 01, "Work area"). Assumes nothing.
-use Prim.Native.Nat.{ℕ, _+_, _*_}
+-- The work figure (document 01, "Work area"). That h as it is computed is the one meant is proved in proofs/Levels.antt.
+-- Assumes nothing.
+use mathlib.Core.Path.{_≡_}
+use mathlib.Core.Logic.{_⊎_}
+use Prim.Native.Nat.{ℕ, _+_, _*_, _<_}
 use mathlib.Core.Bool.{Bool, cond}
+use Rattle.height.specs.Down.{IsHeight}
 use Rattle.height.specs.Height.{heightOf, interrupts}
 use Rattle.records.specs.declared.Program.{Program}
 
--- h: the height, plus 2 if any record has kind 11
+-- "any record has kind 11"
+abbrev pub Interrupted : (ℕ → Program) → ℕ → Type 0
+Interrupted p n = (i : ℕ) × (i < n) × (p i .kind ≡ 11)
+
+-- "h is the height, plus 2 if any record has kind 11"
+abbrev pub IsLevels : (ℕ → Program) → (n h : ℕ) → Type 0
+IsLevels p n h = (g : ℕ) × IsHeight p n g × ((Interrupted p n × (h ≡ g + 2)) ⊎ ((¬ Interrupted p n) × (h ≡ g)))
+
+-- the same, computed
 unfoldable pub levels : (ℕ → Program) → ℕ → ℕ
 levels p n = heightOf p n + cond (interrupts p n) 2 0
 

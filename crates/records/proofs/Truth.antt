@@ -1,6 +1,10 @@
--- What a test made of two tells of each. Assumes nothing.
+-- What a test made of two tells of each; a choice by a number's test. Assumes nothing.
 use mathlib.Core.Path.{_≡_, refl, _∙_, ap}
-use mathlib.Core.Bool.{Bool, true, false, _&&_, _||_}
+use mathlib.Core.Bool.{Bool, true, false, not, _&&_, _||_, false≢true}
+use mathlib.Core.Logic.{_⊎_, inl, inr, ⊎-elim, _↔_}
+use Prim.Native.Nat.{ℕ}
+use borrow.Author.Tests.{eqb-true, eqb-false}
+use lib.Dec.{eqb}
 
 pub and-left : (a b : Bool) → (a && b) ≡ true → a ≡ true
 and-left true b e = refl
@@ -27,3 +31,20 @@ or-only false e = e
 pub is-false : (a : Bool) → (a ≡ true → ⊥) → a ≡ false
 is-false true h = absurd (h refl)
 is-false false h = refl
+
+-- a test made of others decides what is made of theirs
+pub or-exactly : {A B : Type 0} (a b : Bool) → (a ≡ true) ↔ A → (b ≡ true) ↔ B → ((a || b) ≡ true) ↔ (A ⊎ B)
+or-exactly true b p q = (λ e. inl (p .0 e), λ h. refl)
+or-exactly false b p q = (λ e. inr (q .0 e), ⊎-elim (λ x. absurd (false≢true (p .1 x))) (λ y. q .1 y))
+
+pub not-exactly : {A : Type 0} (a : Bool) → (a ≡ true) ↔ A → (not a ≡ true) ↔ (¬ A)
+not-exactly true p = (λ e. absurd (false≢true e), λ n. absurd (n (p .0 refl)))
+not-exactly false p = (λ e x. false≢true (p .1 x), λ n. refl)
+
+-- a line of a table by kinds: k is its kind, or is to be found further down
+pub line : {A B : Type 0} (k n : ℕ) → (k ≡ n → A) → (¬ (k ≡ n) → B) → A ⊎ B
+line {A} {B} k n here below = go (eqb k n) refl
+  where
+    go : (b : Bool) → eqb k n ≡ b → A ⊎ B
+    go true e = inl (here (eqb-true k n e))
+    go false e = inr (below (eqb-false k n e))

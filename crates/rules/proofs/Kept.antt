@@ -1,11 +1,12 @@
 -- The test of each record is true exactly where the record keeps its rule. Assumes nothing.
-use mathlib.Core.Path.{_≡_, refl}
-use mathlib.Core.Bool.{Bool, true, false, _&&_, _||_, or-false}
-use mathlib.Core.Logic.{_⊎_, inl, inr, ⊎-elim, _↔_}
-use Prim.Native.Nat.{ℕ, _+_, _≤_, _<_}
+use mathlib.Core.Path.{_≡_}
+use mathlib.Core.Bool.{Bool, true, false, _&&_, or-false}
+use mathlib.Core.Logic.{⊎-elim, _↔_}
+use Prim.Native.Nat.{ℕ}
 use native.Mathlib.Omega.{arith}
-use borrow.Author.Tests.{leb-true, ltb-true, eqb-true, eqb-false, le-leb, lt-leb, lt-ltb, eq-eqb, ne-eqb}
-use lib.Dec.{leb, ltb, eqb}
+use borrow.Author.Tests.{leb-true, ltb-true, eqb-true, le-leb, lt-leb, lt-ltb, eq-eqb, ne-eqb}
+use lib.Dec.{leb, ltb}
+use Rattle.records.proofs.Truth.{and-left, and-right, line}
 use Rattle.rules.specs.Rules.{fluentOk, formulaOk, effectOk, actionOk, programOk}
 use Rattle.rules.specs.Kept.{FluentRule, FormulaRule, EffectRule, ActionRule, ProgramRule}
 use Rattle.records.specs.declared.Fluent.{Fluent}
@@ -14,12 +15,8 @@ use Rattle.records.specs.declared.Effect.{Effect}
 use Rattle.records.specs.declared.Action.{Action}
 use Rattle.records.specs.declared.Program.{Program}
 
-both : (a b : Bool) → (a && b) ≡ true → (a ≡ true) × (b ≡ true)
-both true b e = (refl, e)
-both false b e = (cc, cc)
-
 three : (a b c : Bool) → (a && b && c) ≡ true → (a ≡ true) × (b ≡ true) × (c ≡ true)
-three a b c e = let p = both (a && b) c e in let q = both a b (p .0) in (q .0, q .1, p .1)
+three a b c e = let d = and-left (a && b) c e in (and-left a b d, and-right a b d, and-right (a && b) c e)
 
 pub fluent-exactly : (r : Fluent) → (fluentOk r ≡ true) ↔ FluentRule r
 unfolding fluentOk
@@ -38,25 +35,17 @@ effect-exactly nf nq size r = (
 pub action-exactly : (nq ne : ℕ) (r : Action) → (actionOk nq ne r ≡ true) ↔ ActionRule nq ne r
 unfolding actionOk
 action-exactly nq ne r = (
-  λ e. let t = both (ltb (r .precondition) nq) (leb (r .first + r .count) ne) e in (ltb-true _ _ (t .0), leb-true _ _ (t .1)),
+  λ e. (ltb-true _ _ (and-left _ _ e), leb-true _ _ (and-right (ltb (r .precondition) nq) _ e)),
   λ (l, m). simp (lt-ltb _ _ l, le-leb _ _ m),
 )
 
 -- a row: its kind's test, then one for each field
 row : (k p q r : Bool) → (k && p && q && r) ≡ true → (k ≡ true) × (p ≡ true) × (q ≡ true) × (r ≡ true)
-row k p q r e = let u = both (k && p && q) r e in let v = three k p q (u .0) in (v .0, v .1, v .2, u .1)
+row k p q r e = let t = three k p q (and-left (k && p && q) r e) in (t .0, t .1, t .2, and-right (k && p && q) r e)
 
 -- a row whose kind is known: what the test of each field tells
 fields : {K P Q R : Type 0} (p q r : Bool) → K → (p ≡ true → P) → (q ≡ true → Q) → (r ≡ true → R) → (p && q && r) ≡ true → K × P × Q × R
 fields p q r k f g h e = let t = three p q r e in (k, f (t .0), g (t .1), h (t .2))
-
--- a rule's line: the record has its kind, or is to be found further down
-line : {A B : Type 0} (k n : ℕ) → (k ≡ n → A) → (¬ (k ≡ n) → B) → A ⊎ B
-line {A} {B} k n here below = go (eqb k n) refl
-  where
-    go : (b : Bool) → eqb k n ≡ b → A ⊎ B
-    go true e = inl (here (eqb-true k n e))
-    go false e = inr (below (eqb-false k n e))
 
 no-constant : (k : ℕ) → ¬ (k ≡ 0) → ¬ (k ≡ 1) → leb k 1 ≡ false
 no-constant k n₀ n₁ = lt-leb k 1 (omega arith)

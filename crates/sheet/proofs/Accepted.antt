@@ -17,7 +17,7 @@ use Rattle.height.specs.Work.{levels, workWords}
 use Rattle.sheet.specs.Trailer.{trailerOf, limitsOk, Within, recordBytes, distanceOk}
 use Rattle.sheet.specs.Layout.{layoutIn, layoutOf, Fits, fluentsIn, formulasIn, effectsIn, actionsIn, programsIn}
 use Rattle.sheet.specs.Check.{refusedAt, heightChecked, programsChecked, actionsChecked, effectsChecked, formulasChecked, fluentsChecked, trailerChecked, checkOf, Accepts}
-use Rattle.sheet.proofs.Laws.{within, limits-kept, placed, distance-kept, fits, in-place}
+use Rattle.sheet.proofs.Laws.{within, limits-exactly, placed, placed-exactly, fits, in-place}
 use Rattle.sheet.specs.declared.Layout.{Layout}
 use Rattle.sheet.specs.declared.Checked.{Checked}
 use Rattle.sheet.specs.declared.Checked.the-variants.{Accepted, Refused}
@@ -48,7 +48,7 @@ pub trailed-checked : (s : List ℕ) → Trailed s → checkOf s ≡ fluentsChec
 unfolding layoutOf
 trailed-checked s t =
     let r = trailerOf s in
-    sym (in-place s refl (t .long) (t .magic) (limits-kept r (t .within)) (distance-kept r (length s - 18) (t .sum) (t .room)) refl)
+    sym (in-place s refl (t .long) (t .magic) (limits-exactly r .1 (t .within)) (placed-exactly r (length s - 18) .1 (t .sum, t .room)) refl)
 
 -- what numbers 4 to 9 leave
 pub record Ruled (s : List ℕ) (l : Layout) (w : ℕ) : Type 0 where

@@ -2,6 +2,7 @@
 use mathlib.Core.Path.{_≡_, refl, _∙_, ap}
 use mathlib.Core.Bool.{Bool, true, false, _&&_}
 use mathlib.Core.List.{List}
+use mathlib.Core.Logic.{_↔_}
 use Prim.Native.Nat.{ℕ, _+_, _≤_, _<_, _-_}
 use native.Mathlib.Omega.{arith}
 use borrow.Author.Tests.{lt-ltb, le-ltb, le-leb, eq-eqb, ne-eqb, leb-true, eqb-true}
@@ -65,20 +66,22 @@ within t h =
       d = leb-true _ _ (and-right l₇ (leb (t .d) 64) h);
     }
 
--- and back
-pub limits-kept : (t : Trailer) → Within t → limitsOk t ≡ true
+pub limits-exactly : (t : Trailer) → (limitsOk t ≡ true) ↔ Within t
 unfolding limitsOk
-limits-kept t w =
-    simp (
-      le-leb 1 (t .f) (w .some-fluent),
-      le-leb (t .f) 32 (w .f),
-      le-leb (t .q) 512 (w .q),
-      le-leb (t .e) 512 (w .e),
-      le-leb (t .a) 64 (w .a),
-      le-leb 1 (t .p) (w .some-record),
-      le-leb (t .p) 256 (w .p),
-      le-leb (t .d) 64 (w .d),
-    )
+limits-exactly t = (
+  within t,
+  λ w.
+      simp (
+        le-leb 1 _ (w .some-fluent),
+        le-leb _ 32 (w .f),
+        le-leb _ 512 (w .q),
+        le-leb _ 512 (w .e),
+        le-leb _ 64 (w .a),
+        le-leb 1 _ (w .some-record),
+        le-leb _ 256 (w .p),
+        le-leb _ 64 (w .d),
+      ),
+)
 
 pub placed : (t : Trailer) (room : ℕ) → distanceOk t room ≡ true → (t .distance ≡ recordBytes t) × (t .distance ≤ room)
 unfolding distanceOk
@@ -87,10 +90,9 @@ placed t room e =
     let b : Bool = leb (t .distance) room in
     (eqb-true (t .distance) (recordBytes t) (and-left a b e), leb-true (t .distance) room (and-right a b e))
 
--- and back
-pub distance-kept : (t : Trailer) (room : ℕ) → t .distance ≡ recordBytes t → t .distance ≤ room → distanceOk t room ≡ true
+pub placed-exactly : (t : Trailer) (room : ℕ) → (distanceOk t room ≡ true) ↔ ((t .distance ≡ recordBytes t) × (t .distance ≤ room))
 unfolding distanceOk
-distance-kept t room e l = simp (eq-eqb (t .distance) (recordBytes t) e, le-leb (t .distance) room l)
+placed-exactly t room = (placed t room, λ (e, l). simp (eq-eqb _ _ e, le-leb _ _ l))
 
 -- where the distance is the sum and there is room for it, the tables fit
 pub fits : (t : Trailer) (room : ℕ) → Within t → t .distance ≡ recordBytes t → t .distance ≤ room → Fits (layoutIn t room) (room + 18)

@@ -1,16 +1,17 @@
 -- What acceptance tells of each record: its rule as facts, and that the links of program records lead to lower ones. Assumes nothing.
-use mathlib.Core.Path.{_≡_, refl, subst, sym}
+use mathlib.Core.Path.{_≡_, subst}
 use mathlib.Core.List.{List, [], _∷_, List·Memᴰ, List·Memᴰ·cases-cons, List·Memᴰ·eq-of-singleton, List·Memᴰ·not-nil}
 use mathlib.Core.Logic.{_⊎_, inl, inr, ⊎-elim}
-use Prim.Native.Nat.{ℕ, _+_, _-_, _≤_, _<_}
+use Prim.Native.Nat.{ℕ, _<_}
 use native.Mathlib.Omega.{arith}
-use Rattle.records.specs.Records.{fluentAt, formulaAt, effectAt, actionAt, programAt}
+use Rattle.records.specs.Records.{programAt}
 use Rattle.records.specs.declared.Program.{Program}
-use Rattle.rules.specs.Kept.{FluentKept, FormulaKept, EffectKept, ActionKept}
+use Rattle.rules.specs.Kept.{ProgramRule, FluentKept, FormulaKept, EffectKept, ActionKept, ProgramKept}
 use Rattle.rules.proofs.Kept.{fluent-exactly, formula-exactly, effect-exactly, action-exactly, program-exactly}
 use Rattle.rules.proofs.Rows.{ProgramRow, program-row, empty, action, test, pair, loop, choice, guarded}
+use Rattle.height.specs.Down.{IsHeight}
 use Rattle.height.specs.Height.{links, heightOf}
-use Rattle.height.proofs.Paths.{Lower, Down, height-is-most}
+use Rattle.height.proofs.Paths.{Lower, height-is-most}
 use Rattle.sheet.specs.Layout.{layoutOf, fluentsIn, formulasIn, effectsIn, actionsIn, programsIn}
 use Rattle.sheet.specs.Check.{Accepts}
 use Rattle.sheet.proofs.Accepted.{ruled, laid}
@@ -41,6 +42,10 @@ links-lower nq na i r (choice e l k c) = two-lower i (r .a) (r .b) l k (rw e)
 links-lower nq na i r (guarded (inl e) l c) = one-lower i (r .a) l (rw e)
 links-lower nq na i r (guarded (inr e) l c) = one-lower i (r .a) l (rw e)
 
+-- where every program record keeps its rule, links lead to lower records
+pub rules-lower : (nq na n : ℕ) (p : ℕ → Program) → ((i : ℕ) → i < n → ProgramRule nq na i (p i)) → Lower p n
+rules-lower nq na n p keeps i j l m = links-lower nq na i (p i) (program-row nq na i (p i) (keeps i l)) j m
+
 module _ (s : List ℕ) (accepted : Accepts s) where
   abbrev fluents : List ℕ
   fluents = fluentsIn s (layoutOf s)
@@ -57,17 +62,17 @@ module _ (s : List ℕ) (accepted : Accepts s) where
   pub action-of : (i : ℕ) → i < layoutOf s .a → ActionKept (layoutOf s .q) (layoutOf s .e) (actionsIn s (layoutOf s)) i
   action-of i l = action-exactly _ _ _ .0 (ruled s accepted .action i l)
 
+  keeps : (i : ℕ) → i < layoutOf s .p → ProgramKept (layoutOf s .q) (layoutOf s .a) (programsIn s (layoutOf s)) i
+  keeps i l = program-exactly _ _ _ _ .0 (ruled s accepted .program i l)
+
   pub program-of :
       (i : ℕ) → i < layoutOf s .p → ProgramRow (layoutOf s .q) (layoutOf s .a) i (programAt (programsIn s (layoutOf s)) i)
-  program-of i l = program-row _ _ _ _ (program-exactly _ _ _ _ .0 (ruled s accepted .program i l))
+  program-of i l = program-row _ _ _ _ (keeps i l)
 
   -- the links of program records lead to lower records
   pub lower : Lower (programAt (programsIn s (layoutOf s))) (layoutOf s .p)
-  lower i j l m = links-lower _ _ i _ (program-of i l) j m
+  lower = rules-lower _ _ _ _ keeps
 
-  -- document 01's words for the height: some path down from the root has that many links, and none has more
-  pub height-is-most-links :
-      let p = programAt (programsIn s (layoutOf s)) in
-      let n = layoutOf s .p in
-      Down p (n - 1) (heightOf p n) × ((k : ℕ) → Down p (n - 1) k → k ≤ heightOf p n)
+  -- the height is document 01's: some path down from the root has that many links, and none has more
+  pub height-is-most-links : IsHeight (programAt (programsIn s (layoutOf s))) (layoutOf s .p) (heightOf (programAt (programsIn s (layoutOf s))) (layoutOf s .p))
   height-is-most-links = height-is-most _ _ lower (laid s accepted .some-record)

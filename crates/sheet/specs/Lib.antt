@@ -1,4 +1,5 @@
 pub mod Trailer
 pub mod Layout
 pub mod Check
+pub mod Causes
 pub mod Notes
