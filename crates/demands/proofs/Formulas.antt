@@ -1,11 +1,11 @@
 -- Every formula of an accepted sheet says what its kind says: the rule of formulas makes the formulas that it names lower. Assumes nothing.
 use mathlib.Core.List.{List}
-use mathlib.Core.Logic.{_↔_}
-use Prim.Native.Nat.{ℕ, _<_}
+use mathlib.Core.Logic.{_↔_, ⊎-elim}
+use Prim.Native.Nat.{ℕ, _≤_, _<_}
 use native.Mathlib.Omega.{arith}
 use lib.Dec.{T}
 use Rattle.records.specs.declared.Formula.{Formula}
-use Rattle.rules.proofs.Rows.{FormulaRow, constant, is-value, is-less, same-value, negation, junction}
+use Rattle.rules.specs.Kept.{FormulaRule}
 use Rattle.sheet.specs.Layout.{layoutOf}
 use Rattle.sheet.specs.Check.{Accepts}
 use Rattle.sheet.proofs.Lower.{formula-of}
@@ -15,13 +15,17 @@ use Rattle.golog.specs.Says.{Says, PartsLower}
 use Rattle.golog.proofs.Formulas.{formula-says}
 use Rattle.demands.specs.Decoded.{worldOf}
 
-parts-lower : (nf size q : ℕ) (r : Formula) → FormulaRow nf size q r → PartsLower q r
-parts-lower nf size q r (constant k) = (λ h. absurd (omega arith), λ h. absurd (omega arith))
-parts-lower nf size q r (is-value k x a) = (λ h. absurd (omega arith), λ h. absurd (omega arith))
-parts-lower nf size q r (is-less k x a) = (λ h. absurd (omega arith), λ h. absurd (omega arith))
-parts-lower nf size q r (same-value k x a) = (λ h. absurd (omega arith), λ h. absurd (omega arith))
-parts-lower nf size q r (negation k a) = (λ h. a, λ h. absurd (omega arith))
-parts-lower nf size q r (junction k a b) = (λ h. a, λ h. b)
+parts-lower : (nf size q : ℕ) (r : Formula) → FormulaRule nf size q r → PartsLower q r
+parts-lower nf size q r =
+    let none : r .kind ≤ 4 → PartsLower q r = λ k. (λ h. absurd (omega arith), λ h. absurd (omega arith)) in
+    ⊎-elim (λ (k, x, a, b). none (omega arith))
+    (⊎-elim (λ (k, x, a, b). none (omega arith))
+    (⊎-elim (λ (k, x, a, b). none (omega arith))
+    (⊎-elim (λ (k, x, a, b). none (omega arith))
+    (⊎-elim (λ (k, x, a, b). none (omega arith))
+    (⊎-elim (λ (k, x, a, b). (λ h. a, λ h. absurd (omega arith)))
+    (⊎-elim (λ (k, x, a, b). (λ h. a, λ h. b))
+    (λ (k, x, a, b). (λ h. a, λ h. b))))))))
 
 -- document 01, "Formula": formula q holds in a state exactly when what it says is so
 pub says-exactly :
