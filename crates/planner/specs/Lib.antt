@@ -1,3 +1,4 @@
 pub mod Numbers
+pub mod Causes
 pub mod Answers
 pub mod Reports

@@ -86,13 +86,17 @@ module _ (s : List ℕ) where
       (then (lowest-placed 8 _ _ (λ i. program-exactly _ _ _ _)) 7 {H = (1 ≤ l .p) × Lower programs (l .p)} (omega arith) (λ g e. (g, kept-lower _ _ _ _ e))
       (last (unplaced 9 _ (too-high _ _)) 8 (omega arith) _)))))))))
 
+  -- the check answers by the causes
+  pub answered-by : By (Cause s) (checkOf s)
+  answered-by = told .by tt
+
   -- refused with k and p exactly when k is the least number whose cause holds and p its place
-  pub refused-exactly : (k p : ℕ) → (checkOf s ≡ Refused k p) ↔ First s k p
-  refused-exactly k p = (λ e. let t = subst (By (Cause s)) e (told .by tt) in (t .0, t .1), first-answered (Cause s) k p (checkOf s) (told .by tt))
+  pub refused-exactly : (k p : ℕ) → (checkOf s ≡ Refused k p) ↔ First (Cause s) k p
+  refused-exactly k p = (λ e. let t = subst (By (Cause s)) e answered-by in (t .0, t .1), first-answered (Cause s) k p (checkOf s) answered-by)
 
   -- accepted exactly when no cause holds
   pub accepted-exactly : Accepts s ↔ ((k p : ℕ) → ¬ Cause s k p)
-  accepted-exactly = (λ (w, e). subst (By (Cause s)) e (told .by tt), none-accepted (Cause s) (checkOf s) (told .by tt))
+  accepted-exactly = (λ (w, e). subst (By (Cause s)) e answered-by, none-accepted (Cause s) (checkOf s) answered-by)
 
   module _ (accepted : Accepts s) where
     figure-exactly : (w : ℕ) → Figure s w ↔ (w ≡ accepted .0)

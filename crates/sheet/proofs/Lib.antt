@@ -6,3 +6,4 @@ pub mod Numbers
 pub mod OtherNotes
 pub mod Tables
 pub mod Rising
+pub mod Called

@@ -15,7 +15,8 @@ abbrev pub Numbered : Checked → Type 0
 Numbered (Accepted w) = Unit {0}
 Numbered (Refused n p) = (1 ≤ n) × (n ≤ 9)
 
-caused : (s : List ℕ) (n p : ℕ) → Cause s n p → (1 ≤ n) × (n ≤ 9)
+-- and so is one that has a cause
+pub caused : (s : List ℕ) (n p : ℕ) → Cause s n p → (1 ≤ n) × (n ≤ 9)
 caused s n p =
     ⊎-elim (λ c. let e = c .0 in (omega arith, omega arith))
     (⊎-elim (λ c. let e = c .0 in (omega arith, omega arith))
@@ -30,6 +31,6 @@ caused s n p =
 pub numbered : (s : List ℕ) → Numbered (checkOf s)
 numbered s = go (checkOf s) (λ n p e. refused-exactly s n p .0 e)
   where
-    go : (x : Checked) → ((n p : ℕ) → x ≡ Refused n p → First s n p) → Numbered x
+    go : (x : Checked) → ((n p : ℕ) → x ≡ Refused n p → First (Cause s) n p) → Numbered x
     go (Accepted w) first = tt
     go (Refused n p) first = caused s n p (first n p refl .0)

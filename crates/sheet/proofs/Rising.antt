@@ -3,7 +3,7 @@
 use mathlib.Core.Path.{_≡_, refl, sym, _∙_, ap₂, subst}
 use mathlib.Core.Bool.{Bool, true, false, cond, false≢true}
 use mathlib.Core.Logic.{_⊎_, inl, inr, ⊎-elim, _↔_}
-use Prim.Native.Nat.{ℕ, _<_}
+use Prim.Native.Nat.{ℕ, _≤_, _<_}
 use native.Mathlib.Decide.{decLt}
 use native.Mathlib.Omega.{arith}
 use borrow.Author.Tests.{ltb-true, lt-ltb}
@@ -32,6 +32,19 @@ module _ (C : ℕ → ℕ → Type 0) where
   pub none-accepted : (x : Checked) → By C x → ((k p : ℕ) → ¬ C k p) → (w : ℕ) × (x ≡ Accepted w)
   none-accepted (Accepted w) none off = (w, refl)
   none-accepted (Refused j q) (d, lower, one) off = absurd (off j q d)
+
+-- causes that do not hold, before others
+pub wider : (L C : ℕ → ℕ → Type 0) → ((k p : ℕ) → ¬ L k p) → (x : Checked) → By C x → By (λ k p. L k p ⊎ C k p) x
+wider L C off (Accepted w) none = λ k p. ⊎-elim (off k p) (none k p)
+wider L C off (Refused k p) (c, least, one) = (inr c, λ j q l. ⊎-elim (off j q) (least j q l), λ q. ⊎-elim (λ c. absurd (off k q c)) (one q))
+
+-- a number that is given by the first causes, before others of higher numbers
+pub sooner : (L C : ℕ → ℕ → Type 0) (m k p : ℕ) → k ≤ m → ((j q : ℕ) → C j q → m < j) → By L (Refused k p) → By (λ k p. L k p ⊎ C k p) (Refused k p)
+sooner L C m k p h above (c, least, one) = (
+  inl c,
+  λ j q l. ⊎-elim (least j q l) (λ d. omega (arith, above j q d)),
+  λ q. ⊎-elim (one q) (λ d. absurd (omega (arith, above k q d))),
+)
 
 -- C are causes of numbers above m, and the answer x is by them where G is known
 pub record Told (m : ℕ) (G : Type 0) (C : ℕ → ℕ → Type 0) (x : Checked) : Type 0 where
@@ -65,21 +78,13 @@ module _ {G : Type 0} {m i : ℕ} {b : Bool} {L : ℕ → ℕ → Type 0} (d : D
     by = λ g. go g b refl;
   }
     where
-      wider : ((k p : ℕ) → ¬ L k p) → (x : Checked) → By C x → By (λ k p. L k p ⊎ C k p) x
-      wider off (Accepted w) none = λ k p. ⊎-elim (off k p) (none k p)
-      wider off (Refused k p) (c, least, one) = (
-        inr c,
-        λ j q l. ⊎-elim (off j q) (least j q l),
-        λ q. ⊎-elim (λ c. absurd (off k q c)) (one q),
-      )
-
       go : G → (c : Bool) → b ≡ c → By (λ k p. L k p ⊎ C k p) (cond c (Refused m i) x)
       go g true e = (
         inl (d .true-holds g e),
         λ j q l. ⊎-elim (λ c. omega (arith, d .number j q c)) (λ c. omega (arith, rest .above j q c)),
         λ q. ⊎-elim (λ c. d .holds-true g m q c .1) (λ c. absurd (omega (arith, rest .above m q c))),
       )
-      go g false e = wider (never g e) x (rest .by (more g e))
+      go g false e = wider L C (never g e) x (rest .by (more g e))
 
 -- a cause whose place is 0
 pub unplaced : {G X : Type 0} (m : ℕ) (b : Bool) → (G → (b ≡ true) ↔ X) → Decided G m 0 b (λ k p. (k ≡ m) × (p ≡ 0) × X)

@@ -34,8 +34,8 @@ Cause s number place =
     ⊎ ((number ≡ 9) × (place ≡ 0) × HeightAbove (programAt (programsIn s l)) (l .p) 16)
 
 -- "Checked in rising order": the cause of a number, and no cause of a lower one
-abbrev pub First : List ℕ → (number place : ℕ) → Type 0
-First s number place = Cause s number place × ((lower at : ℕ) → lower < number → ¬ Cause s lower at)
+abbrev pub First : (cause : ℕ → ℕ → Type 0) → (number place : ℕ) → Type 0
+First cause number place = cause number place × ((lower at : ℕ) → lower < number → ¬ cause lower at)
 
 -- "Checking returns this figure": w is (D + 1) × (64 + 3 × (1 + 2 × h × D)), where "h is the height, plus 2 if any record has kind 11"
 abbrev pub Figure : List ℕ → (w : ℕ) → Type 0
