@@ -1,29 +1,39 @@
 -- Demands 1, 2 and 3 of the mission, about the calls `plan` and `replay` as a user makes them: sheet, lent work and lent trace in; answer
 -- and final content of the lent slices out. The contracts in src/lib.rt say that the calls equal answerOf, traceOf, planWork, replyOf
 -- and replayWork (specs/Answers.antt); the theorems here say what those are, in the demands' words. Assumes nothing.
-use mathlib.Core.Path.{_≡_, refl, sym, _∙_, ap}
-use mathlib.Core.Bool.{Bool, true, false}
+use mathlib.Core.Path.{_≡_, refl, sym, _∙_, ap, ap₂, subst}
+use mathlib.Core.Bool.{Bool, true, false, cond}
 use mathlib.Core.List.{List, [], _++_, List·Memᴰ}
 use mathlib.Core.Logic.{_↔_, Iff·trans}
-use Prim.Native.Nat.{ℕ, _+_, _≤_, _<_}
+use Prim.Native.Nat.{ℕ, _≤_, _<_}
 use native.Mathlib.Omega.{arith}
 use borrow.Author.Tests.{lt-ltb, le-ltb}
+use lib.Dec.{ltb}
 use lib.ListN.{length, take, drop, replicate}
 use lib.Seq.{take-at, drop-at}
+use Rattle.runs.specs.Search.{Verdict, plan, nothing, more}
+use Rattle.height.specs.Work.{workWords}
 use Rattle.sheet.specs.Check.{checkOf}
+use Rattle.sheet.specs.Notes.{FirstRecord, withNotes}
+use Rattle.sheet.proofs.OtherNotes.{check-same}
+use Rattle.sheet.specs.declared.Checked.{Checked}
 use Rattle.sheet.specs.declared.Checked.the-variants as checked
 use Rattle.demands.specs.Decoded.{boundOf}
+use Rattle.demands.specs.Held.{levelsOf}
 use Rattle.demands.specs.Planning as meant
-use Rattle.demands.specs.Planning.{planOf, replayOf, RunEndsFinal, HistoryOfRun, NoPlanAtAll, NoPlanWithinBound, NoRunEndsFinal, RunOf}
+use Rattle.demands.specs.Planning.{planOf, replayOf, answer, verdictOf, acceptsOf}
+use Rattle.demands.specs.Planning.{RunEndsFinal, HistoryOfRun, NoPlanAtAll, NoPlanWithinBound, NoRunEndsFinal, RunOf}
 use Rattle.demands.specs.Entries.{KnownEntry}
-use Rattle.demands.specs.Raised.{SameButBound}
-use Rattle.demands.proofs.Demands.{history-accepted, history-refused, plan-accepted-history, plan-transitions, plan-exactly}
-use Rattle.demands.proofs.Demands.{thirteen-exactly, thirteen-none-ends, fourteen-exactly, plan-stays-plan, thirteen-stays-thirteen}
+use Rattle.demands.specs.Raised.{withBound}
+use Rattle.demands.proofs.Demands.{plan-is, replay-is, history-accepted, history-refused, plan-accepted-history, plan-transitions}
+use Rattle.demands.proofs.Demands.{plan-exactly, thirteen-exactly, thirteen-none-ends, fourteen-exactly}
+use Rattle.demands.proofs.Demands.{raised-alone, raised-accepted, raised-plan-stays, raised-thirteen-stays}
 use Rattle.demands.proofs.Entries.{unknown-entry-no}
-use Rattle.planner.specs.Answers.{Stage, refused, searching, withWork, planStage, replayStage, planChecked, replayChecked, planAnswer, planAt, traced, traceAt, workAt, answerOf, traceOf, planWork, reply, replayAt, replyOf, replayWork}
-use Rattle.planner.specs.declared.Planned.{Planned}
+use Rattle.demands.proofs.Notes.{bound-same, plan-same, replay-same}
+use Rattle.planner.specs.Answers.{Stage, refused, searching, withWork, planStage, replayStage, planChecked, replayChecked}
+use Rattle.planner.specs.Answers.{planAnswer, planAt, traced, traceAt, workAt, answerOf, traceOf, planWork, reply, replayAt, replyOf, replayWork}
+use Rattle.planner.specs.Numbers.{planNumber, planMoves, planTransitions, replyNumber, replyYes}
 use Rattle.planner.specs.declared.Planned.the-variants as planned
-use Rattle.planner.specs.declared.Replayed.{Replayed}
 use Rattle.planner.specs.declared.Replayed.the-variants as replayed
 
 -- Demand 1: "turns away what it can't use by a number; what it returns and leaves in each lent slice is written down"
@@ -93,28 +103,45 @@ module _ (s : List ℕ) (w : ℕ) (accepted : checkOf s ≡ checked.Accepted w) 
     unfolding replyOf
     reply-is h = ap (λ (c : Stage). replayAt s h c) stage-replay
 
-    reply-iff : (r : meant.Replayed) (b : Bool) → (reply r ≡ reply (meant.replied b)) ↔ (r ≡ meant.replied b)
-    reply-iff (meant.replied true) true = (λ e. refl, λ e. refl)
-    reply-iff (meant.replied true) false = (λ e. cc, λ e. cc)
-    reply-iff (meant.replied false) true = (λ e. cc, λ e. cc)
-    reply-iff (meant.replied false) false = (λ e. refl, λ e. refl)
-    reply-iff (meant.Replayed.refused n p) true = (λ e. cc, λ e. cc)
-    reply-iff (meant.Replayed.refused n p) false = (λ e. cc, λ e. cc)
+    -- yes or no, as replay's definition says
+    yes-iff : (b : Bool) → (replyYes (reply (meant.replied b)) ≡ 1) ↔ (meant.replied b ≡ meant.replied true)
+    yes-iff true = (λ e. refl, λ e. refl)
+    yes-iff false = (λ e. absurd (omega arith), λ e. cc)
 
-    same-reply : (h : List ℕ) (b : Bool) → (replyOf s h (length work) ≡ reply (meant.replied b)) ↔ (replayOf s h ≡ meant.replied b)
-    same-reply h b = Iff·trans (λ e. sym (reply-is h) ∙ e, λ e. reply-is h ∙ e) (reply-iff (replayOf s h) b)
+    no-iff : (b : Bool) → (replyYes (reply (meant.replied b)) ≡ 0) ↔ (meant.replied b ≡ meant.replied false)
+    no-iff true = (λ e. absurd (omega arith), λ e. cc)
+    no-iff false = (λ e. refl, λ e. refl)
 
-    -- Demand 2: "A history is accepted exactly when some run of at most D transitions makes exactly those moves and ends final"
-    pub yes-exactly : (h : List ℕ) → (replyOf s h (length work) ≡ replayed.Yes) ↔ HistoryOfRun s h
-    yes-exactly h = Iff·trans (same-reply h true) (history-accepted s (w, accepted) h)
+    number-none : (b : Bool) → replyNumber (reply (meant.replied b)) ≡ 0
+    number-none true = refl
+    number-none false = refl
 
-    -- "Replay says yes or no": no exactly when there is no such run
-    pub no-exactly : (h : List ℕ) → (replyOf s h (length work) ≡ replayed.No) ↔ (¬ HistoryOfRun s h)
-    no-exactly h = Iff·trans (same-reply h false) (history-refused s (w, accepted) h)
+    module _ (h : List ℕ) where
+      meant-is : replayOf s h ≡ meant.replied (acceptsOf s h)
+      meant-is = replay-is s (w, accepted) h
 
-    -- "an unknown entry means no"
-    pub unknown-no : (h : List ℕ) (e : ℕ) → List·Memᴰ e h → ¬ KnownEntry s e → replyOf s h (length work) ≡ replayed.No
-    unknown-no h e k unknown = reply-is h ∙ ap reply (unknown-entry-no s (w, accepted) h e k unknown)
+      replied-as : replyOf s h (length work) ≡ reply (meant.replied (acceptsOf s h))
+      replied-as = reply-is h ∙ ap reply meant-is
+
+      -- no number
+      pub replied : replyNumber (replyOf s h (length work)) ≡ 0
+      replied = ap replyNumber replied-as ∙ number-none (acceptsOf s h)
+
+      -- Demand 2: "A history is accepted exactly when some run of at most D transitions makes exactly those moves and ends final"
+      pub yes-exactly : (replyYes (replyOf s h (length work)) ≡ 1) ↔ HistoryOfRun s h
+      yes-exactly =
+          Iff·trans (λ e. sym (ap replyYes replied-as) ∙ e, λ e. ap replyYes replied-as ∙ e)
+          (Iff·trans (yes-iff (acceptsOf s h)) (Iff·trans (λ e. meant-is ∙ e, λ e. sym meant-is ∙ e) (history-accepted s (w, accepted) h)))
+
+      -- "Replay says yes or no": no exactly when there is no such run
+      pub no-exactly : (replyYes (replyOf s h (length work)) ≡ 0) ↔ (¬ HistoryOfRun s h)
+      no-exactly =
+          Iff·trans (λ e. sym (ap replyYes replied-as) ∙ e, λ e. ap replyYes replied-as ∙ e)
+          (Iff·trans (no-iff (acceptsOf s h)) (Iff·trans (λ e. meant-is ∙ e, λ e. sym meant-is ∙ e) (history-refused s (w, accepted) h)))
+
+      -- "an unknown entry means no"
+      pub unknown-no : (e : ℕ) → List·Memᴰ e h → ¬ KnownEntry s e → replyYes (replyOf s h (length work)) ≡ 0
+      unknown-no e k unknown = ap replyYes (reply-is h ∙ ap reply (unknown-entry-no s (w, accepted) h e k unknown))
 
     module _ (trace : List ℕ) (long : boundOf s ≤ length trace) where
       stage-plan : planStage s (length work) (length trace) ≡ searching w
@@ -134,81 +161,143 @@ module _ (s : List ℕ) (w : ℕ) (accepted : checkOf s ≡ checked.Accepted w) 
       unfolding traceOf
       trace-is = ap (λ (c : Stage). traceAt s c trace) stage-plan
 
-      found-of : (a : meant.Planned) (n t : ℕ) → planAnswer a ≡ planned.Found n t → (h : List ℕ) × (a ≡ meant.found h t) × (length h ≡ n)
-      found-of (meant.found h u) n t e = (h, cc, cc)
-      found-of (meant.Planned.refused m p) n t e = let z : _≡_ {A = ℕ} 0 1 = cc in absurd (omega arith)
+      -- the answer's number, by the verdict
+      none-iff : (v : Verdict) → (planNumber (planAnswer (answer v)) ≡ 0) ↔ ((h : List ℕ) × (t : ℕ) × (answer v ≡ meant.found h t))
+      none-iff (plan h t) = (λ e. (h, t, refl), λ e. refl)
+      none-iff nothing = (λ e. absurd (omega arith), λ (h, t, e). cc)
+      none-iff more = (λ e. absurd (omega arith), λ (h, t, e). cc)
+
+      some-iff : (k : ℕ) → 1 ≤ k → (v : Verdict) → (planNumber (planAnswer (answer v)) ≡ k) ↔ (answer v ≡ meant.Planned.refused k 0)
+      some-iff k l (plan h t) = (λ e. absurd (omega arith), λ e. cc)
+      some-iff k l nothing = (λ e. ap (λ (n : ℕ). meant.Planned.refused n 0) e, λ e. cc)
+      some-iff k l more = (λ e. ap (λ (n : ℕ). meant.Planned.refused n 0) e, λ e. cc)
+
+      verdict-is : answerOf s (length work) (length trace) ≡ planAnswer (answer (verdictOf s))
+      verdict-is = answer-is ∙ ap planAnswer (plan-is s (w, accepted))
+
+      number-none-iff : (planNumber (answerOf s (length work) (length trace)) ≡ 0) ↔ ((h : List ℕ) × (t : ℕ) × (planOf s ≡ meant.found h t))
+      number-none-iff =
+          let e = ap planNumber verdict-is in
+          let q = plan-is s (w, accepted) in (
+            λ z. let r = none-iff (verdictOf s) .0 (sym e ∙ z) in (r .0, r .1, q ∙ r .2),
+            λ (h, t, f). e ∙ none-iff (verdictOf s) .1 (h, t, sym q ∙ f),
+          )
+
+      number-iff : (k : ℕ) → 1 ≤ k → (planNumber (answerOf s (length work) (length trace)) ≡ k) ↔ (planOf s ≡ meant.Planned.refused k 0)
+      number-iff k l =
+          let e = ap planNumber verdict-is in
+          let q = plan-is s (w, accepted) in
+          (λ z. q ∙ some-iff k l (verdictOf s) .0 (sym e ∙ z), λ f. e ∙ some-iff k l (verdictOf s) .1 (sym q ∙ f))
 
       -- "every plan handed out is such a history": the first n entries of the trace are the history of a run of t transitions, at most
       -- D, that ends final; replay says yes to it; the rest of the trace is untouched
       pub plan-is-run :
-          (n t : ℕ)
-          → answerOf s (length work) (length trace) ≡ planned.Found n t
-          → (h : List ℕ)
+          planNumber (answerOf s (length work) (length trace)) ≡ 0
+          → (let n = planMoves (answerOf s (length work) (length trace)) in
+          let t = planTransitions (answerOf s (length work) (length trace)) in
+          (h : List ℕ)
           × (length h ≡ n)
           × (take n (traceOf s (length work) trace) ≡ h)
           × (drop n (traceOf s (length work) trace) ≡ drop n trace)
           × (t ≤ boundOf s)
           × RunOf s h t
-          × (replyOf s h (length work) ≡ replayed.Yes)
-      plan-is-run n t e =
-          let f = found-of (planOf s) n t (sym answer-is ∙ e) in
+          × (replyYes (replyOf s h (length work)) ≡ 1))
+      plan-is-run e =
+          let f = number-none-iff .0 e in
           let h = f .0 in
-          let q = trace-is ∙ ap (λ (a : meant.Planned). traced a trace) (f .1) in
-          let r = plan-transitions s (w, accepted) h t (f .1) in (
+          let t = f .1 in
+          let a = answer-is ∙ ap planAnswer (f .2) in
+          let n = ap planMoves a in
+          let u = ap planTransitions a in
+          let q = trace-is ∙ ap (λ (a : meant.Planned). traced a trace) (f .2) in
+          let r = plan-transitions s (w, accepted) h t (f .2) in (
             h,
-            f .2,
-            ap (take n) q ∙ take-at h (drop (length h) trace) n (f .2),
-            ap (drop n) q ∙ drop-at h (drop (length h) trace) n (f .2) ∙ ap (λ (k : ℕ). drop k trace) (f .2),
-            r .0,
-            r .1,
-            reply-is h ∙ ap reply (plan-accepted-history s (w, accepted) h t (f .1)),
+            sym n,
+            ap₂ take n q ∙ take-at h (drop (length h) trace) (length h) refl,
+            ap₂ drop n q ∙ drop-at h (drop (length h) trace) (length h) refl ∙ ap (λ (k : ℕ). drop k trace) (sym n),
+            subst (λ (k : ℕ). k ≤ boundOf s) (sym u) (r .0),
+            subst (RunOf s h) (sym u) (r .1),
+            ap replyYes (reply-is h ∙ ap reply (plan-accepted-history s (w, accepted) h t (f .2))),
           )
 
       -- Demand 3: "A plan comes out exactly when some run of at most D transitions ends final"
-      pub found-exactly : ((n : ℕ) × (t : ℕ) × (answerOf s (length work) (length trace) ≡ planned.Found n t)) ↔ RunEndsFinal s
-      found-exactly =
-          Iff·trans (
-            λ (n, t, e). let f = found-of (planOf s) n t (sym answer-is ∙ e) in (f .0, t, f .1),
-            λ (h, t, e). (length h, t, answer-is ∙ ap planAnswer e),
-          )
-          (plan-exactly s (w, accepted))
-
-      refused-of : (a : meant.Planned) (n p : ℕ) → (planAnswer a ≡ planned.Refused n p) ↔ (a ≡ meant.Planned.refused n p)
-      refused-of (meant.found h t) n p = (λ e. cc, λ e. cc)
-      refused-of (meant.Planned.refused m q) n p = (λ e. cc, λ e. cc)
-
-      number-iff : (n : ℕ) → (answerOf s (length work) (length trace) ≡ planned.Refused n 0) ↔ (planOf s ≡ meant.Planned.refused n 0)
-      number-iff n = Iff·trans (λ e. sym answer-is ∙ e, λ e. answer-is ∙ e) (refused-of (planOf s) n 0)
+      pub found-exactly : (planNumber (answerOf s (length work) (length trace)) ≡ 0) ↔ RunEndsFinal s
+      found-exactly = Iff·trans number-none-iff (plan-exactly s (w, accepted))
 
       -- "13 exactly when none does and no run has D + 1"
-      pub thirteen : (answerOf s (length work) (length trace) ≡ planned.Refused 13 0) ↔ NoPlanAtAll s
-      thirteen = Iff·trans (number-iff 13) (thirteen-exactly s (w, accepted))
+      pub thirteen : (planNumber (answerOf s (length work) (length trace)) ≡ 13) ↔ NoPlanAtAll s
+      thirteen = Iff·trans (number-iff 13 (omega arith)) (thirteen-exactly s (w, accepted))
 
-      -- 13 at every length: no run of any length ends final
-      pub thirteen-at-every-length : answerOf s (length work) (length trace) ≡ planned.Refused 13 0 → NoRunEndsFinal s
-      thirteen-at-every-length e = thirteen-none-ends s (w, accepted) (number-iff 13 .0 e)
+      -- so no run of any length ends final: there is no plan at any bound
+      pub thirteen-at-every-length : planNumber (answerOf s (length work) (length trace)) ≡ 13 → NoRunEndsFinal s
+      thirteen-at-every-length e = thirteen-none-ends s (w, accepted) (number-iff 13 (omega arith) .0 e)
 
       -- "14 exactly when none does and some run has D + 1"
-      pub fourteen : (answerOf s (length work) (length trace) ≡ planned.Refused 14 0) ↔ NoPlanWithinBound s
-      fourteen = Iff·trans (number-iff 14) (fourteen-exactly s (w, accepted))
+      pub fourteen : (planNumber (answerOf s (length work) (length trace)) ≡ 14) ↔ NoPlanWithinBound s
+      fourteen = Iff·trans (number-iff 14 (omega arith)) (fourteen-exactly s (w, accepted))
 
-      -- under a number the trace is untouched
-      pub trace-untouched : (n p : ℕ) → answerOf s (length work) (length trace) ≡ planned.Refused n p → traceOf s (length work) trace ≡ trace
-      trace-untouched n p e = trace-is ∙ ap (λ (a : meant.Planned). traced a trace) (refused-of (planOf s) n p .0 (sym answer-is ∙ e))
+      -- "Trace is untouched under every number"
+      pub trace-untouched : (k : ℕ) → 1 ≤ k → planNumber (answerOf s (length work) (length trace)) ≡ k → traceOf s (length work) trace ≡ trace
+      trace-untouched k l e = trace-is ∙ ap (λ (a : meant.Planned). traced a trace) (number-iff k l .0 e)
 
--- "Raising D alone keeps a plan a plan and 13 a 13", the areas lent for writing being long enough for each call and holding anything
+-- "Raising D alone keeps a plan a plan and 13 a 13": an accepted sheet, with a higher D put in; the areas lent for writing are long
+-- enough for each call and hold anything
 module _
-    (s s′ : List ℕ) (w w′ : ℕ) (accepted : checkOf s ≡ checked.Accepted w) (accepted′ : checkOf s′ ≡ checked.Accepted w′)
-    (but : SameButBound s s′) (raised : boundOf s ≤ boundOf s′)
+    (s : List ℕ) (w : ℕ) (accepted : checkOf s ≡ checked.Accepted w) (d : ℕ) (raised : boundOf s ≤ d) (small : d ≤ 64)
     (work trace work′ trace′ : List ℕ) (enough : w ≤ length work) (long : boundOf s ≤ length trace)
-    (enough′ : w′ ≤ length work′) (long′ : boundOf s′ ≤ length trace′) where
-  pub plan-stays : (n t : ℕ) → answerOf s (length work) (length trace) ≡ planned.Found n t → (m : ℕ) × (u : ℕ) × (answerOf s′ (length work′) (length trace′) ≡ planned.Found m u)
-  plan-stays n t e =
-      let f = found-of s w accepted work enough trace long (planOf s) n t (sym (answer-is s w accepted work enough trace long) ∙ e) in
-      let r = plan-stays-plan s s′ (w, accepted) (w′, accepted′) but raised (f .0) t (f .1) in
-      (length (r .0), r .1, answer-is s′ w′ accepted′ work′ enough′ trace′ long′ ∙ ap planAnswer (r .2))
+    (enough′ : workWords (levelsOf s) d ≤ length work′) (long′ : d ≤ length trace′) where
+  accepted′ : checkOf (withBound s d) ≡ checked.Accepted (workWords (levelsOf s) d)
+  accepted′ = raised-accepted s (w, accepted) d small
 
-  pub thirteen-stays : answerOf s (length work) (length trace) ≡ planned.Refused 13 0 → answerOf s′ (length work′) (length trace′) ≡ planned.Refused 13 0
+  longer : boundOf (withBound s d) ≤ length trace′
+  longer = omega (arith, raised-alone s (w, accepted) d .1)
+
+  pub plan-stays : planNumber (answerOf s (length work) (length trace)) ≡ 0 → planNumber (answerOf (withBound s d) (length work′) (length trace′)) ≡ 0
+  plan-stays e =
+      let f = number-none-iff s w accepted work enough trace long .0 e in
+      number-none-iff (withBound s d) _ accepted′ work′ enough′ trace′ longer .1 (raised-plan-stays s (w, accepted) d raised small (f .0) (f .1) (f .2))
+
+  pub thirteen-stays : planNumber (answerOf s (length work) (length trace)) ≡ 13 → planNumber (answerOf (withBound s d) (length work′) (length trace′)) ≡ 13
   thirteen-stays e =
-      number-iff s′ w′ accepted′ work′ enough′ trace′ long′ 13 .1
-      (thirteen-stays-thirteen s s′ (w, accepted) (w′, accepted′) but raised (number-iff s w accepted work enough trace long 13 .0 e))
+      number-iff (withBound s d) _ accepted′ work′ enough′ trace′ longer 13 (omega arith) .1
+      (raised-thirteen-stays s (w, accepted) d raised small (number-iff s w accepted work enough trace long 13 (omega arith) .0 e))
+
+-- "Bytes before that point are notes, never interpreted": under any other notes the same answers, and the same is left
+module _ (s other : List ℕ) (first : FirstRecord s) where
+  stage-same : (work trace : ℕ) → planStage (withNotes s other) work trace ≡ planStage s work trace
+  stage-same work trace = ap (planChecked (withNotes s other) work trace) (check-same s other first) ∙ go (checkOf s)
+    where
+      go : (c : Checked) → planChecked (withNotes s other) work trace c ≡ planChecked s work trace c
+      go (checked.Accepted w) = ap (λ (b : ℕ). cond (ltb trace b) (refused 10 0) (withWork work w)) (bound-same s other first)
+      go (checked.Refused n p) = refl
+
+  pub answer-same : (work trace : ℕ) → answerOf (withNotes s other) work trace ≡ answerOf s work trace
+  unfolding answerOf
+  answer-same work trace = ap (planAt (withNotes s other)) (stage-same work trace) ∙ go (planStage s work trace)
+    where
+      go : (c : Stage) → planAt (withNotes s other) c ≡ planAt s c
+      go (refused n p) = refl
+      go (searching w) = ap planAnswer (plan-same s other first)
+
+  pub trace-same : (work : ℕ) (trace : List ℕ) → traceOf (withNotes s other) work trace ≡ traceOf s work trace
+  unfolding traceOf
+  trace-same work trace = ap (λ (c : Stage). traceAt (withNotes s other) c trace) (stage-same work (length trace)) ∙ go (planStage s work (length trace))
+    where
+      go : (c : Stage) → traceAt (withNotes s other) c trace ≡ traceAt s c trace
+      go (refused n p) = refl
+      go (searching w) = ap (λ (a : meant.Planned). traced a trace) (plan-same s other first)
+
+  pub reply-same : (h : List ℕ) (work : ℕ) → replyOf (withNotes s other) h work ≡ replyOf s h work
+  unfolding replyOf
+  reply-same h work = ap (λ (c : Checked). replayAt (withNotes s other) h (replayChecked work c)) (check-same s other first) ∙ go (replayStage s work)
+    where
+      go : (c : Stage) → replayAt (withNotes s other) h c ≡ replayAt s h c
+      go (refused n p) = refl
+      go (searching w) = ap reply (replay-same s other first h)
+
+  pub work-same : (work : List ℕ) (trace : ℕ) → (planWork (withNotes s other) work trace ≡ planWork s work trace) × (replayWork (withNotes s other) work ≡ replayWork s work)
+  unfolding planWork replayWork
+  work-same work trace = (
+    ap (λ (c : Stage). workAt c work) (stage-same (length work) trace),
+    ap (λ (c : Checked). workAt (replayChecked (length work) c) work) (check-same s other first),
+  )
