@@ -8,6 +8,7 @@ ghost use Rattle.sheet.specs.declared.Checked.the-variants.{Accepted};
 ghost use Rattle.lookup.specs.LookUp.{lookOf};
 ghost use Rattle.search.specs.Outcome.{isFound};
 ghost use Rattle.planner.specs.Answers.{answerOf, traceOf, planWork, replyOf, replayWork};
+ghost use Rattle.planner.specs.declared.Planned.the-variants.{Refused};
 ghost use Rattle.planner.specs.Reports.{plannedAs, repliedAs};
 use lookup::Looked;
 use search::Outcome;
@@ -50,19 +51,21 @@ pub fn look_up(s: &[u8], x: usize) -> Looked
     view::look_up(s, x)
 }
 
+// A number whose place is 0.
+fn refused(number: u32) -> Planned
+    ensures { λ r. ⌜ r ≡ Refused number 0 ⌝ }
+{
+    let place = 0;
+    Planned::Refused { number, place }
+}
+
 fn answer_of(o: Outcome) -> Planned
     ensures { λ r. ⌜ r ≡ plannedAs o ⌝ }
 {
     match o {
         Outcome::Found { n, t } => Planned::Found { n, t },
-        Outcome::Nothing => Planned::Refused {
-            number: 13,
-            place: 0,
-        },
-        Outcome::More => Planned::Refused {
-            number: 14,
-            place: 0,
-        },
+        Outcome::Nothing => refused(13),
+        Outcome::More => refused(14),
     }
 }
 
@@ -85,16 +88,10 @@ fn plan_accepted(s: &[u8], words: usize, work: &mut [u32], trace: &mut [u16]) ->
 {
     let l = sheet::layout_of(s);
     if trace.len() < l.d {
-        return Planned::Refused {
-            number: 10,
-            place: 0,
-        };
+        return refused(10);
     }
     if work.len() < words {
-        return Planned::Refused {
-            number: 11,
-            place: 0,
-        };
+        return refused(11);
     }
     let none = [0u16; 1];
     answer_of(search::run(s, l, true, &none[..0], &mut work[..words], trace))
@@ -113,20 +110,20 @@ pub fn plan(s: &[u8], work: &mut [u32], trace: &mut [u16]) -> Planned
 }
 
 // Replays on an accepted sheet that requires so many words.
-fn replay_accepted(s: &[u8], words: usize, history: &[u16], work: &mut [u32]) -> Replayed
-    requires { ⌜ checkOf (now s) ≡ Accepted words ⌝ }
+fn replay_accepted(s: &[u8], required: usize, history: &[u16], work: &mut [u32]) -> Replayed
+    requires { ⌜ checkOf (now s) ≡ Accepted required ⌝ }
     ensures { λ r. ⌜ r ≡ replyOf (now (s .entry)) (now (history .entry)) (length (now (work .entry))) ⌝ }
     ensures { λ _. ⌜ now (work .exit) ≡ replayWork (now (s .entry)) (now (work .entry)) ⌝ }
 {
     let l = sheet::layout_of(s);
-    if work.len() < words {
+    if work.len() < required {
         return Replayed::Refused {
             number: 11,
             place: 0,
         };
     }
     let mut trace = [0u16; 64];
-    reply_of(search::run(s, l, false, history, &mut work[..words], &mut trace))
+    reply_of(search::run(s, l, false, history, &mut work[..required], &mut trace))
 }
 
 // Replays a history: whether some run of at most D transitions makes exactly these moves and ends final.

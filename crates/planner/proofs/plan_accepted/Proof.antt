@@ -25,20 +25,11 @@ start-from-else2 c = start-from-layout-of (c .before .before .before)
 abbrev run-from-returns-3 : tie.After-answer-of → tie.After-run
 run-from-returns-3 c = c .before .before .before .before .before
 
+refused-requires : tie.Need-refused-requires
+refused-requires c κs = search needs
+
 returns : tie.Need-returns
 returns c =
-    let at-start = start-from-layout-of (c .before .before) in
-    let s = now (at-start .args .s) in
-    let w = at-start .args .words in
-    let work = now (at-start .args .work) in
-    let trace = now (at-start .args .trace) in
-    let p = at-start .pre in
-    let e = ap (λ (l : Layout). l .d) (c .before .before .layout-of .ensures .0) in
-    let r = ten s w p work trace (omega (arith, e, c .if1 .taken)) in
-    (sym (r .0), (sym (r .1), sym (r .2)))
-
-returns-2 : tie.Need-returns-2
-returns-2 c =
     let at-layout-of = c .before .before .before in
     let at-start = start-from-layout-of at-layout-of in
     let s = now (at-start .args .s) in
@@ -47,8 +38,26 @@ returns-2 c =
     let trace = now (at-start .args .trace) in
     let p = at-start .pre in
     let e = ap (λ (l : Layout). l .d) (at-layout-of .layout-of .ensures .0) in
-    let r = eleven s w p work (c .if2 .taken) trace (omega (arith, e, c .before .if1 .left)) in
-    (sym (r .0), (sym (r .1), sym (r .2)))
+    let r = ten s w p work trace (omega (arith, e, c .before .if1 .taken)) in
+    (c .refused .ensures ∙ sym (r .0), (sym (r .1), sym (r .2)))
+
+refused-requires-2 : tie.Need-refused-requires-2
+refused-requires-2 c κs = search needs
+
+returns-2 : tie.Need-returns-2
+returns-2 c =
+    let at-if2 = c .before in
+    let at-if1 = at-if2 .before in
+    let at-layout-of = at-if1 .before .before in
+    let at-start = start-from-layout-of at-layout-of in
+    let s = now (at-start .args .s) in
+    let w = at-start .args .words in
+    let work = now (at-start .args .work) in
+    let trace = now (at-start .args .trace) in
+    let p = at-start .pre in
+    let e = ap (λ (l : Layout). l .d) (at-layout-of .layout-of .ensures .0) in
+    let r = eleven s w p work (at-if2 .if2 .taken) trace (omega (arith, e, at-if1 .if1 .left)) in
+    (c .refused2 .ensures ∙ sym (r .0), (sym (r .1), sym (r .2)))
 
 array-share-prefix-none : tie.Need-array-share-prefix-none
 array-share-prefix-none c = search needs
@@ -114,7 +123,9 @@ plan-accepted-spec =
     tie.close
     (tie.spec
     layout-of-requires
+    refused-requires
     returns
+    refused-requires-2
     returns-2
     array-share-prefix-none
     slice-aggregate-run

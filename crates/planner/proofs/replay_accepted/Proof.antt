@@ -24,7 +24,7 @@ returns c =
     let at-start = start-from-layout-of (c .before) in
     let s = now (at-start .args .s) in
     let h = now (at-start .args .history) in
-    let w = at-start .args .words in
+    let w = at-start .args .required in
     let work = now (at-start .args .work) in
     let p = at-start .pre in
     let r = eleven-reply s w p work (c .if1 .taken) h in
@@ -36,7 +36,7 @@ slice-relend-prefix-run c = search needs
 slice-aggregate-run : tie.Need-slice-aggregate-run
 slice-aggregate-run c =
     let at-start = start-from-else1 (c .before) in
-    sym (length-take-le (at-start .args .words) (now (at-start .args .work)) (c .before .if1 .left))
+    sym (length-take-le (at-start .args .required) (now (at-start .args .work)) (c .before .if1 .left))
 
 slice-aggregate-run-2 : tie.Need-slice-aggregate-run-2
 slice-aggregate-run-2 c = search needs
@@ -47,7 +47,7 @@ run-requires c κs =
     let at-start = start-from-layout-of at-layout-of in
     let s = now (at-start .args .s) in
     let h = now (at-start .args .history) in
-    let w = at-start .args .words in
+    let w = at-start .args .required in
     let work = now (at-start .args .work) in
     let p = at-start .pre in
     let f = laid s (w, p) in
@@ -66,7 +66,7 @@ returns-2 c =
     let at-start = start-from-else1 at-if1 in
     let s = now (at-start .args .s) in
     let h = now (at-start .args .history) in
-    let w = at-start .args .words in
+    let w = at-start .args .required in
     let work = now (at-start .args .work) in
     let p = at-start .pre in
     let r = replaying s w p work (at-if1 .if1 .left) h _ _ (at-run .run .result) (at-run .run .ensures .0) in
