@@ -1,16 +1,17 @@
--- The laws of performing an action. The values after the effects from some number on are those after the later ones, with the value of the
--- effect at that number put over them where its condition holds; and where the truths that conditions are read from are those of a world,
--- the outcome is golog's, since each definition here differs from golog's in nothing else. Assumes nothing.
-use Prim.Native.Nat.{ℕ, zero, suc, _+_, _<_}
+-- The laws of performing an action. A search through the effects keeps what is still to come equal to what the whole range gives; values
+-- are changed place by place; and where the truths that conditions are read from are those of a world, the outcome is golog's, since each
+-- definition here differs from golog's in nothing else. Assumes nothing.
+use Prim.Native.Nat.{ℕ, zero, suc, _+_, _-_, _≤_, _<_}
 use mathlib.Core.Path.{_≡_, refl, sym, ap, _∙_}
-use mathlib.Core.Bool.{Bool, true, false, cond, and-true, and-false}
+use mathlib.Core.Bool.{Bool, true, false}
 use mathlib.Core.List.{List, [], _∷_}
+use native.Mathlib.Numerals.{add-one}
 use native.Mathlib.Omega.{arith}
 use native.Mathlib.Decide.{decLt}
-use borrow.Author.Tests.{eqb-true, eqb-false, lt-ltb}
+use borrow.Author.Tests.{ne-eqb, lt-ltb}
 use lib.Dec.{eqb}
-use lib.Seq.{ext-getD, getD-set-same, getD-set-other}
-use lib.ListN.{getD, length, set, length-set}
+use lib.Seq.{ext-getD}
+use lib.ListN.{getD, length}
 use Rattle.records.specs.declared.Effect.{Effect}
 use Rattle.records.specs.Records.{effectAt, actionAt}
 use Rattle.golog.specs.declared.State.{State}
@@ -18,7 +19,59 @@ use Rattle.golog.specs.World.{start, each, given, changed, perform}
 use Rattle.golog.specs.Decoded.{world}
 use Rattle.golog.proofs.Moves.{each-at}
 use Rattle.state.specs.Truths.{Held}
-use Rattle.state.specs.Performed.{givenBy, changedBy, performBy, Judged}
+use Rattle.state.specs.Performed.{changesBy, givenBy, changedBy, performBy, Names, Judged}
+use Rattle.state.proofs.Laid.{Laid}
+
+module _ (effects : List ℕ) (held : List Bool) (x old : ℕ) where
+  given-none : (i : ℕ) → givenBy effects held x old i 0 ≡ old
+  unfolding givenBy
+  given-none i = refl
+
+  given-here : (i k : ℕ) → changesBy (effectAt effects i) held x ≡ true → givenBy effects held x old i (suc k) ≡ effectAt effects i .value
+  unfolding givenBy
+  given-here i k e = rw e
+
+  given-later : (i k : ℕ) → changesBy (effectAt effects i) held x ≡ false → givenBy effects held x old i (suc k) ≡ givenBy effects held x old (suc i) k
+  unfolding givenBy
+  given-later i k e = rw (e, givenBy)
+
+  -- the effects before number i change nothing
+  pub record Passed (first count value i : ℕ) : Type 0 where
+    pub «from» : first ≤ i
+    pub to : i ≤ first + count
+    pub kept : value ≡ old
+    pub same : givenBy effects held x old i (first + count - i) ≡ givenBy effects held x old first count
+
+  pub passed-none : (first count : ℕ) → Passed first count old first
+  passed-none first count = record { «from» = omega arith; to = omega arith; kept = refl; same = ap (givenBy effects held x old first) (omega arith) }
+
+  module _ {first count value i : ℕ} (p : Passed first count value i) where
+    left : i < first + count → first + count - i ≡ suc (first + count - (i + 1))
+    left l = omega arith
+
+    -- effect i is e, and the flag says whether it changes the fluent
+    module _ (l : i < first + count) {e : Effect} (r : e ≡ effectAt effects i) {flag : Bool} (f : flag ≡ changesBy e held x) where
+      pub passed-more : flag ≡ false → Passed first count value (i + 1)
+      passed-more t = record {
+        «from» = omega arith;
+        to = omega arith;
+        kept = p .kept;
+        same =
+            ap (λ (j : ℕ). givenBy effects held x old j (first + count - (i + 1))) (add-one i)
+            ∙ sym (given-later i (first + count - (i + 1)) (ap (λ (e : Effect). changesBy e held x) (sym r) ∙ sym f ∙ t))
+            ∙ ap (givenBy effects held x old i) (sym (left l))
+            ∙ p .same;
+      }
+
+      pub passed-found : flag ≡ true → e .value ≡ givenBy effects held x old first count
+      passed-found t =
+          ap (λ (e : Effect). e .value) r
+          ∙ sym (given-here i (first + count - (i + 1)) (ap (λ (e : Effect). changesBy e held x) (sym r) ∙ sym f ∙ t))
+          ∙ ap (givenBy effects held x old i) (sym (left l))
+          ∙ p .same
+
+    pub passed-all : first + count ≤ i → value ≡ givenBy effects held x old first count
+    passed-all l = p .kept ∙ sym (given-none i) ∙ ap (givenBy effects held x old i) (omega arith) ∙ p .same
 
 length-each : (f : ℕ → ℕ → ℕ) (x : ℕ) (l : List ℕ) → length (each f x l) ≡ length l
 unfolding each
@@ -30,46 +83,31 @@ unfolding each
 each-same f g h x [] = refl
 each-same f g h x (v ∷ l) = rw (h x v, each-same f g h (suc x) l)
 
-each-kept : (x : ℕ) (l : List ℕ) → each (λ (y v : ℕ). v) x l ≡ l
-unfolding each
-each-kept x [] = refl
-each-kept x (v ∷ l) = ap (λ (k : List ℕ). v ∷ k) (each-kept (suc x) l)
-
--- place y put to v
-each-set : (f : ℕ → ℕ → ℕ) (y v : ℕ) (l : List ℕ) → set (each f 0 l) y v ≡ each (λ (x old : ℕ). cond (eqb y x) v (f x old)) 0 l
-each-set f y v l =
-    let n : length (set (each f 0 l) y v) ≡ length l = length-set (each f 0 l) y v ∙ length-each f 0 l in
-    ext-getD 0 _ _ (n ∙ sym (length-each _ 0 l)) (λ x h. pick x (omega arith) (eqb y (0 + x)) refl ∙ sym (each-at _ 0 l x (omega arith)))
-  where
-    pick : (x : ℕ) → x < length l → (t : Bool) → eqb y (0 + x) ≡ t → getD (set (each f 0 l) y v) x 0 ≡ cond t v (f (0 + x) (getD l x 0))
-    pick x h true q = let e : x ≡ y = omega (arith, eqb-true y (0 + x) q) in rw e (getD-set-same (each f 0 l) y v 0 (omega (arith, length-each f 0 l)))
-    pick x h false q = getD-set-other (each f 0 l) y x v 0 (λ w. eqb-false y (0 + x) q (omega arith)) ∙ each-at f 0 l x h
-
-module _ (effects : List ℕ) (held : List Bool) (values : List ℕ) where
-  pub changed-none : (i k : ℕ) → k ≡ 0 → values ≡ changedBy effects held i k values
-  unfolding changedBy givenBy
-  changed-none i k e = rw e (sym (each-kept 0 values))
-
-  given-here : (x old i k : ℕ) → getD held (effectAt effects i .condition) false ≡ true → cond (eqb (effectAt effects i .fluent) x) (effectAt effects i .value) (givenBy effects held x old (suc i) k) ≡ givenBy effects held x old i (suc k)
+module _ (effects : List ℕ) (held : List Bool) (n : ℕ) where
+  -- no effect names a fluent from n on
+  given-stays : (x old k first : ℕ) → Names effects n first k → n ≤ x → givenBy effects held x old first k ≡ old
   unfolding givenBy
-  given-here x old i k t = rw (t, and-true, givenBy)
+  given-stays x old zero first h l = refl
+  given-stays x old (suc k) first h l =
+      let other : eqb (effectAt effects first .fluent) x ≡ false = ne-eqb _ x (λ (e : effectAt effects first .fluent ≡ x). omega (arith, h first (omega arith) (omega arith))) in
+      rw (other, givenBy) (given-stays x old k (suc first) (λ i a b. h i (omega arith) (omega arith)) l)
 
-  given-later : (x old i k : ℕ) → getD held (effectAt effects i .condition) false ≡ false → givenBy effects held x old (suc i) k ≡ givenBy effects held x old i (suc k)
-  unfolding givenBy
-  given-later x old i k t = rw (t, and-false, givenBy)
-
-  -- effect i before the k effects from number j on
-  module _ {new : List ℕ} (i j k m : ℕ) (p : j ≡ suc i) (q : m ≡ suc k) (h : new ≡ changedBy effects held j k values) {e : Effect} (r : e ≡ effectAt effects i) where
-    pub changed-here : getD held (e .condition) false ≡ true → set new (e .fluent) (e .value) ≡ changedBy effects held i m values
-    unfolding changedBy
-    changed-here t = rw (h, p, q, r) (each-set _ _ _ values ∙ each-same _ _ (λ x old. given-here x old i k (rw (← r) t)) 0 values)
-
-    pub changed-later : getD held (e .condition) false ≡ false → new ≡ changedBy effects held i m values
-    unfolding changedBy
-    changed-later t = rw (h, p, q) (each-same _ _ (λ x old. given-later x old i k (rw (← r) t)) 0 values)
-
-  pub changed-all : {new : List ℕ} (i k first count : ℕ) → i ≡ first → k ≡ count → new ≡ changedBy effects held i k values → new ≡ changedBy effects held first count values
-  changed-all i k first count p q h = rw (← p, ← q) h
+  -- values written up to the number that no effect passes are those after all effects
+  pub changed-all :
+      (first count : ℕ) {x : ℕ} {values new : List ℕ}
+      → Names effects n first count
+      → n ≤ x
+      → Laid 0 (λ (y : ℕ). givenBy effects held y (getD values y 0) first count) values new x
+      → new ≡ changedBy effects held first count values
+  unfolding changedBy
+  changed-all first count {x} {values} {new} h l L =
+      ext-getD 0 new _ (L .len ∙ sym (length-each _ 0 values))
+      (λ j b. pick j (decLt j x) (omega (arith, L .len)) ∙ sym (each-at _ 0 values j (omega (arith, L .len))))
+    where
+      pick : (j : ℕ) → Dec (j < x) → j < length values → getD new j 0 ≡ givenBy effects held (0 + j) (getD values j 0) first count
+      pick j (yes q) b =
+          ap (λ (y : ℕ). getD new y 0) (omega arith) ∙ L .laid j q ∙ ap (λ (y : ℕ). givenBy effects held y (getD values j 0) first count) (omega arith)
+      pick j (no q) b = L .above j (omega arith) ∙ sym (given-stays (0 + j) (getD values j 0) count first h (omega arith))
 
 -- where `held` has what the first n formulas say in s
 module _ (formulas effects actions : List ℕ) (s : State) (n : ℕ) (held : List Bool) (H : Held (world formulas effects actions) s n held) where

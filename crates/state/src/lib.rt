@@ -7,9 +7,10 @@ ghost use Rattle.records.specs.Records.{formulaAt};
 ghost use Rattle.golog.specs.declared.State.{State};
 ghost use Rattle.golog.specs.World.{truthOf};
 ghost use Rattle.state.specs.Truths.{truthsOf};
-ghost use Rattle.state.specs.Performed.{changedBy, performBy, Names, Performable};
+ghost use Rattle.state.specs.Performed.{changesBy, givenBy, changedBy, performBy, Names, Performable};
 ghost use Rattle.state.specs.Header.{StateAt, StatePut};
 use golog::State;
+use records::Effect;
 
 // The value of fluent x, 0 past the end.
 fn value_in(values: &[u8], x: usize) -> usize
@@ -56,21 +57,50 @@ pub fn truths(formulas: &[u8], n: usize, s: State, held: &mut [bool])
     }
 }
 
-// The values after an action's effects, put from the last to the first, so that the first one that names a fluent wins.
-fn changed(effects: &[u8], first: usize, count: usize, held: &[bool], values: [u8; 32]) -> [u8; 32]
+// Whether an effect names fluent x and its condition holds.
+fn changes(e: Effect, held: &[bool], x: usize) -> bool
+    ensures { λ r. ⌜ r ≡ changesBy e (now (held .entry)) x ⌝ }
+{
+    (e.fluent == x) & records::holds_in(held, e.condition)
+}
+
+// The new value of fluent x under an action's effects: the first one that changes it gives it.
+fn new_value(effects: &[u8], first: usize, count: usize, held: &[bool], x: usize, old: u8) -> u8
     requires { ⌜ 4 * (first + count) ≤ length (now effects) ⌝ }
-    requires { ⌜ Names (now effects) 32 first count ⌝ }
+    ensures { λ r. ⌜ r ≡ givenBy (now (effects .entry)) (now (held .entry)) x old first count ⌝ }
+{
+    let end = first + count;
+    let mut value = old;
+    let mut i = first;
+    'effects: while i < end {
+        let e = records::effect_at(effects, i);
+        if changes(e, held, x) {
+            value = e.value as u8;
+            break 'effects;
+        }
+        i += 1;
+    }
+    value
+}
+
+// The values after an action's effects, which name fluents below n.
+fn changed(
+    effects: &[u8],
+    first: usize,
+    count: usize,
+    n: usize,
+    held: &[bool],
+    values: [u8; 32],
+) -> [u8; 32]
+    requires { ⌜ (4 * (first + count) ≤ length (now effects)) × (n ≤ 32) ⌝ }
+    requires { ⌜ Names (now effects) n first count ⌝ }
     ensures { λ r. ⌜ r ≡ changedBy (now (effects .entry)) (now (held .entry)) first count values ⌝ }
 {
     let mut new = values;
-    let mut i = first + count;
-    while first < i {
-        i -= 1;
-        let e = records::effect_at(effects, i);
-        if records::holds_in(held, e.condition) {
-            let x = e.fluent;
-            new[x] = e.value as u8;
-        }
+    let mut x = 0;
+    while x < n {
+        new[x] = new_value(effects, first, count, held, x, values[x]);
+        x += 1;
     }
     new
 }
@@ -89,7 +119,7 @@ pub fn perform(effects: &[u8], actions: &[u8], n: usize, held: &[bool], a: usize
         };
     }
     let r = records::action_at(actions, a);
-    let new = changed(effects, r.first, r.count, held, values);
+    let new = changed(effects, r.first, r.count, n, held, values);
     State {
         values: new,
         running: s.running,

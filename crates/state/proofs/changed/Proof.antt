@@ -1,73 +1,46 @@
--- The loop goes down, and at number i the values are those after the effects from there on. Assumes nothing.
-use Prim.Native.Nat.{_+_, _-_, _≤_}
-use mathlib.Core.Path.{_≡_, sym, _∙_}
+-- The loop writes the new values of the fluents below n, each from the old ones; no effect names a fluent from n on. Assumes nothing.
+use Prim.Native.Nat.{ℕ, _-_, _≤_}
+use mathlib.Core.Path.{_≡_}
 use native.Mathlib.Omega.{arith}
 use borrow.Author.Needs.{needs}
-use Rattle.state.specs.Performed.{changedBy}
-use Rattle.state.proofs.Performed.{changed-none, changed-here, changed-later, changed-all}
+use lib.ListN.{getD, length}
+use Rattle.state.specs.Performed.{givenBy}
+use Rattle.state.proofs.Laid.{Laid, laid-none, laid-more}
+use Rattle.state.proofs.Performed.{changed-all}
 use Rattle.state.proofs.changed.Statement.{statement}
 use Rattle.state.proofs.changed.Tie as tie
 
 abbrev Inv-loop : tie.InvT-loop
-Inv-loop effects first count held new₀ i₀ new i = (first ≤ i) × (i ≤ first + count) × (new ≡ changedBy effects held i (first + count - i) new₀)
+Inv-loop effects first count n held values new₀ x₀ new x = (x ≤ n) × (length values ≡ 32) × Laid 0 (λ (y : ℕ). givenBy effects held y (getD values y 0) first count) values new x
 
 abbrev μ-loop : tie.MeasureT-loop
-μ-loop effects first count held new₀ i₀ new i = i
-
-add-i : tie.Need-add-i Inv-loop μ-loop
-add-i c = search needs
+μ-loop effects first count n held values new₀ x₀ new x = n - x
 
 loop-holds : tie.Need-loop-holds Inv-loop μ-loop
-loop-holds c = (omega arith, omega arith, changed-none _ _ _ _ _ (omega arith))
+loop-holds c = (omega arith, search needs, laid-none _ _ _)
 
-sub-i : tie.Need-sub-i Inv-loop μ-loop
-sub-i c = search needs
+array-read-new-value : tie.Need-array-read-new-value Inv-loop μ-loop
+array-read-new-value c = search needs
 
-effect-at-requires : tie.Need-effect-at-requires Inv-loop μ-loop
-effect-at-requires c κs = search needs
-
-holds-in-requires : tie.Need-holds-in-requires Inv-loop μ-loop
-holds-in-requires c κs = search needs
-
-cast-new : tie.Need-cast-new Inv-loop μ-loop
-cast-new c = search needs
-
--- Places: what stands before a need, by name. Written by `named`: run it again when the code changes.
-abbrev start-from-effect-at : tie.After-effect-at Inv-loop μ-loop → tie.Start Inv-loop μ-loop
-start-from-effect-at c = c .before .before .before .before .before
+new-value-requires : tie.Need-new-value-requires Inv-loop μ-loop
+new-value-requires c κs = search needs
 
 array-write-new : tie.Need-array-write-new Inv-loop μ-loop
-array-write-new c =
-    let at-effect-at = c .before .before .before in
-    let at-start = start-from-effect-at at-effect-at in
-    rw (at-effect-at .effect-at .ensures .0) (at-start .pre .1 _ (omega arith) (omega arith))
+array-write-new c = omega (arith, c .before .before .loop .inv .2 .len)
+
+add-x : tie.Need-add-x Inv-loop μ-loop
+add-x c = search needs
 
 loop-less : tie.Need-loop-less Inv-loop μ-loop
 loop-less c = search needs
 
 loop-again : tie.Need-loop-again Inv-loop μ-loop
 loop-again c =
-    let at-effect-at = c .before .before .before in
-    let at-loop = at-effect-at .before .before in (
-      omega arith,
-      omega arith,
-      changed-here _ _ _ _ _ _ _ (omega arith) (omega arith) (at-loop .loop .inv .2) (at-effect-at .effect-at .ensures .0)
-          (sym (c .before .before .holds-in .ensures) ∙ c .before .if1 .taken),
-    )
-
-loop-less-2 : tie.Need-loop-less-2 Inv-loop μ-loop
-loop-less-2 c = search needs
-
-loop-again-2 : tie.Need-loop-again-2 Inv-loop μ-loop
-loop-again-2 c = (
-  omega arith,
-  omega arith,
-  changed-later _ _ _ _ _ _ _ (omega arith) (omega arith) (c .before .before .before .before .loop .inv .2) (c .before .before .effect-at .ensures .0)
-      (sym (c .before .holds-in .ensures) ∙ c .if1 .left),
-)
+    let at-loop = c .before .before in
+    (omega arith, at-loop .loop .inv .1, laid-more _ _ _ (at-loop .loop .inv .2) (omega arith) (omega arith) (c .new-value .ensures))
 
 returns : tie.Need-returns Inv-loop μ-loop
-returns c = changed-all _ _ _ _ _ _ _ (omega arith) (omega arith) (c .before .loop .inv .2)
+returns c = changed-all _ _ _ _ _ (c .before .before .before .before .pre .1) (c .loop-test .left) (c .before .loop .inv .2)
 
 pub changed-spec : {M : Type 1} → statement M
 changed-spec =
@@ -75,15 +48,11 @@ changed-spec =
     (tie.spec
     Inv-loop
     μ-loop
-    add-i
     loop-holds
-    sub-i
-    effect-at-requires
-    holds-in-requires
-    cast-new
+    array-read-new-value
+    new-value-requires
     array-write-new
+    add-x
     loop-less
     loop-again
-    loop-less-2
-    loop-again-2
     returns)

@@ -20,7 +20,7 @@ action-at-requires : tie.Need-action-at-requires
 action-at-requires c κs = start-from-else1 c .pre .0 .known (omega arith)
 
 changed-requires : tie.Need-changed-requires
-changed-requires c κs = let p = start-from-action-at c .pre in rw (c .action-at .ensures .0) (p .0 .range (omega arith), λ i a b. omega (arith, p .0 .names (omega arith) i a b))
+changed-requires c κs = let p = start-from-action-at c .pre in rw (c .action-at .ensures .0) ((p .0 .range (omega arith), p .1), p .0 .names (omega arith))
 
 returns-2 : tie.Need-returns-2
 unfolding performBy
