@@ -3,21 +3,23 @@
 use mathlib.Core.Path.{_≡_, refl, sym, _∙_, ap}
 use mathlib.Core.Bool.{Bool, true, false, not, _&&_, _||_}
 use mathlib.Core.List.{List}
-use Prim.Native.Nat.{ℕ, _+_, _<_}
+use Prim.Native.Nat.{ℕ, _-_, _≤_, _<_}
 use native.Mathlib.Omega.{arith}
 use lib.Dec.{T}
-use lib.ListN.{length, set}
+use lib.ListN.{length, getD, length-append, length-replicate}
 use Rattle.records.specs.declared.Program.{Program}
+use Rattle.records.specs.Table.{upTo, entryOf}
 use Rattle.records.proofs.Truth.{and-both, or-left, or-right, or-only}
-use Rattle.records.proofs.Written.{written}
+use Rattle.records.proofs.Fills.{default-at, length-up, up-at}
 use Rattle.height.specs.Height.{hasTwo}
 use Rattle.golog.specs.World.{holds}
 use Rattle.held.specs.Kinds.{finalOf}
 use Rattle.held.specs.Leaves.{Leaf, leafWith, leafOf}
 use Rattle.held.specs.Rest.{AllLower}
 use Rattle.held.proofs.Columns.{by-kind}
-use Rattle.held.proofs.Entries.{hasA, lower-a, lower-b, leaf-step}
-use Rattle.leaves.specs.Endable.{boundOf, boundBy, Endable, Sure, Bounds, doubtBy, Settled}
+use Rattle.held.proofs.Entries.{entry-rule, hasA, lower-a, lower-b, leaf-step}
+use Rattle.leaves.specs.Tallies.{places}
+use Rattle.leaves.specs.Endable.{boundOf, boundBy, Endable, Sure, boundAt, boundsOf, doubtBy, Settled}
 
 -- x is true only where y is
 abbrev Under : Bool → Bool → Type 0
@@ -60,34 +62,47 @@ module _ (fa fb ma mb h running : Bool) where
       (λ p q e. chosen h ma mb fa fb (p tt) (q tt) (or-only (ma && mb) e)) (λ p q e. or-right (not h) fa (p tt e)) (λ p q. both ma mb fa fb (p tt) (q tt))
       (λ p q. both ma mb fa fb (p tt) (q tt)) (λ p q e. e) (λ p q e. cc) (λ k p q e. e)
 
-pub none : (most : Bool) (p : ℕ → Program) (marks : List Bool) → Bounds most p 0 marks
-none true p marks = λ W s i l. absurd (omega arith)
-none false p marks = λ W s i l. absurd (omega arith)
+-- a record reads the lower ones through their marks alone
+pub bound-same : (most : Bool) (r : Program) (l m : List Bool) → ((a : ℕ) → getD l a true ≡ getD m a true) → boundBy most r l ≡ boundBy most r m
+unfolding boundBy
+bound-same most r l m h = rw (h (r .a), h (r .b))
 
-module _ (p : ℕ → Program) (low : AllLower p) (marks : List Bool) {i : ℕ} (l : i < length marks) {v : Bool} where
-  one-above : Endable p i marks → v ≡ boundBy true (p i) marks → Endable p (i + 1) (set marks i v)
+module _ (most : Bool) (p : ℕ → Program) (m : ℕ) where
+  bounds-at : (i : ℕ) → i < m → getD (boundsOf most p m) i true ≡ entryOf true (boundAt most p) i
+  unfolding boundsOf
+  bounds-at i l = default-at true (upTo (boundAt most p) m) (260 - m) i ∙ up-at true (boundAt most p) m i l
+
+  pub length-bounds : m ≤ 260 → length (boundsOf most p m) ≡ 260
+  unfolding boundsOf
+  length-bounds l = simp (length-append, length-up, length-replicate) (omega arith)
+
+-- the table that runs has a place for each record
+pub places-few : (interrupts : Bool) (n : ℕ) → n ≤ 256 → places interrupts n ≤ 260
+places-few true n l = omega arith
+places-few false n l = omega arith
+
+module _ (p : ℕ → Program) (low : AllLower p) where
+  -- the table of the records that may be final in some state marks each that is
+  pub bounds-above : (m : ℕ) → Endable p m (boundsOf true p m)
   unfolding boundBy leafWith
-  one-above E ev W s a k =
-      written (λ (x : Bool). Under (leafOf W s p a .final) x) true marks i v l a (λ n. E W s a (omega arith)) (λ e f. ev ∙ here (ap (λ (b : ℕ). leafOf W s p b .final) (sym e) ∙ f))
+  bounds-above m W s i l f =
+      bounds-at true p m i l ∙ entry-rule true (boundAt true p) (λ (a : ℕ) (x : Bool). Under (leafOf W s p a .final) x) made i f
     where
-      here : Under (leafOf W s p i .final) (boundBy true (p i) marks)
-      here f =
-          above _ _ _ _ (holds W (p i .c) s) (s .running) (p i .kind) (λ t. E W s (p i .a) (lower-a p low i t)) (λ t. E W s (p i .b) (lower-b p low i t))
-          (ap (λ (y : Leaf). y .final) (sym (leaf-step W s p low i)) ∙ f)
+      made : (a : ℕ) (lower : List Bool) → ((k : ℕ) → k < a → Under (leafOf W s p k .final) (getD lower k true)) → Under (leafOf W s p a .final) (boundAt true p a lower)
+      made a lower h f =
+          above _ _ _ _ (holds W (p a .c) s) (s .running) (p a .kind) (λ t. h (p a .a) (lower-a p low a t)) (λ t. h (p a .b) (lower-b p low a t))
+          (ap (λ (y : Leaf). y .final) (sym (leaf-step W s p low a)) ∙ f)
 
-  one-below : Sure p i marks → v ≡ boundBy false (p i) marks → Sure p (i + 1) (set marks i v)
+  -- what the table of those that are final in every state marks is
+  pub bounds-below : (m : ℕ) → Sure p m (boundsOf false p m)
   unfolding boundBy leafWith
-  one-below S ev W s a k =
-      written (λ (x : Bool). Under x (leafOf W s p a .final)) true marks i v l a (λ n. S W s a (omega arith)) (λ e f. ap (λ (b : ℕ). leafOf W s p b .final) e ∙ here (sym ev ∙ f))
+  bounds-below m W s i l f =
+      entry-rule true (boundAt false p) (λ (a : ℕ) (x : Bool). Under x (leafOf W s p a .final)) made i (sym (bounds-at false p m i l) ∙ f)
     where
-      here : Under (boundBy false (p i) marks) (leafOf W s p i .final)
-      here f =
-          ap (λ (y : Leaf). y .final) (leaf-step W s p low i)
-          ∙ below _ _ _ _ (holds W (p i .c) s) (s .running) (p i .kind) (λ t. S W s (p i .a) (lower-a p low i t)) (λ t. S W s (p i .b) (lower-b p low i t)) f
-
-  pub next : (most : Bool) → Bounds most p i marks → v ≡ boundBy most (p i) marks → Bounds most p (i + 1) (set marks i v)
-  next true B ev = one-above B ev
-  next false B ev = one-below B ev
+      made : (a : ℕ) (lower : List Bool) → ((k : ℕ) → k < a → Under (getD lower k true) (leafOf W s p k .final)) → Under (boundAt false p a lower) (leafOf W s p a .final)
+      made a lower h f =
+          ap (λ (y : Leaf). y .final) (leaf-step W s p low a)
+          ∙ below _ _ _ _ (holds W (p a .c) s) (s .running) (p a .kind) (λ t. h (p a .a) (lower-a p low a t)) (λ t. h (p a .b) (lower-b p low a t)) f
 
 between : (x y f : Bool) → Under f x → Under y f → (x && not y) ≡ false → f ≡ x
 between x y true u v d = sym (u refl)

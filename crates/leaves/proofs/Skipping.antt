@@ -1,17 +1,21 @@
 -- Skips are found downwards: a record without doubt leaves the one from the next on. They are followed upwards: what is skipped is
 -- right as it came in, and what is looked at is made of lower records, which are right. Assumes nothing.
-use mathlib.Core.Path.{_≡_, refl, sym, _∙_, ap, ap₂, subst}
-use mathlib.Core.Bool.{Bool, true}
+use mathlib.Core.Path.{_≡_, refl, sym, _∙_, ap, ap₂}
+use mathlib.Core.Bool.{Bool, true, false, not}
 use mathlib.Core.List.{List}
 use mathlib.Core.Logic.{_⊎_, ⊎-elim}
-use Prim.Native.Nat.{ℕ, _+_, _-_, _≤_, _<_}
+use Prim.Native.Nat.{ℕ, suc, _+_, _-_, _≤_, _<_}
 use native.Mathlib.Decide.{decLt}
 use native.Mathlib.Omega.{arith}
 use lib.Dec.{T}
-use lib.ListN.{length, getD, set, replicate}
-use lib.Seq.{getD-set-other}
+use borrow.Author.Tests.{not-true}
+use lib.ListN.{length, getD, set, replicate, length-append, length-replicate, List·getD-eq-default}
+use lib.Seq.{ext-getD, getD-set-other}
 use Rattle.records.specs.declared.Program.{Program}
-use Rattle.records.proofs.Fills.{getD-same}
+use Rattle.records.specs.Table.{upTo}
+use Rattle.records.specs.Lowest.{lowestFrom}
+use Rattle.records.proofs.Fills.{getD-same, default-at, length-up, up-at, entry-is}
+use Rattle.records.proofs.Lowest.{from-true, from-false, from-none, from-onward, from-passed}
 use Rattle.height.specs.Height.{hasTwo}
 use Rattle.golog.specs.declared.State.{State}
 use Rattle.golog.specs.World.{World}
@@ -21,47 +25,82 @@ use Rattle.held.specs.Rest.{AllLower}
 use Rattle.held.proofs.Columns.{by-kind}
 use Rattle.held.proofs.Entries.{hasA, lower-a, lower-b, leaf-step}
 use Rattle.leaves.specs.Tallies.{SeesRecord, finalBy}
-use Rattle.leaves.specs.Endable.{Settled, Skips}
+use Rattle.leaves.specs.Endable.{Endable, boundsOf, doubtBy, skipFrom, skipsOf, Settled, Skips}
+use Rattle.leaves.proofs.Marking.{bounds-below, settled}
 use Rattle.leaves.proofs.Seen.{final-seen}
 use Rattle.records.proofs.Written.{written}
 
--- those from i up to j are settled
-pub record Jump (p : ℕ → Program) (m : ℕ) (endable : List Bool) (i j : ℕ) : Type 0 where
-  pub onward : i ≤ j
-  pub settled : (a : ℕ) → i ≤ a → a < j → a < m → Settled p endable a
+module _ (endable sure : List Bool) (m : ℕ) where
+  abbrev clear : ℕ → Bool
+  clear a = not (doubtBy endable sure a)
 
--- the table has the jumps from i on, and `first` is the one from i
-pub record From (p : ℕ → Program) (m : ℕ) (endable : List Bool) (skips : List ℕ) (first i : ℕ) : Type 0 where
-  pub jump : Jump p m endable i first
-  pub each : (j : ℕ) → i ≤ j → j ≤ m → Jump p m endable j (getD skips j m)
+  skip-end : skipFrom endable sure m m ≡ m
+  skip-end = ap (lowestFrom clear m) (omega arith) ∙ from-none clear m
 
-module _ {p : ℕ → Program} {m : ℕ} {endable : List Bool} where
-  stay : {i j : ℕ} → j ≡ i → Jump p m endable i j
-  stay e = record { onward = omega arith; settled = λ a l h. absurd (omega arith) }
+  skip-here : (i : ℕ) → i < m → doubtBy endable sure i ≡ true → skipFrom endable sure m i ≡ i
+  skip-here i l d = let n : m - i ≡ suc (m - suc i) = omega arith in ap (lowestFrom clear i) n ∙ from-false clear i (m - suc i) (ap not d)
 
-  -- one more, below
-  lower : {i j : ℕ} → 0 < i → Jump p m endable i j → Settled p endable (i - 1) → Jump p m endable (i - 1) j
-  lower {i} {j} z J S = record { onward = omega (arith, J .onward); settled = λ a l h k. go a l h k (decLt a i) }
-    where
-      go : (a : ℕ) → i - 1 ≤ a → a < j → a < m → Dec (a < i) → Settled p endable a
-      go a l h k (yes u) = let e : i - 1 ≡ a = omega arith in subst (λ (b : ℕ). Settled p endable b) e S
-      go a l h k (no u) = J .settled a (omega arith) h k
+  skip-next : (i : ℕ) → i < m → doubtBy endable sure i ≡ false → skipFrom endable sure m i ≡ skipFrom endable sure m (suc i)
+  skip-next i l d = let n : m - i ≡ suc (m - suc i) = omega arith in ap (lowestFrom clear i) n ∙ from-true clear i (m - suc i) (ap not d)
 
-  pub none : From p m endable (replicate 261 m) m m
-  none = record { jump = stay refl; each = λ j l h. stay (getD-same m 261 j ∙ omega arith) }
+-- the places from i on are those of the definition, and `first` is the one from i
+pub record Down (endable sure : List Bool) (m : ℕ) (skips : List ℕ) (first i : ℕ) : Type 0 where
+  pub first-is : first ≡ skipFrom endable sure m i
+  pub each : (j : ℕ) → i ≤ j → j < m → getD skips j m ≡ skipFrom endable sure m j
+  pub after : (j : ℕ) → m ≤ j → getD skips j m ≡ m
 
-  pub more : {skips : List ℕ} {first i j : ℕ} → 0 < i → i - 1 < length skips → From p m endable skips first i
-      → (j ≡ i - 1) ⊎ ((j ≡ first) × Settled p endable (i - 1)) → From p m endable (set skips (i - 1) j) j (i - 1)
-  more {skips} {first} {i} {j} z l F w = record {
-    jump = here;
-    each = λ a h k. written (Jump p m endable a) m skips (i - 1) j l a (λ n. F .each a (omega (arith, n)) k) (λ e. subst (λ (b : ℕ). Jump p m endable b j) (sym e) here);
+module _ {endable sure : List Bool} {m : ℕ} where
+  pub none : Down endable sure m (replicate 261 m) m m
+  none = record { first-is = sym (skip-end endable sure m); each = λ j l h. absurd (omega arith); after = λ j l. getD-same m 261 j }
+
+  -- one more, below: itself where it is in doubt, else the one from i on
+  pub more : {skips : List ℕ} {first i k j : ℕ} → i ≡ suc k → k < length skips → k < m → Down endable sure m skips first i
+      → ((doubtBy endable sure k ≡ true) × (j ≡ k)) ⊎ ((doubtBy endable sure k ≡ false) × (j ≡ first)) → Down endable sure m (set skips k j) j k
+  more {skips} {first} {i} {k} {j} z l h D w = record {
+    first-is = here;
+    each = λ a u v. written (λ (x : ℕ). x ≡ skipFrom endable sure m a) m skips k j l a (λ n. D .each a (omega (arith, n)) v) (λ e. here ∙ ap (skipFrom endable sure m) (sym e));
+    after = λ a u. getD-set-other skips k a j m (λ e. omega arith) ∙ D .after a u;
   }
     where
-      here : Jump p m endable (i - 1) j
-      here = ⊎-elim stay (λ u. subst (Jump p m endable (i - 1)) (sym (u .0)) (lower z (F .jump) (u .1))) w
+      here : j ≡ skipFrom endable sure m k
+      here = ⊎-elim (λ u. u .1 ∙ sym (skip-here endable sure m k h (u .0)))
+          (λ u. u .1 ∙ D .first-is ∙ ap (skipFrom endable sure m) z ∙ sym (skip-next endable sure m k h (u .0))) w
 
-  pub all : {skips : List ℕ} {first : ℕ} → From p m endable skips first 0 → Skips p m endable skips
-  all F = record { onward = λ i l. F .each i (omega arith) l .onward; settled = λ i a l h k. F .each i (omega arith) (omega arith) .settled a l h k }
+module _ (p : ℕ → Program) (m : ℕ) (endable : List Bool) where
+  abbrev skipAt : ℕ → List ℕ → ℕ
+  skipAt i lower = skipFrom endable (boundsOf false p m) m i
+
+  skips-at : (i : ℕ) → i < m → getD (skipsOf p m endable) i m ≡ skipFrom endable (boundsOf false p m) m i
+  unfolding skipsOf
+  skips-at i l = default-at m (upTo skipAt m) (261 - m) i ∙ up-at m skipAt m i l ∙ entry-is m skipAt i
+
+  skips-after : (i : ℕ) → m ≤ i → getD (skipsOf p m endable) i m ≡ m
+  unfolding skipsOf
+  skips-after i l = default-at m (upTo skipAt m) (261 - m) i ∙ List·getD-eq-default (upTo skipAt m) m (omega (arith, length-up skipAt m))
+
+  length-skips : m ≤ 261 → length (skipsOf p m endable) ≡ 261
+  unfolding skipsOf
+  length-skips l = simp (length-append, length-up, length-replicate) (omega arith)
+
+  -- all places are those of the definition
+  pub all : {skips : List ℕ} {first : ℕ} → m ≤ 261 → length skips ≡ 261 → Down endable (boundsOf false p m) m skips first 0 → skips ≡ skipsOf p m endable
+  all {skips} l n D = ext-getD m skips _ (n ∙ sym (length-skips l)) (λ j h. go j (decLt j m))
+    where
+      go : (j : ℕ) → Dec (j < m) → getD skips j m ≡ getD (skipsOf p m endable) j m
+      go j (yes k) = D .each j (omega arith) k ∙ sym (skips-at j k)
+      go j (no k) = D .after j (omega arith) ∙ sym (skips-after j (omega arith))
+
+  -- and what they pass is settled
+  pub skips-settled : AllLower p → Endable p m endable → Skips p m endable (skipsOf p m endable)
+  skips-settled low E = record { onward = λ i l. onward i (decLt i m) l; settled = λ i a l h k. passed i a l k (rw (skips-at i (omega arith)) at h) }
+    where
+      onward : (i : ℕ) → Dec (i < m) → i ≤ m → i ≤ getD (skipsOf p m endable) i m
+      onward i (yes k) l = omega (arith, skips-at i k, from-onward (clear endable (boundsOf false p m) m) (m - i) i)
+      onward i (no k) l = omega (arith, skips-after i (omega arith))
+
+      passed : (i a : ℕ) → i ≤ a → a < m → a < skipFrom endable (boundsOf false p m) m i → Settled p endable a
+      passed i a l k h =
+          settled p endable (boundsOf false p m) E (bounds-below p low m) a k (not-true _ (from-passed (clear endable (boundsOf false p m) m) (m - i) i a l h))
 
 -- finality depends on the parts that the kind has
 final-parts : (fa ga fb gb h running : Bool) (kind : ℕ) → (T (hasA kind) → fa ≡ ga) → (T (hasTwo kind) → fb ≡ gb) → finalOf kind fa fb h running ≡ finalOf kind ga gb h running

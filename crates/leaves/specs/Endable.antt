@@ -1,11 +1,13 @@
 -- Which records may be final in some state, and which are in every one: what can be told without looking at one, so that only the
 -- others are looked at in each. Assumes nothing.
-use Prim.Native.Nat.{ℕ, _≤_, _<_}
+use Prim.Native.Nat.{ℕ, _-_, _≤_, _<_}
 use mathlib.Core.Path.{_≡_}
 use mathlib.Core.Bool.{Bool, true, false, not, _&&_, _||_}
-use mathlib.Core.List.{List, [], _∷_}
-use lib.ListN.{getD}
+use mathlib.Core.List.{List, [], _∷_, _++_}
+use lib.ListN.{getD, replicate}
 use Rattle.records.specs.declared.Program.{Program}
+use Rattle.records.specs.Table.{upTo}
+use Rattle.records.specs.Lowest.{lowestFrom}
 use Rattle.golog.specs.declared.State.{State}
 use Rattle.golog.specs.World.{World}
 use Rattle.held.specs.Leaves.{leafOf}
@@ -33,14 +35,14 @@ Endable p m endable = (W : World) (s : State) (i : ℕ) → i < m → leafOf W s
 abbrev pub Sure : (p : ℕ → Program) (m : ℕ) (sure : List Bool) → Type 0
 Sure p m sure = (W : World) (s : State) (i : ℕ) → i < m → getD sure i true ≡ true → leafOf W s p i .final ≡ true
 
--- which of the two a table is
-abbrev pub Bounds : (most : Bool) (p : ℕ → Program) (m : ℕ) (marks : List Bool) → Type 0
-Bounds true p m marks = Endable p m marks
-Bounds false p m marks = Sure p m marks
+-- record i of the table p, given the lower ones
+abbrev pub boundAt : (most : Bool) (p : ℕ → Program) → ℕ → (lower : List Bool) → Bool
+boundAt most p i lower = boundBy most (p i) lower
 
--- whether the finality of record i depends on the state: in some it may be final, and not in every one
-abbrev pub doubtBy : (endable sure : List Bool) (i : ℕ) → Bool
-doubtBy endable sure i = getD endable i true && not (getD sure i true)
+-- the table of the first m records of p, and in the places after them what nil is. With `most` it is `Endable`, without it is `Sure`
+-- (proofs/Marking.antt)
+unfoldable pub boundsOf : (most : Bool) (p : ℕ → Program) (m : ℕ) → List Bool
+boundsOf most p m = upTo (boundAt most p) m ++ replicate (260 - m) true
 
 -- record i is as final as `endable` says, in every state
 abbrev pub Settled : (p : ℕ → Program) (endable : List Bool) (i : ℕ) → Type 0
@@ -51,7 +53,20 @@ pub record Skips (p : ℕ → Program) (m : ℕ) (endable : List Bool) (skips : 
   pub onward : (i : ℕ) → i ≤ m → i ≤ getD skips i m
   pub settled : (i a : ℕ) → i ≤ a → a < getD skips i m → a < m → Settled p endable a
 
--- the table says of each of the first m records whether it is final in the state s
+-- whether the finality of record i depends on the state: in some it may be final, and not in every one
+abbrev pub doubtBy : (endable sure : List Bool) (i : ℕ) → Bool
+doubtBy endable sure i = getD endable i true && not (getD sure i true)
+
+-- from record i on, the first of the m records whose finality depends on the state, or m
+abbrev pub skipFrom : (endable sure : List Bool) (m i : ℕ) → ℕ
+skipFrom endable sure m i = lowestFrom (λ (a : ℕ). not (doubtBy endable sure a)) i (m - i)
+
+-- so for each of the first m records of p, and m in the places after them. Where `endable` is `Endable`, these are `Skips`
+-- (proofs/Skipping.antt)
+unfoldable pub skipsOf : (p : ℕ → Program) (m : ℕ) (endable : List Bool) → List ℕ
+skipsOf p m endable = upTo (λ (i : ℕ) (lower : List ℕ). skipFrom endable (boundsOf false p m) m i) m ++ replicate (261 - m) m
+
+-- the table says of each of the first m records whether it is final in the state s; places after them are left open
 abbrev pub AreFinal : World → State → (p : ℕ → Program) (m : ℕ) (finals : List Bool) → Type 0
 AreFinal W s p m finals = (i : ℕ) → i < m → getD finals i true ≡ leafOf W s p i .final
 

@@ -9,7 +9,7 @@ ghost use Rattle.held.specs.Kinds.{usesA};
 ghost use Rattle.held.specs.Rest.{AllLower};
 ghost use Rattle.held.specs.Extended.{empty, virtual, table};
 ghost use Rattle.leaves.specs.Tallies.{cap, places, possibleIn, Tallied, finalBy, countBy, firstBy};
-ghost use Rattle.leaves.specs.Endable.{boundBy, Endable, Bounds, doubtBy, Skips, Decides};
+ghost use Rattle.leaves.specs.Endable.{boundBy, boundsOf, doubtBy, skipsOf, Skips, Decides};
 use records::Program;
 
 // Whether record a is final: past the end stands nil, which is.
@@ -249,7 +249,8 @@ pub fn tallies(
     requires { ⌜ (8 * n ≤ length (now programs)) × (1 ≤ n) × (n ≤ 256) × (6 * na ≤ length (now actions)) ⌝ }
     requires { ⌜ Decides (table interrupts (programAt (now programs)) n) (places interrupts n) (now held) running (now done) ⌝ }
     requires { ⌜ (now finals ≡ replicate 260 true) × (now counts ≡ replicate 260 0) ⌝ }
-    ensures { λ _. ⌜ Tallied (table interrupts (programAt (now (programs .entry))) n) (places interrupts n) (now (held .entry)) (possibleIn (now (actions .entry)) na (now (held .entry))) running (now (finals .exit)) (now (counts .exit)) ⌝ }
+    ensures { λ _. ⌜ Tallied (table interrupts (programAt (now (programs .entry))) n) (places interrupts n) (now (held .entry))
+        (possibleIn (now (actions .entry)) na (now (held .entry))) running (now (finals .exit)) (now (counts .exit)) ⌝ }
 {
     let m = places_of(n, interrupts);
     let mut i = 0;
@@ -284,8 +285,7 @@ fn bound_at(r: Program, most: bool, marks: &[bool]) -> bool
 // With `most`, which records of the table that runs may be final in some state; without, which are in every one.
 pub fn bounds(programs: &[u8], n: usize, interrupts: bool, most: bool) -> [bool; 260]
     requires { ⌜ (8 * n ≤ length (now programs)) × (1 ≤ n) × (n ≤ 256) ⌝ }
-    requires { ⌜ AllLower (table interrupts (programAt (now programs)) n) ⌝ }
-    ensures { λ r. ⌜ Bounds most (table interrupts (programAt (now (programs .entry))) n) (places interrupts n) r × (length r ≡ 260) ⌝ }
+    ensures { λ r. ⌜ r ≡ boundsOf most (table interrupts (programAt (now (programs .entry))) n) (places interrupts n) ⌝ }
 {
     let m = places_of(n, interrupts);
     let mut marks = [true; 260];
@@ -306,11 +306,10 @@ fn doubt_at(endable: &[bool], sure: &[bool], i: usize) -> bool
     final_in(endable, i) & !final_in(sure, i)
 }
 
-// From each record on, the first whose finality depends on the state.
+// From each record on, the first whose finality depends on the state, where `endable` has those that may be final in some.
 pub fn skips(programs: &[u8], n: usize, interrupts: bool, endable: &[bool]) -> [usize; 261]
     requires { ⌜ (8 * n ≤ length (now programs)) × (1 ≤ n) × (n ≤ 256) ⌝ }
-    requires { ⌜ AllLower (table interrupts (programAt (now programs)) n) × Endable (table interrupts (programAt (now programs)) n) (places interrupts n) (now endable) ⌝ }
-    ensures { λ r. ⌜ Skips (table interrupts (programAt (now (programs .entry))) n) (places interrupts n) (now (endable .entry)) r ⌝ }
+    ensures { λ r. ⌜ r ≡ skipsOf (table interrupts (programAt (now (programs .entry))) n) (places interrupts n) (now (endable .entry)) ⌝ }
 {
     let m = places_of(n, interrupts);
     let sure = bounds(programs, n, interrupts, false);
@@ -345,7 +344,9 @@ pub fn finals_in(
     finals: &mut [bool],
 )
     requires { ⌜ (8 * n ≤ length (now programs)) × (1 ≤ n) × (n ≤ 256) ⌝ }
-    requires { ⌜ AllLower (table interrupts (programAt (now programs)) n) × Skips (table interrupts (programAt (now programs)) n) (places interrupts n) (now finals) (now skips) × (length (now finals) ≡ 260) ⌝ }
+    requires { ⌜ AllLower (table interrupts (programAt (now programs)) n)
+        × Skips (table interrupts (programAt (now programs)) n) (places interrupts n) (now finals) (now skips)
+        × (length (now finals) ≡ 260) ⌝ }
     ensures { λ _. ⌜ Decides (table interrupts (programAt (now (programs .entry))) n) (places interrupts n) (now (held .entry)) running (now (finals .exit)) ⌝ }
 {
     let m = places_of(n, interrupts);

@@ -22,9 +22,18 @@ module _ (ok : ℕ → Bool) where
   unfolding lowestFrom
   from-none i = refl
 
-  from-lower : (k i j : ℕ) → i ≤ j → j < lowestFrom ok i k → ok j ≡ true
-  from-lower zero i j a b = absurd (omega (arith, from-none i))
-  from-lower (suc k) i j a b = go (ok i) refl (from-lower k (suc i) j)
+  -- the search goes onward, and at all that it passes the rule holds
+  pub from-onward : (k i : ℕ) → i ≤ lowestFrom ok i k
+  from-onward zero i = omega (arith, from-none i)
+  from-onward (suc k) i = go (ok i) refl (from-onward k (suc i))
+    where
+      go : (t : Bool) → ok i ≡ t → suc i ≤ lowestFrom ok (suc i) k → i ≤ lowestFrom ok i (suc k)
+      go true e next = omega (arith, from-true i k e)
+      go false e next = omega (arith, from-false i k e)
+
+  pub from-passed : (k i j : ℕ) → i ≤ j → j < lowestFrom ok i k → ok j ≡ true
+  from-passed zero i j a b = absurd (omega (arith, from-none i))
+  from-passed (suc k) i j a b = go (ok i) refl (from-passed k (suc i) j)
     where
       go : (t : Bool) → ok i ≡ t → (suc i ≤ j → j < lowestFrom ok (suc i) k → ok j ≡ true) → ok j ≡ true
       go false e next = absurd (omega (arith, from-false i k e))
@@ -41,7 +50,7 @@ module _ (ok : ℕ → Bool) where
   -- the rule holds of every lower number
   pub lower-true : (n j : ℕ) → j < lowest ok n → ok j ≡ true
   unfolding lowest
-  lower-true n j l = from-lower n 0 j (omega arith) l
+  lower-true n j l = from-passed n 0 j (omega arith) l
 
   -- and fails there
   pub lowest-false : (n : ℕ) → lowest ok n < n → ok (lowest ok n) ≡ false

@@ -59,7 +59,7 @@ pub record Built (xs : List Move) (k to entry size : ℕ) (w : List ℕ) : Type 
   pub entry-is : entry ≡ codeOf move
   pub size-is : size ≡ nodes rest
 
--- and the words below are kept
+-- and the words below are kept; words from `to` on are left open but for what stands there by `built`
 pub record Lays (xs : List Move) (k to : ℕ) (w w′ : List ℕ) (entry size : ℕ) : Type 0 where
   pub built : Built xs k to entry size w′
   pub kept : Kept to w w′
@@ -72,7 +72,8 @@ LaysRecord v i k to w w′ entry size = (W : World) (s : State) → Counted W s 
 abbrev pub past : (alone : Bool) (words : ℕ) → ℕ
 past alone words = cond alone 0 words
 
--- what stood at `at`, in n nodes, stands in the construct f, in n′ nodes
+-- what stood at `at`, in n nodes, stands in the construct f, in n′ nodes; words from `to` on are left open but for what stands there by
+-- `wrapped`
 pub record Wrapped (f : Rest → Rest) (at to n n′ : ℕ) (w w′ : List ℕ) : Type 0 where
   pub kept : Kept to w w′
   pub wrapped : (g : Rest) → At g w at → nodes g ≡ n → At (f g) w′ to × (n′ ≡ nodes (f g))

@@ -48,7 +48,8 @@ pub record CanStepRecord (v : View) (finals : List Bool) (w : List ℕ) (i to : 
   pub low : rise (v .records) i ≤ 18
   pub room : Room w to (1 + 2 * rise (v .records) i)
 
--- the answer r for record i, in every state that the tables are of: the words below `to` are kept
+-- the answer r for record i, in every state that the tables are of: the words below `to` are kept; words from `to` on are left open but for
+-- what stands there by `turned`, which is nothing where there is no k-th transition
 pub record SteppedRecord (W : World) (s : State) (p : ℕ → Program) (i k to : ℕ) (w w′ : List ℕ) (r : Turn) : Type 0 where
   pub turned : Turned (leafOf W s p i .final) (leafOf W s p i .steps) k to w′ r
   pub kept : Kept to w w′
@@ -56,7 +57,8 @@ pub record SteppedRecord (W : World) (s : State) (p : ℕ → Program) (i k to :
 abbrev pub StepsRecord : View → (finals : List Bool) (i k to : ℕ) (w w′ : List ℕ) (r : Turn) → Type 0
 StepsRecord v finals i k to w w′ r = (W : World) (s : State) → Tabled W s v finals → SteppedRecord W s (v .records) i k to w w′ r
 
--- the answer r for the remaining program g: the words below `to` are kept
+-- the answer r for the remaining program g: the words below `to` are kept; words from `to` on are left open but for what stands there by
+-- `turned`, which is nothing where there is no k-th transition
 pub record Stepped (W : World) (s : State) (p : ℕ → Program) (g : Rest) (k to : ℕ) (w w′ : List ℕ) (r : Turn) : Type 0 where
   pub turned : Turned (restFinal W s p g) (restSteps W s p g) k to w′ r
   pub kept : Kept to w w′

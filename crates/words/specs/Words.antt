@@ -25,12 +25,12 @@ pub record Holds (w : List ℕ) (i : ℕ) : Type 0 where
   pub rest : Rest
   pub at : At rest w i
 
--- the words below n are as they were
+-- the words below n are as they were; words from n on are left open
 pub record Kept (n : ℕ) (w w′ : List ℕ) : Type 0 where
   pub len : length w′ ≡ length w
   pub below : (k : ℕ) → k < n → getD w′ k 0 ≡ getD w k 0
 
--- n words from `from` on stand at `to` too
+-- n words from `from` on stand at `to` too; no word is left open
 pub record Copied («from» to n : ℕ) (w w′ : List ℕ) : Type 0 where
   pub kept : Kept to w w′
   pub copied : (k : ℕ) → k < n → getD w′ (to + k) 0 ≡ getD w («from» + k) 0
@@ -50,22 +50,26 @@ pub record Room (w : List ℕ) (i n : ℕ) : Type 0 where
   pub inside : i + 3 * n ≤ length w
   pub small : length w < 2 ^ 32
 
--- a construct was put around the n nodes that stand after it, left of record q
+-- a construct was put around the n nodes that stand after it, left of record q; words from `to` on are left open but for what stands there
+-- by `closed`
 pub record Closed (to tag n q : ℕ) (w w′ : List ℕ) : Type 0 where
   pub kept : Kept to w w′
   pub closed : (g : Rest) → At g w (to + 3) → nodes g ≡ n → At (node tag g (leaf q)) w′ to
 
--- a construct was put around the n nodes that stand six words on, right of record q
+-- a construct was put around the n nodes that stand six words on, right of record q; words from `to` on are left open but for what stands
+-- there by `opened`
 pub record Opened (to tag n q : ℕ) (w w′ : List ℕ) : Type 0 where
   pub kept : Kept to w w′
   pub opened : (g : Rest) → At g w (to + 6) → nodes g ≡ n → At (node tag (leaf q) g) w′ to
 
--- a construct was put around the n nodes that stand after it, left of a copy of the m nodes at `from`
+-- a construct was put around the n nodes that stand after it, left of a copy of the m nodes at `from`; words from `to` on are left open but
+-- for what stands there by `joined`
 pub record Joined («from» to tag n m : ℕ) (w w′ : List ℕ) : Type 0 where
   pub kept : Kept to w w′
   pub joined : (l r : Rest) → At l w (to + 3) → nodes l ≡ n → At r w «from» → nodes r ≡ m → At (node tag l r) w′ to
 
--- a construct was put around a copy of the n nodes at `from`, left of the m nodes that stand after where the copy ends
+-- a construct was put around a copy of the n nodes at `from`, left of the m nodes that stand after where the copy ends; words from `to` on
+-- are left open but for what stands there by `headed`
 pub record Headed («from» to tag n m : ℕ) (w w′ : List ℕ) : Type 0 where
   pub kept : Kept to w w′
   pub headed : (l r : Rest) → At l w «from» → nodes l ≡ n → At r w (to + 3 + 3 * n) → nodes r ≡ m → At (node tag l r) w′ to

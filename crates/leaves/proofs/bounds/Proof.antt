@@ -1,22 +1,21 @@
--- The table is marked upwards, by the law of Marking. Assumes nothing.
-use mathlib.Core.Path.{_≡_, sym, _∙_, subst}
-use mathlib.Core.Bool.{true}
-use Prim.Native.Nat.{ℕ, _-_, _≤_, _<_}
+-- The table is filled upwards: the mark of record i by the places filled so far is the definition's entry i. Assumes nothing.
+use mathlib.Core.Path.{sym, _∙_}
+use mathlib.Core.Bool.{Bool, true}
+use mathlib.Core.List.{map-id}
+use Prim.Native.Nat.{_-_, _≤_}
 use native.Mathlib.Nat.{le-antisymm}
 use native.Mathlib.Omega.{arith}
-use lib.ListN.{length, length-set, length-replicate}
 use borrow.Author.Needs.{needs}
-use denote.Ref.{now}
 use Rattle.records.specs.Records.{programAt}
+use Rattle.records.proofs.Fills.{Filled, start, full, at, more}
 use Rattle.held.specs.Extended.{table}
-use Rattle.leaves.specs.Endable.{Bounds}
-use Rattle.leaves.proofs.Marking.{none, next}
+use Rattle.leaves.specs.Endable.{boundAt, boundsOf}
+use Rattle.leaves.proofs.Marking.{bound-same}
 use Rattle.leaves.proofs.bounds.Statement.{statement}
 use Rattle.leaves.proofs.bounds.Tie as tie
 
 abbrev Inv-loop : tie.InvT-loop
-Inv-loop programs n interrupts most m marks₀ i₀ marks i =
-    (i ≤ m) × (length marks ≡ 260) × Bounds most (table interrupts (programAt programs) n) i marks
+Inv-loop programs n interrupts most m marks₀ i₀ marks i = (i ≤ m) × Filled true (boundAt most (table interrupts (programAt programs) n)) (λ (b : Bool). b) 260 marks i
 
 abbrev μ-loop : tie.MeasureT-loop
 μ-loop programs n interrupts most m marks₀ i₀ marks i = m - i
@@ -25,13 +24,13 @@ places-of-requires : tie.Need-places-of-requires Inv-loop μ-loop
 places-of-requires c κs = search needs
 
 loop-holds : tie.Need-loop-holds Inv-loop μ-loop
-loop-holds c = (omega arith, length-replicate 260 true, none (c .before .before .args .most) _ _)
+loop-holds c = (omega arith, start true _ (λ (b : Bool). b) 260)
 
 record-at-requires : tie.Need-record-at-requires Inv-loop μ-loop
 record-at-requires c κs = search needs
 
 slice-aggregate-bound-at : tie.Need-slice-aggregate-bound-at Inv-loop μ-loop
-slice-aggregate-bound-at c = sym (c .before .before .before .loop .inv .1)
+slice-aggregate-bound-at c = sym (full _ _ _ _ (c .before .before .before .loop .inv .1) (omega arith))
 
 bound-at-requires : tie.Need-bound-at-requires Inv-loop μ-loop
 bound-at-requires c κs = search needs
@@ -47,21 +46,15 @@ loop-less c = search needs
 
 loop-again : tie.Need-loop-again Inv-loop μ-loop
 loop-again c =
-    let at-loop = c .before .before .before .before in
-    let at-start = at-loop .before .before .before in
-    let e = c .before .before .record-at .ensures .0 in
-    let v = at-loop .loop .inv in
-    let l : at-loop .loop .i < length (at-loop .loop .marks) = omega (arith, v .1) in
-    (omega arith, simp length-set (v .1), next _ (at-start .pre .1) (at-loop .loop .marks) l (at-start .args .most) (v .2) (rw e at (c .bound-at .ensures)))
+    let b = c .before .before .before .before .loop .inv .1 in
+    (omega arith, more _ _ _ _ b (omega arith) (rw (c .before .before .record-at .ensures .0) at (c .bound-at .ensures) ∙ bound-same _ _ _ _ (at _ _ _ _ b)))
 
 returns : tie.Need-returns Inv-loop μ-loop
+unfolding boundsOf
 returns c =
     let at-loop = c .before in
-    let at-start = at-loop .before .before .before in
-    let a = at-start .args in
-    let v = at-loop .loop .inv in
-    let e = le-antisymm (v .0) (c .loop-test .left) ∙ c .before .before .places-of .ensures .0 in
-    (subst (λ (k : ℕ). Bounds (a .most) (table (a .interrupts) (programAt (now (a .programs))) (a .n)) k (at-loop .loop .marks)) e (v .2), v .1)
+    let e = le-antisymm (at-loop .loop .inv .0) (c .loop-test .left) ∙ c .before .before .places-of .ensures .0 in
+    rw (← e) (at-loop .loop .inv .1 .same ∙ simp map-id)
 
 pub bounds-spec : {M : Type 1} → statement M
 bounds-spec =

@@ -1,21 +1,17 @@
--- The table is filled downwards, by the law of Skipping: a record without doubt is settled, by that of Marking. Assumes nothing.
+-- The table is filled downwards, by the law of Skipping: a record in doubt is the first from itself on, another leaves the one from the
+-- next on. Assumes nothing.
 use mathlib.Core.Path.{_≡_, sym, _∙_}
-use denote.Ref.{now}
 use mathlib.Core.Logic.{inl, inr, ⊎-elim}
-use Prim.Native.Nat.{_-_, _≤_}
+use Prim.Native.Nat.{_≤_}
 use native.Mathlib.Omega.{arith}
 use lib.ListN.{length, length-set, length-replicate}
-use Rattle.records.specs.Records.{programAt}
-use Rattle.held.specs.Extended.{table}
-use Rattle.leaves.proofs.Marking.{settled}
-use Rattle.leaves.proofs.Skipping.{From, none, more, all}
+use Rattle.leaves.proofs.Skipping.{Down, none, more, all}
 use borrow.Author.Needs.{needs}
 use Rattle.leaves.proofs.skips.Statement.{statement}
 use Rattle.leaves.proofs.skips.Tie as tie
 
 abbrev Inv-loop : tie.InvT-loop
-Inv-loop programs n interrupts endable m sure skips₀ first₀ i₀ skips first i =
-    (i ≤ m) × (length skips ≡ 261) × From (table interrupts (programAt programs) n) m endable skips first i
+Inv-loop programs n interrupts endable m sure skips₀ first₀ i₀ skips first i = (i ≤ m) × (length skips ≡ 261) × Down endable sure m skips first i
 
 abbrev μ-loop : tie.MeasureT-loop
 μ-loop programs n interrupts endable m sure skips₀ first₀ i₀ skips first i = i
@@ -49,14 +45,13 @@ loop-less c = search needs
 
 loop-again : tie.Need-loop-again Inv-loop μ-loop
 loop-again c =
-    let at-loop = c .before .before .before .before in
-    let at-bounds = at-loop .before in
-    let at-places-of = at-bounds .before in
-    let at-start = at-places-of .before .before .before in
-    let v = at-loop .loop .inv in
-    let S = settled _ (now (at-start .args .endable)) (at-bounds .bounds .result) (at-start .pre .1 .1) (at-bounds .bounds .ensures .0) (at-loop .loop .i - 1)
-    (omega (arith, at-places-of .places-of .ensures .0)) in
-    (omega arith, simp length-set (v .1), more (omega arith) (omega arith) (v .2) (⊎-elim (λ w. inl (w .1)) (λ w. inr (w .1, S (sym (c .before .doubt-at .ensures) ∙ w .0 .left))) (c .if1 .came)))
+    let v = c .before .before .before .before .loop .inv in
+    let d = c .before .doubt-at .ensures in (
+      omega arith,
+      simp length-set (v .1),
+      more (omega arith) (omega arith) (omega arith) (v .2) (⊎-elim (λ w. inl (sym d ∙ w .0 .taken, w .1)) (λ w. inr (sym d ∙ w .0 .left, w .1))
+          (c .if1 .came)),
+    )
 
 returns : tie.Need-returns Inv-loop μ-loop
 returns c =
@@ -65,7 +60,7 @@ returns c =
     let v = at-loop .loop .inv in
     let e = at-places-of .places-of .ensures .0 in
     let z : at-loop .loop .i ≡ 0 = omega arith in
-    rw (← e) (all (rw z at (v .2)))
+    rw (← e) (all _ _ _ (omega arith) (v .1) (rw (z, c .before .before .bounds .ensures, ← e) at (v .2)))
 
 pub skips-spec : {M : Type 1} → statement M
 skips-spec =

@@ -1,14 +1,16 @@
--- The table that runs is that of the sheet's layout. Assumes nothing.
+-- The table that runs is that of the sheet's layout, and what its skips pass is settled, by the law of Skipping. Assumes nothing.
 use denote.Ref.{now}
 use native.Mathlib.Omega.{arith}
 use mathlib.Core.Bool.{Bool}
+use mathlib.Core.Path.{_≡_}
 use Rattle.sheet.specs.declared.Layout.{Layout}
-use Rattle.held.specs.Rest.{AllLower}
+use Rattle.demands.specs.Held.{heldRecords}
 use Rattle.demands.proofs.Held.{all-lower}
 use Rattle.leaves.specs.Tallies.{places}
-use Rattle.leaves.specs.Endable.{Endable, Skips}
+use Rattle.leaves.specs.Endable.{skipsOf}
+use Rattle.leaves.proofs.Skipping.{skips-settled}
 use Rattle.search.proofs.Seen.{fits-of, part-length}
-use Rattle.search.proofs.Room.{runs, by-task, of-task}
+use Rattle.search.proofs.Room.{runs, of-task}
 use Rattle.search.proofs.skips_of.Statement.{statement}
 use Rattle.search.proofs.skips_of.Tie as tie
 
@@ -37,17 +39,11 @@ skips-requires : tie.Need-skips-requires
 skips-requires c κs =
     let at-start = c .before .before .before .before in
     let s = now (at-start .args .s) in
-    let endable = now (at-start .args .endable) in
     let l = at-start .args .t .layout in
     let p = at-start .pre .0 in
     let f = fits-of s l (p .accepted, p .layout-is) in
-    let n = part-length s (l .programs) (l .end) (omega (arith, f .at-end)) (omega (arith, f .inside)) in (
-      (omega (arith, n, f .at-end), f .some-record, f .p),
-      (
-        by-task p (λ (l : Layout) (b : Bool). AllLower (runs s l b)) (all-lower s (p .accepted)),
-        by-task p (λ (l : Layout) (b : Bool). Endable (runs s l b) (places b (l .p)) endable) (at-start .pre .1),
-      ),
-    )
+    let n = part-length s (l .programs) (l .end) (omega (arith, f .at-end)) (omega (arith, f .inside)) in
+    (omega (arith, n, f .at-end), f .some-record, f .p)
 
 -- Places: what stands before a need, by name. Written by `named`: run it again when the code changes.
 abbrev start-from-returns : tie.After-skips → tie.Start
@@ -59,10 +55,11 @@ returns c =
     let s = now (at-start .args .s) in
     let endable = now (at-start .args .endable) in
     let p = at-start .pre .0 in
+    let e = of-task p (λ (l : Layout) (b : Bool). c .skips .result ≡ skipsOf (runs s l b) (places b (l .p)) endable) (c .skips .ensures) in
     record {
       may-end = at-start .pre .1;
       full = at-start .pre .2;
-      skipping = of-task p (λ (l : Layout) (b : Bool). Skips (runs s l b) (places b (l .p)) endable (c .skips .result)) (c .skips .ensures);
+      skipping = rw e (skips-settled (heldRecords s) _ endable (all-lower s (p .accepted)) (at-start .pre .1));
     }
 
 pub skips-of-spec : {M : Type 1} → statement M
