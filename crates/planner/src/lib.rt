@@ -87,7 +87,8 @@ fn plan_accepted(s: &[u8], words: usize, work: &mut [u32], trace: &mut [u16]) ->
     ensures { λ _. ⌜ now (work .exit) ≡ planWork (now (s .entry)) (now (work .entry)) (length (now (trace .entry))) ⌝ }
 {
     let l = sheet::layout_of(s);
-    if trace.len() < l.d {
+    let d = l.d;
+    if trace.len() < d {
         return refused(10);
     }
     if work.len() < words {

@@ -294,7 +294,8 @@ pub fn notes<'a>(s: &'a [u8], number: &mut u32, place: &mut usize) -> &'a [u8]
         } => {
             *number = n;
             *place = p;
-            &s[..0]
+            let end = 0;
+            &s[..end]
         }
     }
 }

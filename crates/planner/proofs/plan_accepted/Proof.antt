@@ -15,29 +15,28 @@ use Rattle.planner.proofs.plan_accepted.Tie as tie
 layout-of-requires : tie.Need-layout-of-requires
 layout-of-requires c κs = search needs
 
+refused-requires : tie.Need-refused-requires
+refused-requires c κs = search needs
+
 -- Places: what stands before a need, by name. Written by `named`: run it again when the code changes.
-abbrev start-from-layout-of : tie.After-layout-of → tie.Start
-start-from-layout-of c = c .before .before .before .before
+abbrev start-from-then1 : tie.Then1 → tie.Start
+start-from-then1 c = c .before .before .before .before .before
 
 abbrev start-from-else2 : tie.Else2 → tie.Start
-start-from-else2 c = start-from-layout-of (c .before .before .before)
+start-from-else2 c = c .before .before .before .before .before .before
 
 abbrev run-from-returns-3 : tie.After-answer-of → tie.After-run
 run-from-returns-3 c = c .before .before .before .before .before
 
-refused-requires : tie.Need-refused-requires
-refused-requires c κs = search needs
-
 returns : tie.Need-returns
 returns c =
-    let at-layout-of = c .before .before .before in
-    let at-start = start-from-layout-of at-layout-of in
+    let at-start = start-from-then1 (c .before) in
     let s = now (at-start .args .s) in
     let w = at-start .args .words in
     let work = now (at-start .args .work) in
     let trace = now (at-start .args .trace) in
     let p = at-start .pre in
-    let e = ap (λ (l : Layout). l .d) (at-layout-of .layout-of .ensures .0) in
+    let e = ap (λ (l : Layout). l .d) (c .before .before .layout-of .ensures .0) in
     let r = ten s w p work trace (omega (arith, e, c .before .if1 .taken)) in
     (c .refused .ensures ∙ sym (r .0), (sym (r .1), sym (r .2)))
 
@@ -46,17 +45,15 @@ refused-requires-2 c κs = search needs
 
 returns-2 : tie.Need-returns-2
 returns-2 c =
-    let at-if2 = c .before in
-    let at-if1 = at-if2 .before in
-    let at-layout-of = at-if1 .before .before in
-    let at-start = start-from-layout-of at-layout-of in
+    let at-layout-of = c .before .before .before in
+    let at-start = at-layout-of .before .before .before .before in
     let s = now (at-start .args .s) in
     let w = at-start .args .words in
     let work = now (at-start .args .work) in
     let trace = now (at-start .args .trace) in
     let p = at-start .pre in
     let e = ap (λ (l : Layout). l .d) (at-layout-of .layout-of .ensures .0) in
-    let r = eleven s w p work (at-if2 .if2 .taken) trace (omega (arith, e, at-if1 .if1 .left)) in
+    let r = eleven s w p work (c .before .if2 .taken) trace (omega (arith, e, c .before .before .if1 .left)) in
     (c .refused2 .ensures ∙ sym (r .0), (sym (r .1), sym (r .2)))
 
 array-share-prefix-none : tie.Need-array-share-prefix-none
@@ -77,8 +74,8 @@ run-requires : tie.Need-run-requires
 run-requires c κs =
     let at-if2 = c .before .before .before in
     let at-if1 = at-if2 .before in
-    let at-layout-of = at-if1 .before .before in
-    let at-start = start-from-layout-of at-layout-of in
+    let at-layout-of = at-if1 .before in
+    let at-start = at-layout-of .before .before .before .before in
     let s = now (at-start .args .s) in
     let w = at-start .args .words in
     let work = now (at-start .args .work) in
@@ -101,8 +98,8 @@ returns-3 c =
     let at-run = run-from-returns-3 c in
     let at-if2 = at-run .before .before .before .before in
     let at-if1 = at-if2 .before in
-    let at-layout-of = at-if1 .before .before in
-    let at-start = start-from-layout-of at-layout-of in
+    let at-layout-of = at-if1 .before in
+    let at-start = at-layout-of .before .before .before .before in
     let s = now (at-start .args .s) in
     let w = at-start .args .words in
     let work = now (at-start .args .work) in
