@@ -167,13 +167,13 @@ fn entries_of(entry: u32) -> usize
 }
 
 // Writes a move into place n of the trace, where a plan was found behind it.
-fn note(trace: &mut [u16], n: usize, entry: u32, o: Outcome)
+fn note(trace: &mut [u16], n: usize, entry: u32, answer: Outcome)
     requires { ⌜ n < length (now trace) ⌝ }
     requires { ⌜ entry ≤ 65536 ⌝ }
-    ensures { λ _. ⌜ ((m : Option ℕ) → Known (λ (a : ℕ). a < 65536) m → entry ≡ codeOf m → now (trace .exit) ≡ noted m n o (now (trace .entry))) ⌝ }
+    ensures { λ _. ⌜ ((m : Option ℕ) → Known (λ (a : ℕ). a < 65536) m → entry ≡ codeOf m → now (trace .exit) ≡ noted m n answer (now (trace .entry))) ⌝ }
 {
     if entry < 65536 {
-        if found(o) {
+        if found(answer) {
             trace[n] = entry as u16;
         }
     }

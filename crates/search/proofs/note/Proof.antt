@@ -33,7 +33,7 @@ returns c =
     λ m k q.
     let e = at-start .args .entry in
     let z = move-of m e k q (λ x. omega (arith, x)) in
-    sym (ap (λ (m : Option ℕ). noted m (at-start .args .n) (at-start .args .o) trace) z ∙ ap (λ (b : Bool). cond b (set trace (at-start .args .n) e) trace)
+    sym (ap (λ (m : Option ℕ). noted m (at-start .args .n) (at-start .args .answer) trace) z ∙ ap (λ (b : Bool). cond b (set trace (at-start .args .n) e) trace)
     (sym (c .before .found .ensures) ∙ c .if2 .taken))
 
 returns-2 : tie.Need-returns-2
@@ -43,13 +43,13 @@ returns-2 c =
     λ m k q.
     let e = at-start .args .entry in
     let z = move-of m e k q (λ x. omega (arith, x)) in
-    sym (ap (λ (m : Option ℕ). noted m (at-start .args .n) (at-start .args .o) trace) z ∙ ap (λ (b : Bool). cond b (set trace (at-start .args .n) e) trace)
+    sym (ap (λ (m : Option ℕ). noted m (at-start .args .n) (at-start .args .answer) trace) z ∙ ap (λ (b : Bool). cond b (set trace (at-start .args .n) e) trace)
     (sym (c .before .found .ensures) ∙ c .if2 .left))
 
 returns-3 : tie.Need-returns-3
 returns-3 c =
     let at-start = c .before .before in
-    λ m k q. sym (ap (λ (m : Option ℕ). noted m (at-start .args .n) (at-start .args .o) (now (at-start .args .trace))) (test-of m (at-start .args .entry) k q (omega arith)))
+    λ m k q. sym (ap (λ (m : Option ℕ). noted m (at-start .args .n) (at-start .args .answer) (now (at-start .args .trace))) (test-of m (at-start .args .entry) k q (omega arith)))
 
 pub note-spec : {M : Type 1} → statement M
 note-spec =
