@@ -12,7 +12,8 @@ use Rattle.records.specs.declared.Formula.{Formula}
 use Rattle.runs.proofs.Tests.{and-iff, eqb-iff}
 use Rattle.golog.specs.declared.State.{State}
 use Rattle.golog.specs.World.{World, truthOf, truths, holds}
-use Rattle.golog.specs.Says.{valueOf, Says, PartsLower}
+use Rattle.records.specs.Lower.{PartsLower}
+use Rattle.golog.specs.Says.{valueOf, Says}
 use Rattle.golog.proofs.Tests.{same, or-iff, not-iff, ltb-iff, equal-iff}
 use Rattle.golog.proofs.Truths.{holds-at, holds-is}
 

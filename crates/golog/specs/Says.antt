@@ -1,6 +1,6 @@
 -- What formulas say, kind by kind, as statements about values: the second reading of document 01's "Formula" beside the computed one
 -- (`truthOf`, World.antt). The theorem of proofs/Formulas.antt says that the two agree. Assumes nothing.
-use Prim.Native.Nat.{ℕ, _≤_, _<_}
+use Prim.Native.Nat.{ℕ, _<_}
 use mathlib.Core.List.{List, [], _∷_}
 use mathlib.Core.Logic.{_⊎_}
 use mathlib.Core.Path.{_≡_}
@@ -30,7 +30,3 @@ Says W s r =
     []
     )
     (r .kind) ⊥
-
--- "In 5 to 7, a and b are formulas with lower numbers": of formula q, those that its kind has
-abbrev pub PartsLower : (q : ℕ) → Formula → Type 0
-PartsLower q r = (5 ≤ r .kind → r .a < q) × (6 ≤ r .kind → r .b < q)

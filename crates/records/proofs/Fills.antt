@@ -1,15 +1,15 @@
--- A table filled upwards by a loop. The places of `xs` below i hold h of the first i entries, the others h of z, so that every
--- place, read with the default h z, holds h of the entry: `at` asks for no rule on which records a record may name.
--- One law for every table. Assumes nothing.
+-- A table filled upwards by a loop. The places of `xs` below i hold h of the first i entries, the others are as they were (`Refilled`).
+-- Where they all held h of z (`Filled`), every place, read with the default h z, holds h of the entry: `at` asks for no rule on which
+-- records a record may name. One law for every table. Assumes nothing.
 use mathlib.Core.Path.{_≡_, refl, sym, _∙_, ap}
 use mathlib.Core.List.{List, [], _∷_, _++_, map, map-append}
 use Prim.Native.Nat.{ℕ, zero, suc, _+_, _-_, _≤_, _<_}
 use native.Mathlib.Numerals.{add-one}
 use native.Mathlib.Omega.{arith}
-use native.Mathlib.Nat.{sub-zero, eq-or-lt-of-le, le-of-suc-le-suc}
+use native.Mathlib.Nat.{sub-zero, zero-sub, suc-sub-suc, eq-or-lt-of-le, le-of-suc-le-suc}
 use mathlib.Core.Logic.{⊎-elim}
-use lib.ListN.{length, getD, set, replicate, length-append, length-replicate, length-map, List·getD-map}
-use lib.Seq.{set-at, append-snoc, getD-at}
+use lib.ListN.{length, getD, drop, set, replicate, length-append, length-drop, length-replicate, length-map, List·getD-append, List·getD-map}
+use lib.Seq.{set-at, append-snoc, getD-at, drop-cons}
 use Rattle.records.specs.Table.{upTo, entryOf}
 
 module _ {B : Type 0} (d : B) where
@@ -35,6 +35,45 @@ unfolding upTo
 length-up f zero = refl
 length-up f (suc n) = simp (length-append, length-up f n) (add-one n)
 
+pub record Refilled {A B : Type 0} (f : ℕ → List A → A) (h : A → B) (old xs : List B) (i : ℕ) : Type 0 where
+  pub same : xs ≡ map h (upTo f i) ++ drop i old
+
+module _ {A B : Type 0} (f : ℕ → List A → A) (h : A → B) where
+  pub refill-start : (old : List B) → Refilled f h old old 0
+  unfolding upTo
+  refill-start old = record { same = refl }
+
+  module _ {old xs : List B} {i : ℕ} (b : Refilled f h old xs i) where
+    pub refill-full : i ≤ length old → length xs ≡ length old
+    refill-full l = rw (b .same) (simp (length-append, length-map, length-up, length-drop) (omega arith))
+
+    pub refill-at : (z : A) (a : ℕ) → a < i → getD xs a (h z) ≡ h (getD (upTo f i) a z)
+    refill-at z a l =
+        ap (λ (l : List B). getD l a (h z)) (b .same)
+        ∙ List·getD-append (map h (upTo f i)) (drop i old) (h z) a (simp (length-map, length-up) l)
+        ∙ List·getD-map h (upTo f i) a z
+
+    pub refill-more : i < length old → {v : B} → v ≡ h (f i (upTo f i)) → Refilled f h old (set xs i v) (i + 1)
+    unfolding upTo
+    refill-more l {v} e =
+        let p : List B = map h (upTo f i) in
+        let rest : List B = drop (suc i) old in
+        let len : length p ≡ i = length-map (upTo f i) h ∙ length-up f i in
+        record {
+          same =
+              ap (λ (l : List B). set l i v) (b .same ∙ ap (λ (l : List B). p ++ l) (drop-cons old i v l))
+              ∙ set-at p (getD old i v) rest v i len
+              ∙ sym (append-snoc p v rest)
+              ∙ ap (λ (w : B). p ++ (w ∷ []) ++ rest) e
+              ∙ ap (λ (l : List B). l ++ rest) (sym (map-append h (upTo f i) (f i (upTo f i) ∷ [])))
+              ∙ ap (λ (m : ℕ). map h (upTo f m) ++ drop m old) (sym (add-one i));
+        }
+
+drop-same : {B : Type 0} (d : B) (n i : ℕ) → drop i (replicate n d) ≡ replicate (n - i) d
+drop-same d n zero = ap (λ (k : ℕ). replicate k d) (sym (sub-zero n))
+drop-same d zero (suc i) = ap (λ (k : ℕ). replicate k d) (sym (zero-sub (suc i)))
+drop-same d (suc n) (suc i) = drop-same d n i ∙ ap (λ (k : ℕ). replicate k d) (sym (suc-sub-suc n i))
+
 pub record Filled {A B : Type 0} (z : A) (f : ℕ → List A → A) (h : A → B) (N : ℕ) (xs : List B) (i : ℕ) : Type 0 where
   pub same : xs ≡ map h (upTo f i) ++ replicate (N - i) (h z)
 
@@ -44,28 +83,18 @@ module _ {A B : Type 0} (z : A) (f : ℕ → List A → A) (h : A → B) (N : �
   start = record { same = ap (λ (k : ℕ). replicate k (h z)) (sym (sub-zero N)) }
 
   module _ {xs : List B} {i : ℕ} (b : Filled z f h N xs i) where
+    over : Refilled f h (replicate N (h z)) xs i
+    over = record { same = b .same ∙ ap (λ (l : List B). map h (upTo f i) ++ l) (sym (drop-same (h z) N i)) }
+
     pub full : i ≤ N → length xs ≡ N
-    full l = rw (b .same) (simp (length-append, length-map, length-up, length-replicate) (omega arith))
+    full l = refill-full f h over (rw length-replicate l) ∙ length-replicate N (h z)
 
     pub at : (a : ℕ) → getD xs a (h z) ≡ h (getD (upTo f i) a z)
     at a = ap (λ (l : List B). getD l a (h z)) (b .same) ∙ default-at (h z) (map h (upTo f i)) (N - i) a ∙ List·getD-map h (upTo f i) a z
 
     pub more : i < N → {v : B} → v ≡ h (f i (upTo f i)) → Filled z f h N (set xs i v) (i + 1)
-    unfolding upTo
     more l {v} e =
-        let p : List B = map h (upTo f i) in
-        let k : ℕ = N - (i + 1) in
-        let rest : N - i ≡ suc k = omega arith in
-        let len : length p ≡ i = length-map (upTo f i) h ∙ length-up f i in
-        record {
-          same =
-              ap (λ (l : List B). set l i v) (b .same ∙ ap (λ (m : ℕ). p ++ replicate m (h z)) rest)
-              ∙ set-at p (h z) (replicate k (h z)) v i len
-              ∙ sym (append-snoc p v (replicate k (h z)))
-              ∙ ap (λ (w : B). p ++ (w ∷ []) ++ replicate k (h z)) e
-              ∙ ap (λ (l : List B). l ++ replicate k (h z)) (sym (map-append h (upTo f i) (f i (upTo f i) ∷ [])))
-              ∙ ap (λ (m : ℕ). map h (upTo f m) ++ replicate k (h z)) (sym (add-one i));
-        }
+        record { same = refill-more f h over (rw length-replicate l) e .same ∙ ap (λ (l : List B). map h (upTo f (i + 1)) ++ l) (drop-same (h z) N (i + 1)) }
 
 -- an entry is the same in every longer table
 snoc-at : {A : Type 0} (l : List A) (x z : A) (i : ℕ) → i < length l → getD (l ++ (x ∷ [])) i z ≡ getD l i z

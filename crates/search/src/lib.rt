@@ -194,10 +194,10 @@ pub fn state_after(s: &[u8], l: Layout, held: &[bool], entry: u32, st: State) ->
     state::perform(&s[a..b], &s[b..c], l.f, held, entry as usize, st)
 }
 
-// Fills in what the formulas of a sheet say in a state.
+// Fills in what the formulas of a sheet say in a state, whatever stood there.
 pub fn truths_of(s: &[u8], l: Layout, st: State, held: &mut [bool])
     requires { ⌜ Accepts (now s) × (l ≡ layoutOf (now s)) ⌝ }
-    requires { ⌜ now held ≡ replicate 512 false ⌝ }
+    requires { ⌜ length (now held) ≡ 512 ⌝ }
     ensures { λ _. ⌜ Held (worldOf (now (s .entry))) st (layoutOf (now (s .entry)) .q) (now (held .exit)) ⌝ }
 {
     let a = l.formulas;

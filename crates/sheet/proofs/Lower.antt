@@ -1,12 +1,15 @@
--- What acceptance tells of each record: its rule as facts, and that the links of program records lead to lower ones. Assumes nothing.
+-- What acceptance tells of each record: its rule as facts, and that formulas and the links of program records name lower ones. Assumes
+-- nothing.
 use mathlib.Core.Path.{_≡_, subst}
 use mathlib.Core.List.{List, [], _∷_, List·Memᴰ, List·Memᴰ·cases-cons, List·Memᴰ·eq-of-singleton, List·Memᴰ·not-nil}
 use mathlib.Core.Logic.{_⊎_, inl, inr, ⊎-elim}
-use Prim.Native.Nat.{ℕ, _<_}
+use Prim.Native.Nat.{ℕ, _≤_, _<_}
 use native.Mathlib.Omega.{arith}
 use Rattle.records.specs.Records.{programAt}
+use Rattle.records.specs.Lower.{PartsLower, LowerFormulas}
+use Rattle.records.specs.declared.Formula.{Formula}
 use Rattle.records.specs.declared.Program.{Program}
-use Rattle.rules.specs.Kept.{ProgramRule, FluentKept, FormulaKept, EffectKept, ActionKept, ProgramKept}
+use Rattle.rules.specs.Kept.{FormulaRule, ProgramRule, FluentKept, FormulaKept, EffectKept, ActionKept, ProgramKept}
 use Rattle.rules.proofs.Kept.{fluent-exactly, formula-exactly, effect-exactly, action-exactly, program-exactly}
 use Rattle.rules.proofs.Rows.{ProgramRow, program-row, empty, action, test, pair, loop, choice, guarded}
 use Rattle.height.specs.Down.{IsHeight}
@@ -46,6 +49,19 @@ links-lower nq na i r (guarded (inr e) l c) = one-lower i (r .a) l (rw e)
 pub rules-lower : (nq na n : ℕ) (p : ℕ → Program) → ((i : ℕ) → i < n → ProgramRule nq na i (p i)) → Lower p n
 rules-lower nq na n p keeps i j l m = links-lower nq na i (p i) (program-row nq na i (p i) (keeps i l)) j m
 
+-- a formula that keeps its rule names lower ones
+parts-lower : (nf size q : ℕ) (r : Formula) → FormulaRule nf size q r → PartsLower q r
+parts-lower nf size q r =
+    let none : r .kind ≤ 4 → PartsLower q r = λ k. (λ h. absurd (omega arith), λ h. absurd (omega arith)) in
+    ⊎-elim (λ (k, x, a, b). none (omega arith))
+    (⊎-elim (λ (k, x, a, b). none (omega arith))
+    (⊎-elim (λ (k, x, a, b). none (omega arith))
+    (⊎-elim (λ (k, x, a, b). none (omega arith))
+    (⊎-elim (λ (k, x, a, b). none (omega arith))
+    (⊎-elim (λ (k, x, a, b). (λ h. a, λ h. absurd (omega arith)))
+    (⊎-elim (λ (k, x, a, b). (λ h. a, λ h. b))
+    (λ (k, x, a, b). (λ h. a, λ h. b))))))))
+
 module _ (s : List ℕ) (accepted : Accepts s) where
   abbrev fluents : List ℕ
   fluents = fluentsIn s (layoutOf s)
@@ -55,6 +71,10 @@ module _ (s : List ℕ) (accepted : Accepts s) where
 
   pub formula-of : (i : ℕ) → i < layoutOf s .q → FormulaKept fluents (layoutOf s .f) (formulasIn s (layoutOf s)) i
   formula-of i l = formula-exactly _ _ _ _ .0 (ruled s accepted .formula i l)
+
+  -- formulas name formulas with lower numbers
+  pub lower-formulas : LowerFormulas (formulasIn s (layoutOf s)) (layoutOf s .q)
+  lower-formulas i l = parts-lower _ _ i _ (formula-of i l)
 
   pub effect-of : (i : ℕ) → i < layoutOf s .e → EffectKept fluents (layoutOf s .f) (layoutOf s .q) (effectsIn s (layoutOf s)) i
   effect-of i l = effect-exactly _ _ _ _ .0 (ruled s accepted .effect i l)

@@ -1,9 +1,9 @@
--- What the formulas of a table say of values, as a table of 512 places. Assumes nothing.
-use Prim.Native.Nat.{ℕ, _-_, _<_}
+-- What the formulas of a table say of values, as a table over what stood in it before. Assumes nothing.
+use Prim.Native.Nat.{ℕ, _<_}
 use mathlib.Core.Path.{_≡_}
 use mathlib.Core.Bool.{Bool, false}
 use mathlib.Core.List.{List, _++_}
-use lib.ListN.{getD, replicate}
+use lib.ListN.{getD, drop}
 use Rattle.records.specs.Records.{formulaAt}
 use Rattle.records.specs.Table.{upTo}
 use Rattle.golog.specs.declared.State.{State}
@@ -13,9 +13,9 @@ use Rattle.golog.specs.World.{World, truthOf, holds}
 abbrev pub truthIn : (t values : List ℕ) → ℕ → (lower : List Bool) → Bool
 truthIn t values i lower = truthOf (formulaAt t i) values lower
 
--- the first n formulas, false in the places after them
-unfoldable pub truthsOf : (t values : List ℕ) → ℕ → List Bool
-truthsOf t values n = upTo (truthIn t values) n ++ replicate (512 - n) false
+-- the first n formulas, and in the places after them what was there
+unfoldable pub truthsOf : (t values : List ℕ) → ℕ → (old : List Bool) → List Bool
+truthsOf t values n old = upTo (truthIn t values) n ++ drop n old
 
 -- `held` has what each of the first n formulas says in s
 abbrev pub Held : World → State → ℕ → List Bool → Type 0

@@ -1,9 +1,10 @@
 // One state: what all formulas say of it, which actions are possible, the state after an action, and the state in words.
 ghost use mathlib.Core.Path.{_≡_};
-ghost use mathlib.Core.Bool.{false, cond};
+ghost use mathlib.Core.Bool.{cond};
 ghost use Prim.Native.Nat.{_+_, _*_, _≤_};
-ghost use lib.ListN.{length, getD, replicate};
+ghost use lib.ListN.{length, getD};
 ghost use Rattle.records.specs.Records.{formulaAt};
+ghost use Rattle.records.specs.Lower.{LowerFormulas};
 ghost use Rattle.golog.specs.declared.State.{State};
 ghost use Rattle.golog.specs.World.{truthOf};
 ghost use Rattle.state.specs.Truths.{truthsOf};
@@ -42,11 +43,12 @@ fn truth_at(formulas: &[u8], i: usize, values: &[u8], lower: &[bool]) -> bool
     }
 }
 
-// Fills in what each of the first n formulas says of a state: one pass upwards, since a formula names lower ones only.
+// Fills in what each of the first n formulas says of a state, whatever stood there: one pass upwards, since a formula names lower ones
+// only.
 pub fn truths(formulas: &[u8], n: usize, s: State, held: &mut [bool])
-    requires { ⌜ (6 * n ≤ length (now formulas)) × (n ≤ 512) ⌝ }
-    requires { ⌜ now held ≡ replicate 512 false ⌝ }
-    ensures { λ _. ⌜ now (held .exit) ≡ truthsOf (now (formulas .entry)) (s .values) n ⌝ }
+    requires { ⌜ (6 * n ≤ length (now formulas)) × (n ≤ length (now held)) ⌝ }
+    requires { ⌜ LowerFormulas (now formulas) n ⌝ }
+    ensures { λ _. ⌜ now (held .exit) ≡ truthsOf (now (formulas .entry)) (s .values) n (now (held .entry)) ⌝ }
 {
     let values = s.values;
     let mut i = 0;

@@ -210,7 +210,7 @@ explore-slice-aggregate-truths-of : (t : ℕ) → explore-lts.Need-slice-aggrega
 explore-slice-aggregate-truths-of t c = search needs
 
 explore-truths-of-requires : (t : ℕ) → explore-lts.Need-truths-of-requires (explore-claims t) (explore-at t) explore.Post
-explore-truths-of-requires t c κs = let T = start-from-explore-read-state (c .before) .pre .1 .0 .0 in ((T .accepted, T .layout-is), refl)
+explore-truths-of-requires t c κs = let T = start-from-explore-read-state (c .before) .pre .1 .0 .0 in ((T .accepted, T .layout-is), length-replicate 512 false)
 
 explore-slice-aggregate-finals-of : (t : ℕ) → explore-lts.Need-slice-aggregate-finals-of (explore-claims t) (explore-at t) explore.Post
 explore-slice-aggregate-finals-of t c = search needs

@@ -1,8 +1,11 @@
+-- The formulas are those of the sheet's layout, and an accepted sheet's name lower ones. Assumes nothing.
 use denote.Ref.{now}
 use native.Mathlib.Omega.{arith}
 use mathlib.Core.Path.{sym, _∙_, ap, subst}
 use Rattle.sheet.specs.Layout.{layoutOf, formulasIn, effectsIn, actionsIn}
 use Rattle.sheet.specs.declared.Layout.{Layout}
+use Rattle.sheet.proofs.Lower.{lower-formulas}
+use Rattle.records.specs.Lower.{LowerFormulas}
 use Rattle.demands.specs.Decoded.{worldOf}
 use Rattle.state.specs.Truths.{Held, truthsOf}
 use Rattle.state.proofs.Held.{truths-held}
@@ -36,7 +39,8 @@ truths-requires c κs =
     let l = at-start .args .l in
     let f = fits-of s l (at-start .pre .0) in
     let n = part-length s (l .formulas) (l .effects) (omega (arith, f .at-effects)) (omega (arith, f .at-actions, f .at-programs, f .at-end, f .inside)) in
-    ((omega (arith, n, f .at-effects), f .q), at-start .pre .1)
+    let low = subst (λ (l : Layout). LowerFormulas (formulasIn s l) (l .q)) (sym (at-start .pre .0 .1)) (lower-formulas s (at-start .pre .0 .0)) in
+    ((omega (arith, n, f .at-effects), omega (arith, f .q, at-start .pre .1)), low)
 
 -- Places: what stands before a need, by name. Written by `named`: run it again when the code changes.
 abbrev start-from-truths : tie.After-truths → tie.Start
@@ -48,8 +52,9 @@ returns c =
     let s = now (at-start .args .s) in
     let st = at-start .args .st in
     let l = layoutOf s in
-    let e = c .before .before .truths .ensures ∙ ap (λ (l : Layout). truthsOf (formulasIn s l) (st .values) (l .q)) (at-start .pre .0 .1) in
-    subst (Held (worldOf s) st (l .q)) (sym e) (truths-held (formulasIn s l) (effectsIn s l) (actionsIn s l) st (l .q))
+    let old = now (at-start .args .held) in
+    let e = c .before .before .truths .ensures ∙ ap (λ (l : Layout). truthsOf (formulasIn s l) (st .values) (l .q) old) (at-start .pre .0 .1) in
+    subst (Held (worldOf s) st (l .q)) (sym e) (truths-held (formulasIn s l) (effectsIn s l) (actionsIn s l) st (l .q) old)
 
 same-length : tie.Need-same-length
 same-length c = search needs

@@ -159,7 +159,7 @@ walk-slice-aggregate-truths-of : (t : ℕ) → walk-lts.Need-slice-aggregate-tru
 walk-slice-aggregate-truths-of t c = search needs
 
 walk-truths-of-requires : (t : ℕ) → walk-lts.Need-truths-of-requires (claims t) (walk-at t) walk.Post
-walk-truths-of-requires t c κs = let T = start-from-read-state (c .before) .pre .1 .0 in ((T .accepted, T .layout-is), refl)
+walk-truths-of-requires t c κs = let T = start-from-read-state (c .before) .pre .1 .0 in ((T .accepted, T .layout-is), length-replicate 512 false)
 
 walk-endable-of-requires : (t : ℕ) → walk-lts.Need-endable-of-requires (claims t) (walk-at t) walk.Post
 walk-endable-of-requires t c κs = start-from-truths-of (c .before) .pre .1 .0
