@@ -1,16 +1,18 @@
 -- What stands in the tables at a record is what the record is. A record up to height 18, as all are that run, has at most 2 ^ 18
 -- transitions, fewer than the cap, so its count is exact. Assumes nothing.
-use mathlib.Core.Path.{_≡_, refl, _∙_, ap}
+use mathlib.Core.Path.{_≡_, refl, sym, _∙_, ap}
 use mathlib.Core.Bool.{Bool, true, false, cond}
-use mathlib.Core.List.{List, map}
+use mathlib.Core.List.{List, _++_, map}
 use Prim.Native.Nat.{ℕ, _-_, _^_, _<_, _≤_, min}
 use native.Mathlib.Nat.{pow-le-pow-right}
+use native.Mathlib.Decide.{decLt}
 use native.Mathlib.Omega.{arith}
 use lib.Dec.{T}
-use lib.ListN.{length, getD, List·getD-map}
+use lib.ListN.{length, getD, drop, replicate, length-append, length-map, length-replicate, List·getD-eq-default, List·getD-map}
+use lib.Seq.{ext-getD}
 use Rattle.records.specs.declared.Program.{Program}
 use Rattle.records.specs.Table.{upTo}
-use Rattle.records.proofs.Fills.{default-at, up-at}
+use Rattle.records.proofs.Fills.{default-at, length-up, up-at}
 use Rattle.height.specs.Height.{rise}
 use Rattle.golog.specs.declared.State.{State}
 use Rattle.golog.specs.World.{World, holds}
@@ -21,6 +23,7 @@ use Rattle.held.proofs.Counts.{leaf-few}
 use Rattle.held.proofs.Entries.{lower-a, rise-a}
 use Rattle.held.proofs.Every.{uses-a}
 use Rattle.leaves.specs.Tallies.{cap, counted, finalsOf, countsOf, SeesRecord, firstBy}
+use Rattle.leaves.specs.Endable.{AreFinal}
 use Rattle.leaves.proofs.Seen.{first-seen}
 
 where-used : (b : Bool) (x y : ℕ) → (T b → x ≡ y) → cond b x 0 ≡ cond b y 0
@@ -41,6 +44,31 @@ module _ (W : World) (s : State) (p : ℕ → Program) where
       default-at 0 (map counted (upTo (leafAt W s p) m)) (260 - m) i
       ∙ List·getD-map counted (upTo (leafAt W s p) m) i nilLeaf
       ∙ ap counted (up-at nilLeaf (leafAt W s p) m i h)
+
+  finals-after : (m i : ℕ) → m ≤ i → getD (finalsOf W s p m) i true ≡ true
+  unfolding finalsOf
+  finals-after m i h =
+      let made : List Bool = map (λ (l : Leaf). l .final) (upTo (leafAt W s p) m) in
+      let few : length made ≤ i = simp (length-map, length-up) h in
+      default-at true made (260 - m) i ∙ List·getD-eq-default made true few
+
+  length-finals : (m : ℕ) → m ≤ 260 → length (finalsOf W s p m) ≡ 260
+  unfolding finalsOf
+  length-finals m h = simp (length-append, length-map, length-up, length-replicate) (omega arith)
+
+  -- a table of 260 places that tells which of the first m records are final and has true after them
+  pub finals-whole : (m : ℕ) → m ≤ 260 → (finals : List Bool) → length finals ≡ 260 → AreFinal W s p m finals → ((i : ℕ) → m ≤ i → getD finals i true ≡ true)
+      → finals ≡ finalsOf W s p m
+  finals-whole m h finals n F z = ext-getD true finals _ (n ∙ sym (length-finals m h)) (λ i l. go i (decLt i m))
+    where
+      go : (i : ℕ) → Dec (i < m) → getD finals i true ≡ getD (finalsOf W s p m) i true
+      go i (yes k) = F i k ∙ sym (finals-at m i k)
+      go i (no k) = z i (omega arith) ∙ sym (finals-after m i (omega arith))
+
+  -- a table of counts that had 0 after the first m
+  pub counts-whole : (m : ℕ) (old : List ℕ) → drop m old ≡ replicate (260 - m) 0 → map counted (upTo (leafAt W s p) m) ++ drop m old ≡ countsOf W s p m
+  unfolding countsOf
+  counts-whole m old z = ap (λ (l : List ℕ). map counted (upTo (leafAt W s p) m) ++ l) z
 
   pub few-steps : AllLower p → (i : ℕ) → rise p i ≤ 18 → length (leafOf W s p i .steps) ≤ 262144
   few-steps low i h = let u : 2 ^ rise p i ≤ 2 ^ 18 = pow-le-pow-right (omega arith) h in omega (arith, leaf-few W s p low i)

@@ -6,7 +6,7 @@ use mathlib.Core.List.{List}
 use Prim.Native.Nat.{ℕ, _-_, _≤_, _<_}
 use native.Mathlib.Omega.{arith}
 use lib.Dec.{T}
-use lib.ListN.{length, getD, length-append, length-replicate}
+use lib.ListN.{length, getD, length-append, length-replicate, List·getD-eq-default}
 use Rattle.records.specs.declared.Program.{Program}
 use Rattle.records.specs.Table.{upTo, entryOf}
 use Rattle.records.proofs.Truth.{and-both, or-left, or-right, or-only}
@@ -71,6 +71,10 @@ module _ (most : Bool) (p : ℕ → Program) (m : ℕ) where
   bounds-at : (i : ℕ) → i < m → getD (boundsOf most p m) i true ≡ entryOf true (boundAt most p) i
   unfolding boundsOf
   bounds-at i l = default-at true (upTo (boundAt most p) m) (260 - m) i ∙ up-at true (boundAt most p) m i l
+
+  pub bounds-after : (i : ℕ) → m ≤ i → getD (boundsOf most p m) i true ≡ true
+  unfolding boundsOf
+  bounds-after i l = default-at true (upTo (boundAt most p) m) (260 - m) i ∙ List·getD-eq-default (upTo (boundAt most p) m) true (omega (arith, length-up (boundAt most p) m))
 
   pub length-bounds : m ≤ 260 → length (boundsOf most p m) ≡ 260
   unfolding boundsOf

@@ -5,7 +5,7 @@ use mathlib.Core.Path.{_≡_}
 use mathlib.Core.Bool.{Bool, true, false, cond, _&&_, _||_}
 use mathlib.Core.List.{List, _++_, map}
 use lib.Dec.{T, eqb, ltb}
-use lib.ListN.{length, getD, replicate}
+use lib.ListN.{length, getD, drop, replicate}
 use Rattle.records.specs.declared.Program.{Program}
 use Rattle.records.specs.Records.{actionAt}
 use Rattle.records.specs.Table.{upTo}
@@ -54,9 +54,9 @@ pub record Sees (W : World) (s : State) (p : ℕ → Program) (m : ℕ) (held : 
   pub runs : s .running ≡ running
   pub each : (i : ℕ) → i < m → SeesRecord W s held can (p i)
 
--- the two tables are those of every state that is seen so
-abbrev pub Tallied : (p : ℕ → Program) (m : ℕ) (held : List Bool) (can : ℕ → Bool) (running : Bool) (finals : List Bool) (counts : List ℕ) → Type 0
-Tallied p m held can running finals counts = (W : World) (s : State) → Sees W s p m held can running → (finals ≡ finalsOf W s p m) × (counts ≡ countsOf W s p m)
+-- the table has how many transitions each of the first m records has in every state that is seen so, and after them what was there
+abbrev pub Tallied : (p : ℕ → Program) (m : ℕ) (held : List Bool) (can : ℕ → Bool) (running : Bool) (old counts : List ℕ) → Type 0
+Tallied p m held can running old counts = (W : World) (s : State) → Sees W s p m held can running → counts ≡ map counted (upTo (leafAt W s p) m) ++ drop m old
 
 -- whether a record is final, by the truths of the formulas and by what is tabled of lower records
 unfoldable pub finalBy : Program → (held : List Bool) (running : Bool) (finals : List Bool) → Bool
@@ -64,7 +64,8 @@ finalBy r held running finals = finalOf (r .kind) (getD finals (r .a) true) (get
 
 -- how many transitions it has
 unfoldable pub countBy : Program → (held : List Bool) (can : ℕ → Bool) (running : Bool) (finals : List Bool) (counts : List ℕ) → ℕ
-countBy r held can running finals counts = countOf (r .kind) (can (r .a)) (getD held (r .a) false) (getD finals (r .a) true) (getD held (r .c) false) running (getD counts (r .a) 0) (getD counts (r .b) 0)
+countBy r held can running finals counts =
+    countOf (r .kind) (can (r .a)) (getD held (r .a) false) (getD finals (r .a) true) (getD held (r .c) false) running (getD counts (r .a) 0) (getD counts (r .b) 0)
 
 -- how many of them are its part a's: they come first
 unfoldable pub firstBy : Program → (held : List Bool) (running : Bool) (counts : List ℕ) → ℕ

@@ -2,8 +2,8 @@
 // every state at once, whether it may be final, whether it surely is, and which records depend on the state.
 ghost use mathlib.Core.Path.{_≡_};
 ghost use mathlib.Core.Bool.{true, not, cond, _&&_, _||_};
-ghost use Prim.Native.Nat.{_+_, _*_, _≤_, _<_, min};
-ghost use lib.ListN.{length, getD, replicate};
+ghost use Prim.Native.Nat.{ℕ, _+_, _*_, _≤_, _<_, min};
+ghost use lib.ListN.{length, getD};
 ghost use Rattle.records.specs.Records.{programAt};
 ghost use Rattle.held.specs.Kinds.{usesA};
 ghost use Rattle.held.specs.Rest.{AllLower};
@@ -232,9 +232,10 @@ fn places_of(n: usize, interrupts: bool) -> usize
     if interrupts { n + 4 } else { n }
 }
 
-// Fills the tables of the state that `held`, the actions and `running` say, one place for each record of the table that runs, where `done`
-// tells which are final: one pass upwards, since a record names lower ones only.
+// Fills in how many transitions each record of the table that runs has in the state that `held`, the actions and `running` say, where
+// `finals` tells which are final, whatever stood there: one pass upwards, since a record names lower ones only.
 pub fn tallies(
+    counts: &mut [u32],
     programs: &[u8],
     n: usize,
     interrupts: bool,
@@ -242,22 +243,20 @@ pub fn tallies(
     na: usize,
     held: &[bool],
     running: bool,
-    done: &[bool],
-    finals: &mut [bool],
-    counts: &mut [u32],
+    finals: &[bool],
 )
-    requires { ⌜ (8 * n ≤ length (now programs)) × (1 ≤ n) × (n ≤ 256) × (6 * na ≤ length (now actions)) ⌝ }
-    requires { ⌜ Decides (table interrupts (programAt (now programs)) n) (places interrupts n) (now held) running (now done) ⌝ }
-    requires { ⌜ (now finals ≡ replicate 260 true) × (now counts ≡ replicate 260 0) ⌝ }
+    requires { ⌜ (8 * n ≤ length (now programs)) × (1 ≤ n) × (n ≤ 256) × (6 * na ≤ length (now actions)) × (length (now counts) ≡ 260) ⌝ }
+    requires { ⌜ AllLower (table interrupts (programAt (now programs)) n)
+        × Decides (table interrupts (programAt (now programs)) n) (places interrupts n) (now held) running (now finals) ⌝ }
     ensures { λ _. ⌜ Tallied (table interrupts (programAt (now (programs .entry))) n) (places interrupts n) (now (held .entry))
-        (possibleIn (now (actions .entry)) na (now (held .entry))) running (now (finals .exit)) (now (counts .exit)) ⌝ }
+        (possibleIn (now (actions .entry)) na (now (held .entry))) running (now (counts .entry)) (now (counts .exit)) ⌝ }
+    ensures { λ _. ⌜ length (now (counts .exit)) ≡ 260 ⌝ }
 {
     let m = places_of(n, interrupts);
     let mut i = 0;
     while i < m {
         let r = record_at(programs, n, interrupts, i);
         let k = count_at(r, actions, na, held, running, finals, counts);
-        finals[i] = final_in(done, i);
         counts[i] = k;
         i += 1;
     }
@@ -348,6 +347,7 @@ pub fn finals_in(
         × Skips (table interrupts (programAt (now programs)) n) (places interrupts n) (now finals) (now skips)
         × (length (now finals) ≡ 260) ⌝ }
     ensures { λ _. ⌜ Decides (table interrupts (programAt (now (programs .entry))) n) (places interrupts n) (now (held .entry)) running (now (finals .exit)) ⌝ }
+    ensures { λ _. ⌜ ((i : ℕ) → places interrupts n ≤ i → getD (now (finals .exit)) i true ≡ getD (now (finals .entry)) i true) ⌝ }
 {
     let m = places_of(n, interrupts);
     let mut i = skip_in(skips, 0, m);

@@ -69,7 +69,7 @@ module _ {A B : Type 0} (f : ℕ → List A → A) (h : A → B) where
               ∙ ap (λ (m : ℕ). map h (upTo f m) ++ drop m old) (sym (add-one i));
         }
 
-drop-same : {B : Type 0} (d : B) (n i : ℕ) → drop i (replicate n d) ≡ replicate (n - i) d
+pub drop-same : {B : Type 0} (d : B) (n i : ℕ) → drop i (replicate n d) ≡ replicate (n - i) d
 drop-same d n zero = ap (λ (k : ℕ). replicate k d) (sym (sub-zero n))
 drop-same d zero (suc i) = ap (λ (k : ℕ). replicate k d) (sym (zero-sub (suc i)))
 drop-same d (suc n) (suc i) = drop-same d n i ∙ ap (λ (k : ℕ). replicate k d) (sym (suc-sub-suc n i))

@@ -131,9 +131,10 @@ differ b y z = let q : _≡_ {A = ℕ} 0 1 = let p : true ≡ false = sym y ∙ 
 
 -- what the table of what is final tells
 pub settled-final :
-    {s w : List ℕ} {t : Task} {q : Place} {g : Rest} {held : List Bool} (done : List Bool) (st : State) → Tasked s t → Ready s w t q g → truths.Held (worldOf s) st (layoutOf s .q) held
-    → Settles s held (st .running) done → finalIn done g ≡ restFinal (worldOf s) st (heldRecords s) g
-settled-final {s} {g = g} {held} done st T R H D = final-by (worldOf s) st (heldRecords s) _ done (D (worldOf s) st _ (sees s (T .accepted) st held H)) g (R .roomy .within)
+    {s w : List ℕ} {t : Task} {q : Place} {g : Rest} {held : List Bool} (finals : List Bool) (st : State) → Tasked s t → Ready s w t q g → truths.Held (worldOf s) st (layoutOf s .q) held
+    → Settles s held (st .running) finals → finalIn finals g ≡ restFinal (worldOf s) st (heldRecords s) g
+settled-final {s} {g = g} {held} finals st T R H D =
+    final-by (worldOf s) st (heldRecords s) _ finals (D .decides (worldOf s) st _ (sees s (T .accepted) st held H)) g (R .roomy .within)
 
 -- what the table of what may be final tells
 module _ (s : List ℕ) {g : Rest} (endable : List Bool) (M : MayEnd s endable) (H : Placed s g) (st : State) where

@@ -5,7 +5,7 @@ use mathlib.Core.Bool.{Bool, true, false}
 use mathlib.Core.List.{List}
 use mathlib.Core.Option.{Option, some}
 use mathlib.Core.Path.{_≡_}
-use lib.ListN.{length, drop, getElem?}
+use lib.ListN.{length, getD, drop, getElem?}
 use Rattle.records.specs.declared.Program.{Program}
 use Rattle.sheet.specs.Layout.{layoutOf, programsIn}
 use Rattle.sheet.specs.Check.{Accepts}
@@ -59,15 +59,22 @@ pub record Tasked (s : List ℕ) (t : Task) : Type 0 where
 abbrev pub MayEnd : List ℕ → List Bool → Type 0
 MayEnd s endable = Endable (heldRecords s) (places (interruptsIn s) (layoutOf s .p)) endable
 
+-- nil, which is final, stands in the places after them
+abbrev pub NilAfter : List ℕ → List Bool → Type 0
+NilAfter s finals = (i : ℕ) → places (interruptsIn s) (layoutOf s .p) ≤ i → getD finals i true ≡ true
+
 -- and those whose finality depends on the state can be jumped to
 pub record Marks (s : List ℕ) (endable : List Bool) (skips : List ℕ) : Type 0 where
   pub may-end : MayEnd s endable
   pub full : length endable ≡ 260
+  pub after : NilAfter s endable
   pub skipping : Skips (heldRecords s) (places (interruptsIn s) (layoutOf s .p)) endable skips
 
 -- the table says which records are final, in every state that `held` and `running` say
-abbrev pub Settles : List ℕ → (held : List Bool) (running : Bool) (finals : List Bool) → Type 0
-Settles s held running finals = Decides (heldRecords s) (places (interruptsIn s) (layoutOf s .p)) held running finals
+pub record Settles (s : List ℕ) (held : List Bool) (running : Bool) (finals : List Bool) : Type 0 where
+  pub decides : Decides (heldRecords s) (places (interruptsIn s) (layoutOf s .p)) held running finals
+  pub full : length finals ≡ 260
+  pub after : NilAfter s finals
 
 -- the records of a remaining program are among those of the sheet that run
 abbrev pub Placed : List ℕ → Rest → Type 0

@@ -22,7 +22,7 @@ ghost use Rattle.ends.specs.Ends.{finalIn};
 ghost use Rattle.steps.specs.Laid.{codeOf};
 ghost use Rattle.runs.specs.Outcome.{join, flagged};
 ghost use Rattle.search.specs.Outcome.{Reported, isFound, isMore, told};
-ghost use Rattle.search.specs.Frames.{Config, Stands, Tasked, MayEnd, Marks, Settles, Ready, Counts, Surveyed, outcomeOf, branchesOf, Branched, lastOf};
+ghost use Rattle.search.specs.Frames.{Config, Stands, Tasked, MayEnd, NilAfter, Marks, Settles, Ready, Counts, Surveyed, outcomeOf, branchesOf, Branched, lastOf};
 ghost use Rattle.search.specs.Moves.{Known, Action, passes, leftOver, entries, noted};
 use golog::State;
 use sheet::Layout;
@@ -205,25 +205,26 @@ pub fn truths_of(s: &[u8], l: Layout, st: State, held: &mut [bool])
     state::truths(&s[a..b], l.q, st, held)
 }
 
-// Fills in how many transitions each record of a sheet has in a state, beside which are final, as `done` tells.
+// Fills in how many transitions each record of a sheet has in a state, where `finals` tells which are final.
 pub fn tally_of(
     s: &[u8],
     t: Task,
     held: &[bool],
     running: bool,
-    done: &[bool],
-    finals: &mut [bool],
+    finals: &[bool],
     counts: &mut [u32],
 )
-    requires { ⌜ Tasked (now s) t × Settles (now s) (now held) running (now done) ⌝ }
-    requires { ⌜ (now finals ≡ replicate 260 true) × (now counts ≡ replicate 260 0) ⌝ }
-    ensures { λ _. ⌜ ((st : State) → running ≡ st .running → Held (worldOf (now (s .entry))) st (layoutOf (now (s .entry)) .q) (now (held .entry)) → Surveyed (now (s .entry)) st (now (held .entry)) (now (finals .exit)) (now (counts .exit))) ⌝ }
+    requires { ⌜ Tasked (now s) t × Settles (now s) (now held) running (now finals) ⌝ }
+    requires { ⌜ now counts ≡ replicate 260 0 ⌝ }
+    ensures { λ _. ⌜ ((st : State) → running ≡ st .running → Held (worldOf (now (s .entry))) st (layoutOf (now (s .entry)) .q) (now (held .entry))
+        → Surveyed (now (s .entry)) st (now (held .entry)) (now (finals .entry)) (now (counts .exit))) ⌝ }
 {
     let l = t.layout;
     let a = l.actions;
     let b = l.programs;
     let c = l.end;
     leaves::tallies(
+        counts,
         &s[b..c],
         l.p,
         t.interrupts,
@@ -231,16 +232,14 @@ pub fn tally_of(
         l.a,
         held,
         running,
-        done,
         finals,
-        counts,
     )
 }
 
 // Which records of a sheet may be final in some state.
 pub fn endable_of(s: &[u8], t: Task) -> [bool; 260]
     requires { ⌜ Tasked (now s) t ⌝ }
-    ensures { λ r. ⌜ MayEnd (now (s .entry)) r × (length r ≡ 260) ⌝ }
+    ensures { λ r. ⌜ MayEnd (now (s .entry)) r × (length r ≡ 260) × NilAfter (now (s .entry)) r ⌝ }
 {
     let l = t.layout;
     let a = l.programs;
@@ -250,7 +249,7 @@ pub fn endable_of(s: &[u8], t: Task) -> [bool; 260]
 
 // From each record of a sheet on, the first whose finality depends on the state.
 pub fn skips_of(s: &[u8], t: Task, endable: &[bool]) -> [usize; 261]
-    requires { ⌜ Tasked (now s) t × MayEnd (now s) (now endable) × (length (now endable) ≡ 260) ⌝ }
+    requires { ⌜ Tasked (now s) t × MayEnd (now s) (now endable) × (length (now endable) ≡ 260) × NilAfter (now s) (now endable) ⌝ }
     ensures { λ r. ⌜ Marks (now (s .entry)) (now (endable .entry)) r ⌝ }
 {
     let l = t.layout;
@@ -279,16 +278,16 @@ pub fn finals_of(
     skips: &[usize],
     held: &[bool],
     running: bool,
-    done: &mut [bool],
+    finals: &mut [bool],
 )
-    requires { ⌜ Tasked (now s) t × Marks (now s) (now endable) (now skips) × (length (now done) ≡ 260) ⌝ }
-    ensures { λ _. ⌜ Settles (now (s .entry)) (now (held .entry)) running (now (done .exit)) ⌝ }
+    requires { ⌜ Tasked (now s) t × Marks (now s) (now endable) (now skips) × (length (now finals) ≡ 260) ⌝ }
+    ensures { λ _. ⌜ Settles (now (s .entry)) (now (held .entry)) running (now (finals .exit)) ⌝ }
 {
     let l = t.layout;
     let a = l.programs;
     let b = l.end;
-    copy_flags(endable, done);
-    leaves::finals_in(&s[a..b], l.p, t.interrupts, skips, held, running, done)
+    copy_flags(endable, finals);
+    leaves::finals_in(&s[a..b], l.p, t.interrupts, skips, held, running, finals)
 }
 
 // Whether no given move is left and the remaining program is final.
@@ -442,17 +441,16 @@ fn explore(
     let st = state::read_state(work, q.at);
     let mut held = [false; 512];
     truths_of(s, t.layout, st, &mut held);
-    let mut done = [false; 260];
-    finals_of(s, t, endable, skips, &held, st.running, &mut done);
+    let mut finals = [false; 260];
+    finals_of(s, t, endable, skips, &held, st.running, &mut finals);
     if cut {
         if q.left == 0 {
-            let end = ends::final_rest(&done, work, q.at + 64);
+            let end = ends::final_rest(&finals, work, q.at + 64);
             return last_outcome(is_over(moves, q.j, end), q);
         }
     }
-    let mut finals = [true; 260];
     let mut counts = [0u32; 260];
-    tally_of(s, t, &held, st.running, &done, &mut finals, &mut counts);
+    tally_of(s, t, &held, st.running, &finals, &mut counts);
     let x = ends::total_rest(&finals, endable, &counts, work, q.at + 64);
     if is_over(moves, q.j, x.done) {
         return Outcome::Found { n: q.n, t: q.d };

@@ -45,11 +45,10 @@ fn walk(s: &[u8], choices: &[u8], work: &mut [u32], t: Task, q: Place)
     search::truths_of(s, l, st, &mut held);
     let endable = search::endable_of(s, t);
     let skips = search::skips_of(s, t, &endable);
-    let mut done = [false; 260];
-    search::finals_of(s, t, &endable, &skips, &held, st.running, &mut done);
-    let mut finals = [true; 260];
+    let mut finals = [false; 260];
+    search::finals_of(s, t, &endable, &skips, &held, st.running, &mut finals);
     let mut counts = [0u32; 260];
-    search::tally_of(s, t, &held, st.running, &done, &mut finals, &mut counts);
+    search::tally_of(s, t, &held, st.running, &finals, &mut counts);
     let from = q.at + 64;
     report::configuration(
         q.d,

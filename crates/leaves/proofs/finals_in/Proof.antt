@@ -1,9 +1,10 @@
 -- The table is gone through upwards, by the law of Skipping: each turn puts what the record is, whatever state is seen so. Assumes nothing.
-use mathlib.Core.Path.{_≡_}
-use mathlib.Core.Bool.{Bool}
-use Prim.Native.Nat.{ℕ, _+_, _-_, _<_}
+use mathlib.Core.Path.{_≡_, refl, _∙_}
+use mathlib.Core.Bool.{Bool, true}
+use Prim.Native.Nat.{ℕ, _+_, _-_, _≤_, _<_}
 use native.Mathlib.Omega.{arith}
-use lib.ListN.{length, length-set}
+use lib.ListN.{length, getD, length-set}
+use lib.Seq.{getD-set-other}
 use Rattle.records.specs.Records.{programAt}
 use Rattle.golog.specs.declared.State.{State}
 use Rattle.golog.specs.World.{World}
@@ -17,6 +18,7 @@ use Rattle.leaves.proofs.finals_in.Tie as tie
 abbrev Inv-loop : tie.InvT-loop
 Inv-loop programs n interrupts skips held running finals₀ m i₀ finals i =
     (length finals ≡ 260)
+    × ((a : ℕ) → places interrupts n ≤ a → getD finals a true ≡ getD finals₀ a true)
     × ((W : World) (s : State) (can : ℕ → Bool) → Sees W s (table interrupts (programAt programs) n) (places interrupts n) held can running →
     Done W s (table interrupts (programAt programs) n) (places interrupts n) finals₀ finals i)
 
@@ -40,7 +42,7 @@ loop-holds : tie.Need-loop-holds Inv-loop μ-loop
 loop-holds c =
     let e = c .before .places-of .ensures .0 in
     let z = start-from-places-of (c .before) .pre .1 in
-    (z .2, λ W s can S. rw (c .skip-in .ensures, e) (first (z .1)))
+    (z .2, λ a h. refl, λ W s can S. rw (c .skip-in .ensures, e) (first (z .1)))
 
 record-at-requires : tie.Need-record-at-requires Inv-loop μ-loop
 record-at-requires c κs = search needs
@@ -68,7 +70,8 @@ loop-less c =
 
 loop-again : tie.Need-loop-again Inv-loop μ-loop
 loop-again c =
-    let at-record-at = c .before .before .before in
+    let at-final-at = c .before in
+    let at-record-at = at-final-at .before .before in
     let at-loop = at-record-at .before .before in
     let at-places-of = at-loop .before .before in
     let at-start = start-from-places-of at-places-of in
@@ -77,15 +80,18 @@ loop-again c =
     let v = at-loop .loop .inv in
     let l : at-loop .loop .i < places (at-start .args .interrupts) (at-start .args .n) = omega (arith, e) in (
       simp length-set (v .0),
-      λ W s can S. rw (c .skip-in2 .ensures, e) (next (z .1) (z .0) (v .1 W s can S) l (S .each _ l) (S .runs) (omega arith)
-          (rw (at-record-at .record-at .ensures .0) at (c .before .final-at .ensures))),
+      λ a h. getD-set-other (at-loop .loop .finals) (at-loop .loop .i) a (at-final-at .final-at .result) true (λ u. omega (arith, l)) ∙ v .1 a h,
+      λ W s can S. rw (c .skip-in2 .ensures, e) (next (z .1) (z .0) (v .2 W s can S) l (S .each _ l) (S .runs) (omega arith)
+          (rw (at-record-at .record-at .ensures .0) at (at-final-at .final-at .ensures))),
     )
 
 same-length : tie.Need-same-length Inv-loop μ-loop
 same-length c = search needs
 
 returns : tie.Need-returns Inv-loop μ-loop
-returns c = λ W s can S i h. c .before .loop .inv .1 W s can S .right i (omega arith) h
+returns c =
+    let v = c .before .loop .inv in
+    (λ W s can S i h. v .2 W s can S .right i (omega arith) h, v .1)
 
 pub finals-in-spec : {M : Type 1} → statement M
 finals-in-spec =

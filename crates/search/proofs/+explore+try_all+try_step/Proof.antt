@@ -174,7 +174,7 @@ module _ {k : explore-lts.Claims} {p : In 6 explore-kinds.ps} {q : Out 6 explore
   start-from-explore-then2 c = start-from-explore-finals-of (c .before .before .before .before)
 
   abbrev truths-of-from-explore-tally-of : explore-lts.After-tally-of k p q → explore-lts.After-truths-of k p q
-  truths-of-from-explore-tally-of c = (finals-of-from-explore-held4 (c .before .before .before .before)) .before .before .before .before
+  truths-of-from-explore-tally-of c = (finals-of-from-explore-held4 (c .before .before .before)) .before .before .before .before
 
   abbrev start-from-explore-final-rest : explore-lts.After-final-rest k p q → explore-lts.Start k p q
   start-from-explore-final-rest c = start-from-explore-then2 (c .before .before .before .before)
@@ -183,10 +183,10 @@ module _ {k : explore-lts.Claims} {p : In 6 explore-kinds.ps} {q : Out 6 explore
   if2-from-explore-is-over c = c .before .before .before .before .before
 
   abbrev start-from-explore-add-total-rest : explore-lts.After-struct-known3 k p q → explore-lts.Start k p q
-  start-from-explore-add-total-rest c = start-from-explore-truths-of (truths-of-from-explore-tally-of (c .before .before .before .before .before .before))
+  start-from-explore-add-total-rest c = start-from-explore-truths-of (truths-of-from-explore-tally-of (c .before .before .before .before .before))
 
   abbrev tally-of-from-explore-total-rest : explore-lts.After-total-rest k p q → explore-lts.After-tally-of k p q
-  tally-of-from-explore-total-rest c = c .before .before .before .before .before .before .before
+  tally-of-from-explore-total-rest c = c .before .before .before .before .before .before
 
   abbrev start-from-explore-total-rest : explore-lts.After-total-rest k p q → explore-lts.Start k p q
   start-from-explore-total-rest c = start-from-explore-add-total-rest (c .before)
@@ -195,7 +195,7 @@ module _ {k : explore-lts.Claims} {p : In 6 explore-kinds.ps} {q : Out 6 explore
   tally-of-from-explore-is-over2 c = tally-of-from-explore-total-rest (c .before)
 
   abbrev held4-from-explore-no-end-next : explore-lts.After-no-end-next k p q → explore-lts.After-held4 k p q
-  held4-from-explore-no-end-next c = (tally-of-from-explore-is-over2 (c .before .before .before .before)) .before .before .before .before
+  held4-from-explore-no-end-next c = (tally-of-from-explore-is-over2 (c .before .before .before .before)) .before .before .before
 
   abbrev if4-from-explore-try-all-requires : explore-lts.After-try-all-arg2 k p q → explore-lts.Else4 k p q
   if4-from-explore-try-all-requires c = c .before .before .before .before .before .before .before
@@ -278,14 +278,11 @@ explore-slice-aggregate-tally-of-2 t c = search needs
 explore-slice-aggregate-tally-of-3 : (t : ℕ) → explore-lts.Need-slice-aggregate-tally-of-3 (explore-claims t) (explore-at t) explore.Post
 explore-slice-aggregate-tally-of-3 t c = search needs
 
-explore-slice-aggregate-tally-of-4 : (t : ℕ) → explore-lts.Need-slice-aggregate-tally-of-4 (explore-claims t) (explore-at t) explore.Post
-explore-slice-aggregate-tally-of-4 t c = search needs
-
 explore-tally-of-requires : (t : ℕ) → explore-lts.Need-tally-of-requires (explore-claims t) (explore-at t) explore.Post
 explore-tally-of-requires t c κs =
-    let at-finals-of = finals-of-from-explore-held4 (c .before .before .before) in
+    let at-finals-of = finals-of-from-explore-held4 (c .before .before) in
     let at-start = start-from-explore-finals-of at-finals-of in
-    ((at-start .pre .1 .0 .0, at-finals-of .finals-of .ensures), (refl, refl))
+    ((at-start .pre .1 .0 .0, at-finals-of .finals-of .ensures), refl)
 
 explore-slice-aggregate-total-rest : (t : ℕ) → explore-lts.Need-slice-aggregate-total-rest (explore-claims t) (explore-at t) explore.Post
 explore-slice-aggregate-total-rest t c = search needs
@@ -1036,7 +1033,6 @@ pub +explore+try-all+try-step-spec : {M : Type 1} → statement M
     (explore-slice-aggregate-tally-of t)
     (explore-slice-aggregate-tally-of-2 t)
     (explore-slice-aggregate-tally-of-3 t)
-    (explore-slice-aggregate-tally-of-4 t)
     (explore-tally-of-requires t)
     (explore-slice-aggregate-total-rest t)
     (explore-slice-aggregate-total-rest-2 t)

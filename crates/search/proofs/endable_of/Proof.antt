@@ -10,7 +10,7 @@ use Rattle.demands.specs.Held.{heldRecords}
 use Rattle.demands.proofs.Held.{all-lower}
 use Rattle.leaves.specs.Tallies.{places}
 use Rattle.leaves.specs.Endable.{boundsOf}
-use Rattle.leaves.proofs.Marking.{bounds-above, length-bounds, places-few}
+use Rattle.leaves.proofs.Marking.{bounds-above, bounds-after, length-bounds, places-few}
 use Rattle.search.proofs.Seen.{fits-of, part-length}
 use Rattle.search.proofs.Room.{runs, of-task}
 use Rattle.search.proofs.endable_of.Statement.{statement}
@@ -53,7 +53,11 @@ returns c =
     let s = now (at-start .args .s) in
     let p = at-start .pre in
     let e = of-task p (λ (l : Layout) (b : Bool). c .bounds .result ≡ boundsOf true (runs s l b) (places b (l .p))) (c .bounds .ensures) in
-    rw e (bounds-above (heldRecords s) (all-lower s (p .accepted)) _, length-bounds true (heldRecords s) _ (places-few (interruptsIn s) _ (laid s (p .accepted) .p)))
+    rw e (
+      bounds-above (heldRecords s) (all-lower s (p .accepted)) _,
+      length-bounds true (heldRecords s) _ (places-few (interruptsIn s) _ (laid s (p .accepted) .p)),
+      bounds-after true (heldRecords s) _,
+    )
 
 pub endable-of-spec : {M : Type 1} → statement M
 endable-of-spec =

@@ -1,14 +1,14 @@
 -- The table comes in as what may be final, and the records that depend on the state are put right. Assumes nothing.
 use denote.Ref.{now}
 use native.Mathlib.Omega.{arith}
-use mathlib.Core.Bool.{Bool}
+use mathlib.Core.Bool.{Bool, true}
 use mathlib.Core.List.{List}
-use mathlib.Core.Path.{sym, _∙_, ap, subst}
-use lib.ListN.{length}
+use mathlib.Core.Path.{_≡_, sym, _∙_, ap, subst}
+use Prim.Native.Nat.{ℕ, _≤_}
+use lib.ListN.{length, getD}
 use Rattle.sheet.specs.Layout.{layoutOf}
 use Rattle.sheet.specs.declared.Layout.{Layout}
 use Rattle.held.specs.Rest.{AllLower}
-use Rattle.held.specs.Extended.{table}
 use Rattle.demands.specs.Decoded.{interruptsIn}
 use Rattle.demands.specs.Held.{heldRecords}
 use Rattle.demands.proofs.Held.{all-lower}
@@ -27,8 +27,8 @@ start-from-copy-flags-requires c = c .before .before .before .before .before .be
 abbrev start-from-copy-flags : tie.After-copy-flags → tie.Start
 start-from-copy-flags c = start-from-copy-flags-requires (c .before)
 
-abbrev start-from-finals-in : tie.After-finals-in → tie.Start
-start-from-finals-in c = start-from-copy-flags (c .before .before .before .before .before)
+abbrev copy-flags-from-finals-in : tie.After-finals-in → tie.After-copy-flags
+copy-flags-from-finals-in c = c .before .before .before .before .before
 
 copy-flags-requires : tie.Need-copy-flags-requires
 copy-flags-requires c κs =
@@ -82,11 +82,21 @@ same-length c = search needs
 returns : tie.Need-returns
 returns c =
     let at-finals-in = c .before .before in
-    let at-start = start-from-finals-in at-finals-in in
+    let at-copy-flags = copy-flags-from-finals-in at-finals-in in
+    let at-start = start-from-copy-flags at-copy-flags in
     let s = now (at-start .args .s) in
     let held = now (at-start .args .held) in
-    of-task (at-start .pre .0) (λ (l : Layout) (b : Bool). Decides (runs s l b) (places b (l .p)) held (at-start .args .running) (at-finals-in .finals-in .last .1 .1 .1 .1 .1 .1 .0))
-    (at-finals-in .finals-in .ensures)
+    let finals = at-finals-in .finals-in .last .1 .1 .1 .1 .1 .1 .0 in
+    let E = at-finals-in .finals-in .ensures in
+    let M = at-start .pre .1 in
+    let copied = at-copy-flags .copy-flags .last .1 .0 in
+    let e = at-copy-flags .copy-flags .ensures in
+    let A = of-task (at-start .pre .0) (λ (l : Layout) (b : Bool). (i : ℕ) → places b (l .p) ≤ i → getD finals i true ≡ getD copied i true) (E .1) in
+    record {
+      decides = of-task (at-start .pre .0) (λ (l : Layout) (b : Bool). Decides (runs s l b) (places b (l .p)) held (at-start .args .running) finals) (E .0);
+      full = omega (arith, M .full, ap length e);
+      after = λ i l. A i l ∙ ap (λ (xs : List Bool). getD xs i true) e ∙ M .after i l;
+    }
 
 pub finals-of-spec : {M : Type 1} → statement M
 finals-of-spec =

@@ -43,7 +43,8 @@ skips-of-requires : tie.Need-skips-of-requires
 skips-of-requires c κs =
     let at-endable-of = c .before in
     let at-task-of = task-of-from-endable-of at-endable-of in
-    (at-task-of .task-of .ensures .0, at-endable-of .endable-of .ensures .0, at-endable-of .endable-of .ensures .1)
+    let E = at-endable-of .endable-of .ensures in
+    (at-task-of .task-of .ensures .0, E .0, E .1, E .2)
 
 slice-aggregate-explore-2 : tie.Need-slice-aggregate-explore-2
 slice-aggregate-explore-2 c = search needs

@@ -59,6 +59,7 @@ returns c =
     record {
       may-end = at-start .pre .1;
       full = at-start .pre .2;
+      after = at-start .pre .3;
       skipping = rw e (skips-settled (heldRecords s) _ endable (all-lower s (p .accepted)) (at-start .pre .1));
     }
 

@@ -101,29 +101,26 @@ module _ {k : walk-lts.Claims} {p : In 3 walk-kinds.ps} {q : Out 3 walk-kinds.ps
   abbrev start-from-finals-of : walk-lts.After-finals-of k p q → walk-lts.Start k p q
   start-from-finals-of c = start-from-skips-of (c .before .before .before .before .before)
 
-  abbrev finals-of-from-held4 : walk-lts.After-held4 k p q → walk-lts.After-finals-of k p q
-  finals-of-from-held4 c = c .before .before
-
   abbrev truths-of-from-tally-of : walk-lts.After-tally-of k p q → walk-lts.After-truths-of k p q
-  truths-of-from-tally-of c = (finals-of-from-held4 (c .before .before .before .before)) .before .before .before .before .before .before .before .before .before
+  truths-of-from-tally-of c = c .before .before .before .before .before .before .before .before .before .before .before .before .before .before
 
   abbrev start-from-tally-of : walk-lts.After-tally-of k p q → walk-lts.Start k p q
   start-from-tally-of c = start-from-truths-of (truths-of-from-tally-of c)
 
   abbrev start-from-counts3 : walk-lts.After-counts3 k p q → walk-lts.Start k p q
-  start-from-counts3 c = start-from-tally-of (c .before .before .before .before .before .before)
+  start-from-counts3 c = start-from-tally-of (c .before .before .before .before .before)
 
   abbrev tally-of-from-else1 : walk-lts.Else1 k p q → walk-lts.After-tally-of k p q
-  tally-of-from-else1 c = c .before .before .before .before .before .before .before .before .before .before .before .before .before .before
+  tally-of-from-else1 c = c .before .before .before .before .before .before .before .before .before .before .before .before .before
 
   abbrev start-from-else1 : walk-lts.Else1 k p q → walk-lts.Start k p q
   start-from-else1 c = start-from-tally-of (tally-of-from-else1 c)
 
   abbrev held4-from-slice-aggregate-step-rest : walk-lts.After-held5 k p q → walk-lts.After-held4 k p q
-  held4-from-slice-aggregate-step-rest c = (tally-of-from-else1 (c .before .before .before .before .before)) .before .before .before .before
+  held4-from-slice-aggregate-step-rest c = (tally-of-from-else1 (c .before .before .before .before .before)) .before .before .before
 
-  abbrev finals3-from-slice-aggregate-step-rest-2 : walk-lts.After-finals4 k p q → walk-lts.After-finals3 k p q
-  finals3-from-slice-aggregate-step-rest-2 c = c .before .before .before .before .before .before .before .before .before .before .before .before .before .before .before .before
+  abbrev finals3-from-slice-aggregate-step-rest-2 : walk-lts.After-finals5 k p q → walk-lts.After-finals3 k p q
+  finals3-from-slice-aggregate-step-rest-2 c = (tally-of-from-else1 (c .before .before .before .before .before .before)) .before .before
 
   abbrev counts3-from-slice-aggregate-step-rest-3 : walk-lts.After-counts4 k p q → walk-lts.After-counts3 k p q
   counts3-from-slice-aggregate-step-rest-3 c = c .before .before .before .before .before .before .before .before .before .before .before .before .before .before .before
@@ -135,7 +132,7 @@ module _ {k : walk-lts.Claims} {p : In 3 walk-kinds.ps} {q : Out 3 walk-kinds.ps
   if1-from-step-rest c = if1-from-add-step-rest (c .before)
 
   abbrev held4-from-turn : walk-lts.After-turn k p q → walk-lts.After-held4 k p q
-  held4-from-turn c = held4-from-slice-aggregate-step-rest (c .before .before .before .before .before .before .before .before)
+  held4-from-turn c = (finals3-from-slice-aggregate-step-rest-2 (c .before .before .before .before .before .before .before)) .before
 
   abbrev turn-from-state-after : walk-lts.After-state-after k p q → walk-lts.After-turn k p q
   turn-from-state-after c = c .before .before .before .before .before
@@ -169,9 +166,8 @@ walk-slice-aggregate-skips-of t c = search needs
 
 walk-skips-of-requires : (t : ℕ) → walk-lts.Need-skips-of-requires (claims t) (walk-at t) walk.Post
 walk-skips-of-requires t c κs =
-    let at-endable-of = c .before in
-    let at-start = start-from-endable-of at-endable-of in
-    (at-start .pre .1 .0, at-endable-of .endable-of .ensures .0, at-endable-of .endable-of .ensures .1)
+    let E = c .before .endable-of .ensures in
+    (start-from-endable-of (c .before) .pre .1 .0, E .0, E .1, E .2)
 
 walk-slice-aggregate-finals-of : (t : ℕ) → walk-lts.Need-slice-aggregate-finals-of (claims t) (walk-at t) walk.Post
 walk-slice-aggregate-finals-of t c = search needs
@@ -200,18 +196,15 @@ walk-slice-aggregate-tally-of-2 t c = search needs
 walk-slice-aggregate-tally-of-3 : (t : ℕ) → walk-lts.Need-slice-aggregate-tally-of-3 (claims t) (walk-at t) walk.Post
 walk-slice-aggregate-tally-of-3 t c = search needs
 
-walk-slice-aggregate-tally-of-4 : (t : ℕ) → walk-lts.Need-slice-aggregate-tally-of-4 (claims t) (walk-at t) walk.Post
-walk-slice-aggregate-tally-of-4 t c = search needs
-
 walk-tally-of-requires : (t : ℕ) → walk-lts.Need-tally-of-requires (claims t) (walk-at t) walk.Post
 walk-tally-of-requires t c κs =
-    let at-finals-of = finals-of-from-held4 (c .before .before .before) in
+    let at-finals-of = c .before .before .before .before in
     let at-start = start-from-finals-of at-finals-of in
-    ((at-start .pre .1 .0, at-finals-of .finals-of .ensures), (refl, refl))
+    ((at-start .pre .1 .0, at-finals-of .finals-of .ensures), refl)
 
 walk-add-from : (t : ℕ) → walk-lts.Need-add-from (claims t) (walk-at t) walk.Post
 walk-add-from t c =
-    let at-start = start-from-tally-of (c .before .before .before) in
+    let at-start = start-from-tally-of (c .before .before) in
     omega (arith, in-frame (at-start .pre .1 .1 .0 .2), ready-small (at-start .pre .1 .1 .0 .2))
 
 walk-slice-aggregate-total-rest : (t : ℕ) → walk-lts.Need-slice-aggregate-total-rest (claims t) (walk-at t) walk.Post
@@ -282,7 +275,7 @@ walk-slice-aggregate-step-rest : (t : ℕ) → walk-lts.Need-slice-aggregate-ste
 walk-slice-aggregate-step-rest t c = walk-slice-aggregate-tally-of t (held4-from-slice-aggregate-step-rest c)
 
 walk-slice-aggregate-step-rest-2 : (t : ℕ) → walk-lts.Need-slice-aggregate-step-rest-2 (claims t) (walk-at t) walk.Post
-walk-slice-aggregate-step-rest-2 t c = walk-slice-aggregate-total-rest t (finals3-from-slice-aggregate-step-rest-2 c)
+walk-slice-aggregate-step-rest-2 t c = walk-slice-aggregate-tally-of-2 t (finals3-from-slice-aggregate-step-rest-2 c)
 
 walk-slice-aggregate-step-rest-3 : (t : ℕ) → walk-lts.Need-slice-aggregate-step-rest-3 (claims t) (walk-at t) walk.Post
 walk-slice-aggregate-step-rest-3 t c = walk-slice-aggregate-total-rest-3 t (counts3-from-slice-aggregate-step-rest-3 c)
@@ -385,11 +378,11 @@ walk-write-state-requires t c κs =
     let X = taken T S R L (at-step-rest .step-rest .ensures) _ _ (at-turn .turn .given .1) in
     omega (arith, next-inside R L, X .kept .len, one-frame R)
 
-walk-sub-t74 : (t : ℕ) → walk-lts.Need-sub-t74 (claims t) (walk-at t) walk.Post
-walk-sub-t74 t c = omega (arith, if1-from-write-state (c .before .before .before) .if1 .left)
+walk-sub-t71 : (t : ℕ) → walk-lts.Need-sub-t71 (claims t) (walk-at t) walk.Post
+walk-sub-t71 t c = omega (arith, if1-from-write-state (c .before .before .before) .if1 .left)
 
-walk-add-t59 : (t : ℕ) → walk-lts.Need-add-t59 (claims t) (walk-at t) walk.Post
-walk-add-t59 t c = omega (arith, start-from-write-state (c .before .before .before .before) .pre .1 .1 .1)
+walk-add-t56 : (t : ℕ) → walk-lts.Need-add-t56 (claims t) (walk-at t) walk.Post
+walk-add-t56 t c = omega (arith, start-from-write-state (c .before .before .before .before) .pre .1 .1 .1)
 
 walk-walk-requires : (t : ℕ) → walk-lts.Need-walk-requires (claims t) (walk-at t) walk.Post
 walk-walk-requires t c κs =
@@ -472,7 +465,6 @@ pub +walk-spec : {M : Type 1} → statement M
     (walk-slice-aggregate-tally-of t)
     (walk-slice-aggregate-tally-of-2 t)
     (walk-slice-aggregate-tally-of-3 t)
-    (walk-slice-aggregate-tally-of-4 t)
     (walk-tally-of-requires t)
     (walk-add-from t)
     (walk-slice-aggregate-total-rest t)
@@ -502,8 +494,8 @@ pub +walk-spec : {M : Type 1} → statement M
     (walk-slice-aggregate-state-after t)
     (walk-state-after-requires t)
     (walk-write-state-requires t)
-    (walk-sub-t74 t)
-    (walk-add-t59 t)
+    (walk-sub-t71 t)
+    (walk-add-t56 t)
     (walk-walk-requires t)
     (walk-same-length-3 t)
     (walk-returns-3 t)
