@@ -1,4 +1,5 @@
--- Demands 2 and 3 of the mission, about bytes in and answers out. READ THIS FIRST: each theorem stands under the demand's words.
+-- Demands 2 and 3 of the mission, about bytes in and answers out; each theorem stands under the demand's words. Those about the calls,
+-- with what is lent to them, are in planner, proofs/Demands.antt.
 -- The runs are those of the paper's Trans and Final (golog, specs/Trans.antt) from a sheet's first configuration; planOf and
 -- replayOf (specs/Planning.antt) are what the calls answer. A sheet is accepted when no cause of 1 to 9 holds of it.
 -- Assumes nothing.
