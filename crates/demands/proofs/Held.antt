@@ -28,7 +28,7 @@ use Rattle.demands.specs.Planning.{movesIn, finalIn, verdictOf, acceptsO
 use Rattle.demands.specs.Held.{heldRecords, heldFirst, levelsOf}
 
 -- the configuration that a held one stands for
-abbrev fullOf : (ℕ → Program) → Held → Config
+abbrev pub fullOf : (ℕ → Program) → Held → Config
 fullOf p c = (full p (c .0), c .1)
 
 module _ (s : List ℕ) (accepted : Accepts s) where
@@ -38,7 +38,7 @@ module _ (s : List ℕ) (accepted : Accepts s) where
   some-record : 1 ≤ layoutOf s .p
   some-record = laid s accepted .some-record
 
-  starts : fullOf (heldRecords s) (heldFirst s) ≡ firstOf s
+  pub starts : fullOf (heldRecords s) (heldFirst s) ≡ firstOf s
   starts = λ i. (top-started (recordsOf s) (layoutOf s .p) (lower s accepted) some-record (interruptsIn s) i, initialOf s)
 
   -- the search with no guide, and under any

@@ -1,4 +1,4 @@
--- What all transitions of a list leave, and one rule for a record's, by the one shape: where a part's transitions have it, and the
+-- What all transitions of a list have, and one rule for a record's, by the one shape: where a part's transitions have it, and the
 -- construct around them keeps it, the record's have it. Assumes nothing.
 use mathlib.Core.Path.{sym, subst}
 use mathlib.Core.Bool.{Bool, true, false, _||_}
@@ -13,34 +13,34 @@ use Rattle.golog.specs.World.{World, holds, possible}
 use Rattle.runs.specs.Guide.{only}
 use Rattle.held.specs.Rest.{Rest, gone, AllLower}
 use Rattle.held.specs.Kinds.{ownOf, usesA, usesB, tagA, loops, tagB}
-use Rattle.held.specs.Leaves.{Move, onRest, wrapA, wrapB, Leaf, nilLeaf, siblingA, leafWith, leafAt, leafOf}
+use Rattle.held.specs.Leaves.{Move, onRest, wrapA, wrapB, Leaf, nilLeaf, ownMove, siblingA, leafWith, leafAt, leafOf}
 use Rattle.held.proofs.Columns.{by-kind}
 use Rattle.held.proofs.Entries.{entry-rule, hasA, lower-a, lower-b}
 
--- all transitions of a list leave what has P
-pub data Every (P : Rest → Type 0) : List Move → Type 0 where
+-- all transitions of a list have P
+pub data Every (P : Move → Type 0) : List Move → Type 0 where
   nobody : Every P []
-  also : {x : Move} {xs : List Move} → P (x .1) → Every P xs → Every P (x ∷ xs)
+  also : {x : Move} {xs : List Move} → P x → Every P xs → Every P (x ∷ xs)
 
-pub every-append : {P : Rest → Type 0} {xs ys : List Move} → Every P xs → Every P ys → Every P (xs ++ ys)
+pub every-append : {P : Move → Type 0} {xs ys : List Move} → Every P xs → Every P ys → Every P (xs ++ ys)
 every-append nobody q = q
 every-append (also a p) q = also a (every-append p q)
 
-pub every-only : {P : Rest → Type 0} {xs : List Move} (b : Bool) → Every P xs → Every P (only b xs)
+pub every-only : {P : Move → Type 0} {xs : List Move} (b : Bool) → Every P xs → Every P (only b xs)
 every-only true p = p
 every-only false p = nobody
 
-pub every-map : {P Q : Rest → Type 0} {xs : List Move} (f : Rest → Rest) → ((g : Rest) → P g → Q (f g)) → Every P xs → Every Q (map (onRest f) xs)
+pub every-map : {P Q : Move → Type 0} {xs : List Move} (f : Rest → Rest) → ((x : Move) → P x → Q (onRest f x)) → Every P xs → Every Q (map (onRest f) xs)
 every-map f h nobody = nobody
-every-map f h (also {x = x} a p) = also (h (x .1) a) (every-map f h p)
+every-map f h (also {x = x} a p) = also (h x a) (every-map f h p)
 
-pub every-part : {P Q : Rest → Type 0} {xs : List Move} (b : Bool) (f : Rest → Rest) → (T b → (g : Rest) → P g → Q (f g)) → (T b → Every P xs) → Every Q (map (onRest f) (only b xs))
+pub every-part : {P Q : Move → Type 0} {xs : List Move} (b : Bool) (f : Rest → Rest) → (T b → (x : Move) → P x → Q (onRest f x)) → (T b → Every P xs) → Every Q (map (onRest f) (only b xs))
 every-part true f h k = every-map f (h tt) (k tt)
 every-part false f h k = nobody
 
-pub every-at : {P : Rest → Type 0} {xs : List Move} {y : Move} → Every P xs → List·Memᴰ y xs → P (y .1)
+pub every-at : {P : Move → Type 0} {xs : List Move} {y : Move} → Every P xs → List·Memᴰ y xs → P y
 every-at nobody k = absurd (List·Memᴰ·not-nil k)
-every-at {P} (also a p) k = ⊎-elim (λ e. subst (λ (z : Move). P (z .1)) (sym e) a) (λ k. every-at p k) (List·Memᴰ·cases-cons k)
+every-at {P} (also a p) k = ⊎-elim (λ e. subst P (sym e) a) (λ k. every-at p k) (List·Memᴰ·cases-cons k)
 
 -- a record uses a part only where its kind has it
 pub uses-a : (kind : ℕ) (h running : Bool) → T (usesA kind h running) → T (hasA kind)
@@ -60,17 +60,17 @@ pub has-sibling : (kind : ℕ) → T (eqb (tagA kind) 0 || (loops kind || hasTwo
 unfolding tagA loops
 has-sibling = by-kind (λ (kind : ℕ). T (eqb (tagA kind) 0 || (loops kind || hasTwo kind))) tt tt tt tt tt tt tt tt tt tt tt tt (λ k. tt)
 
-module _ (W : World) (s : State) (p : ℕ → Program) (low : AllLower p) (R : ℕ → Rest → Type 0) (none-left : (i : ℕ) → R i gone)
-    (by-a : (i : ℕ) (g : Rest) → T (hasA (p i .kind)) → R (p i .a) g → R i (wrapA (tagA (p i .kind)) (siblingA (p i) i) g))
-    (by-b : (i : ℕ) (g : Rest) → T (hasTwo (p i .kind)) → R (p i .b) g → R i (wrapB (tagB (p i .kind)) (p i .a) g)) where
+module _ (W : World) (s : State) (p : ℕ → Program) (low : AllLower p) (R : ℕ → Move → Type 0) (own : (i : ℕ) → R i (ownMove (p i), gone))
+    (by-a : (i : ℕ) (x : Move) → T (hasA (p i .kind)) → R (p i .a) x → R i (onRest (wrapA (tagA (p i .kind)) (siblingA (p i) i)) x))
+    (by-b : (i : ℕ) (x : Move) → T (hasTwo (p i .kind)) → R (p i .b) x → R i (onRest (wrapB (tagB (p i .kind)) (p i .a)) x)) where
   pub leaf-every : (i : ℕ) → Every (R i) (leafOf W s p i .steps)
   unfolding leafOf leafWith
   leaf-every =
       entry-rule nilLeaf (leafAt W s p) (λ (i : ℕ) (x : Leaf). Every (R i) (x .steps))
       (λ i lower h.
-      every-append (every-only (ownOf (p i .kind) (possible W (p i .a) s) (holds W (p i .a) s)) (also (none-left i) nobody))
+      every-append (every-only (ownOf (p i .kind) (possible W (p i .a) s) (holds W (p i .a) s)) (also (own i) nobody))
       (every-append
       (every-part (usesA (p i .kind) (holds W (p i .c) s) (s .running)) (wrapA (tagA (p i .kind)) (siblingA (p i) i))
-      (λ t g. by-a i g (uses-a (p i .kind) _ _ t)) (λ t. h (p i .a) (lower-a p low i (uses-a (p i .kind) _ _ t))))
+      (λ t x. by-a i x (uses-a (p i .kind) _ _ t)) (λ t. h (p i .a) (lower-a p low i (uses-a (p i .kind) _ _ t))))
       (every-part (usesB (p i .kind) _ (holds W (p i .c) s) _) (wrapB (tagB (p i .kind)) (p i .a))
-      (λ t g. by-b i g (uses-b (p i .kind) _ _ _ t)) (λ t. h (p i .b) (lower-b p low i (uses-b (p i .kind) _ _ _ t))))))
+      (λ t x. by-b i x (uses-b (p i .kind) _ _ _ t)) (λ t. h (p i .b) (lower-b p low i (uses-b (p i .kind) _ _ _ t))))))

@@ -27,20 +27,20 @@ around true tag b g = (omega arith, omega arith)
 around false tag b g = (omega arith, omega arith)
 
 module _ (W : World) (s : State) (p : ℕ → Program) (low : AllLower p) where
-  leaf-nodes : (i : ℕ) → Every (λ (g : Rest). nodes g ≤ 1 + 2 * rise p i) (leafOf W s p i .steps)
+  leaf-nodes : (i : ℕ) → Every (λ (x : Move). nodes (x .1) ≤ 1 + 2 * rise p i) (leafOf W s p i .steps)
   unfolding nodes
   leaf-nodes =
-      leaf-every W s p low (λ (i : ℕ) (g : Rest). nodes g ≤ 1 + 2 * rise p i) (λ i. omega arith)
-      (λ i g t h. omega (arith, around (eqb (tagA (p i .kind)) 0) (tagA (p i .kind)) (siblingA (p i) i) g .0, rise-a p low i t))
-      (λ i g t h. omega (arith, around (eqb (tagB (p i .kind)) 0) (tagB (p i .kind)) (p i .a) g .1, rise-b p low i t))
+      leaf-every W s p low (λ (i : ℕ) (x : Move). nodes (x .1) ≤ 1 + 2 * rise p i) (λ i. omega arith)
+      (λ i x t h. omega (arith, around (eqb (tagA (p i .kind)) 0) (tagA (p i .kind)) (siblingA (p i) i) (x .1) .0, rise-a p low i t))
+      (λ i x t h. omega (arith, around (eqb (tagB (p i .kind)) 0) (tagB (p i .kind)) (p i .a) (x .1) .1, rise-b p low i t))
 
-  rest-nodes : (g : Rest) → Every (λ (g′ : Rest). nodes g′ ≤ nodes g + 2 * high p g) (restSteps W s p g)
+  rest-nodes : (g : Rest) → Every (λ (x : Move). nodes (x .1) ≤ nodes g + 2 * high p g) (restSteps W s p g)
   unfolding restSteps nodes largest
   rest-nodes gone = nobody
   rest-nodes (leaf i) = leaf-nodes i
   rest-nodes (node tag l r) =
-      every-append (every-map (λ (g : Rest). node tag g r) (λ g h. omega arith) (rest-nodes l))
-      (every-part (goesRight tag (restFinal W s p l) (isNone (restSteps W s p l))) (wrapRight tag l) (λ t g h. right (eqb tag 3) g h) (λ t. rest-nodes r))
+      every-append (every-map (λ (g : Rest). node tag g r) (λ x h. omega arith) (rest-nodes l))
+      (every-part (goesRight tag (restFinal W s p l) (isNone (restSteps W s p l))) (wrapRight tag l) (λ t x h. right (eqb tag 3) (x .1) h) (λ t. rest-nodes r))
     where
       right : (z : Bool) (g : Rest) → nodes g ≤ nodes r + 2 * high p r → nodes (cond z g (node tag l g)) ≤ nodes (node tag l r) + 2 * high p (node tag l r)
       right true g h = omega arith
@@ -51,12 +51,12 @@ module _ (W : World) (s : State) (p : ℕ → Program) (low : AllLower p) where
   step-nodes g x k = every-at (rest-nodes g) k
 
   module _ (rank : ℕ → ℕ) (ranked : (i a : ℕ) → List·Memᴰ a (links (p i)) → rank a ≤ rank i) where
-    leaf-largest : (i : ℕ) → Every (λ (g : Rest). largest rank g ≤ rank i) (leafOf W s p i .steps)
+    leaf-largest : (i : ℕ) → Every (λ (x : Move). largest rank (x .1) ≤ rank i) (leafOf W s p i .steps)
     unfolding largest
     leaf-largest =
-        leaf-every W s p low (λ (i : ℕ) (g : Rest). largest rank g ≤ rank i) (λ i. omega arith)
-        (λ i g t h. left i g (omega (arith, ranked i (p i .a) (link-a (p i) t))) (eqb (tagA (p i .kind)) 0) (loops (p i .kind)) (has-sibling (p i .kind)))
-        (λ i g t h. right i g (omega (arith, ranked i (p i .b) (link-b (p i) t))) (ranked i (p i .a) (link-a (p i) (two-parts (p i .kind) t))) (eqb (tagB (p i .kind)) 0))
+        leaf-every W s p low (λ (i : ℕ) (x : Move). largest rank (x .1) ≤ rank i) (λ i. omega arith)
+        (λ i x t h. left i (x .1) (omega (arith, ranked i (p i .a) (link-a (p i) t))) (eqb (tagA (p i .kind)) 0) (loops (p i .kind)) (has-sibling (p i .kind)))
+        (λ i x t h. right i (x .1) (omega (arith, ranked i (p i .b) (link-b (p i) t))) (ranked i (p i .a) (link-a (p i) (two-parts (p i .kind) t))) (eqb (tagB (p i .kind)) 0))
       where
         left : (i : ℕ) (g : Rest) → largest rank g ≤ rank i → (z own : Bool) → T (z || (own || hasTwo (p i .kind))) → largest rank (cond z g (node (tagA (p i .kind)) g (leaf (cond own i (p i .b))))) ≤ rank i
         left i g h true own t = h
@@ -67,13 +67,13 @@ module _ (W : World) (s : State) (p : ℕ → Program) (low : AllLower p) where
         right i g h k true = h
         right i g h k false = omega arith
 
-    rest-largest : (g : Rest) → Every (λ (g′ : Rest). largest rank g′ ≤ largest rank g) (restSteps W s p g)
+    rest-largest : (g : Rest) → Every (λ (x : Move). largest rank (x .1) ≤ largest rank g) (restSteps W s p g)
     unfolding restSteps largest
     rest-largest gone = nobody
     rest-largest (leaf i) = leaf-largest i
     rest-largest (node tag l r) =
-        every-append (every-map (λ (g : Rest). node tag g r) (λ g h. omega arith) (rest-largest l))
-        (every-part (goesRight tag (restFinal W s p l) (isNone (restSteps W s p l))) (wrapRight tag l) (λ t g h. right (eqb tag 3) g h) (λ t. rest-largest r))
+        every-append (every-map (λ (g : Rest). node tag g r) (λ x h. omega arith) (rest-largest l))
+        (every-part (goesRight tag (restFinal W s p l) (isNone (restSteps W s p l))) (wrapRight tag l) (λ t x h. right (eqb tag 3) (x .1) h) (λ t. rest-largest r))
       where
         right : (z : Bool) (g : Rest) → largest rank g ≤ largest rank r → largest rank (cond z g (node tag l g)) ≤ largest rank (node tag l r)
         right true g h = omega arith

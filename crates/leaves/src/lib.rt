@@ -114,7 +114,7 @@ fn choice(h: bool, fa: bool, fb: bool) -> bool
 }
 
 // Whether a record is final, from those before it.
-fn final_at(r: Program, held: &[bool], running: bool, finals: &[bool]) -> bool
+pub fn final_at(r: Program, held: &[bool], running: bool, finals: &[bool]) -> bool
     ensures { λ f. ⌜ f ≡ finalBy r (now (held .entry)) running (now (finals .entry)) ⌝ }
 {
     let kind = r.kind;
@@ -225,7 +225,7 @@ fn count_at(
     capped(total_at(r, actions, na, held, running, finals, counts))
 }
 
-fn places_of(n: usize, interrupts: bool) -> usize
+pub fn places_of(n: usize, interrupts: bool) -> usize
     requires { ⌜ n ≤ 256 ⌝ }
     ensures { λ r. ⌜ (r ≡ places interrupts n) × (r ≤ 260) ⌝ }
 {
@@ -306,19 +306,19 @@ fn doubt_at(endable: &[bool], sure: &[bool], i: usize) -> bool
 }
 
 // From each record on, the first whose finality depends on the state, where `endable` has those that may be final in some.
-pub fn skips(programs: &[u8], n: usize, interrupts: bool, endable: &[bool]) -> [usize; 261]
+pub fn skips(programs: &[u8], n: usize, interrupts: bool, endable: &[bool]) -> [u32; 261]
     requires { ⌜ (8 * n ≤ length (now programs)) × (1 ≤ n) × (n ≤ 256) ⌝ }
     ensures { λ r. ⌜ r ≡ skipsOf (table interrupts (programAt (now (programs .entry))) n) (places interrupts n) (now (endable .entry)) ⌝ }
 {
     let m = places_of(n, interrupts);
     let sure = bounds(programs, n, interrupts, false);
-    let mut skips = [m; 261];
-    let mut first = m;
+    let mut skips = [m as u32; 261];
+    let mut first = m as u32;
     let mut i = m;
     while 0 < i {
         i -= 1;
         if doubt_at(endable, &sure, i) {
-            first = i;
+            first = i as u32;
         }
         skips[i] = first;
     }
@@ -326,10 +326,14 @@ pub fn skips(programs: &[u8], n: usize, interrupts: bool, endable: &[bool]) -> [
 }
 
 // The first record from i on whose finality depends on the state: past the end there is none.
-fn skip_in(skips: &[usize], i: usize, m: usize) -> usize
+pub fn skip_in(skips: &[u32], i: usize, m: usize) -> usize
     ensures { λ r. ⌜ r ≡ getD (now (skips .entry)) i m ⌝ }
 {
-    if i < skips.len() { skips[i] } else { m }
+    if i < skips.len() {
+        skips[i] as usize
+    } else {
+        m
+    }
 }
 
 // Fills in which records are final in the state that `held` and `running` say: only those that depend on it are looked at.
@@ -337,7 +341,7 @@ pub fn finals_in(
     programs: &[u8],
     n: usize,
     interrupts: bool,
-    skips: &[usize],
+    skips: &[u32],
     held: &[bool],
     running: bool,
     finals: &mut [bool],

@@ -248,7 +248,7 @@ pub fn endable_of(s: &[u8], t: Task) -> [bool; 260]
 }
 
 // From each record of a sheet on, the first whose finality depends on the state.
-pub fn skips_of(s: &[u8], t: Task, endable: &[bool]) -> [usize; 261]
+pub fn skips_of(s: &[u8], t: Task, endable: &[bool]) -> [u32; 261]
     requires { ⌜ Tasked (now s) t × MayEnd (now s) (now endable) × (length (now endable) ≡ 260) × NilAfter (now s) (now endable) ⌝ }
     ensures { λ r. ⌜ Marks (now (s .entry)) (now (endable .entry)) r ⌝ }
 {
@@ -275,7 +275,7 @@ pub fn finals_of(
     s: &[u8],
     t: Task,
     endable: &[bool],
-    skips: &[usize],
+    skips: &[u32],
     held: &[bool],
     running: bool,
     finals: &mut [bool],
@@ -321,7 +321,7 @@ fn try_step(
     s: &[u8],
     moves: &[u16],
     endable: &[bool],
-    skips: &[usize],
+    skips: &[u32],
     held: &[bool],
     finals: &[bool],
     counts: &[u32],
@@ -374,7 +374,7 @@ fn try_all(
     s: &[u8],
     moves: &[u16],
     endable: &[bool],
-    skips: &[usize],
+    skips: &[u32],
     held: &[bool],
     finals: &[bool],
     counts: &[u32],
@@ -425,7 +425,7 @@ fn explore(
     s: &[u8],
     moves: &[u16],
     endable: &[bool],
-    skips: &[usize],
+    skips: &[u32],
     work: &mut [u32],
     trace: &mut [u16],
     t: Task,

@@ -22,7 +22,7 @@ nth-right [] ys k j {x} e h = subst (λ (n : ℕ). getElem? ys n ≡ some x) (om
 nth-right (a ∷ xs) ys zero j e h = absurd (omega arith)
 nth-right (a ∷ xs) ys (suc k) j e h = nth-right xs ys k j (omega arith) h
 
-nth-map : {A B : Type 0} (f : A → B) (xs : List A) (k : ℕ) {x : A} → getElem? xs k ≡ some x → getElem? (map f xs) k ≡ some (f x)
+pub nth-map : {A B : Type 0} (f : A → B) (xs : List A) (k : ℕ) {x : A} → getElem? xs k ≡ some x → getElem? (map f xs) k ≡ some (f x)
 nth-map f [] k h = cc
 nth-map f (a ∷ xs) zero h = cc
 nth-map f (a ∷ xs) (suc k) h = nth-map f xs k h

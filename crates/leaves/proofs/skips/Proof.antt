@@ -22,6 +22,12 @@ places-of-requires c κs = search needs
 bounds-requires : tie.Need-bounds-requires Inv-loop μ-loop
 bounds-requires c κs = search needs
 
+cast-skips : tie.Need-cast-skips Inv-loop μ-loop
+cast-skips c = search needs
+
+cast-first : tie.Need-cast-first Inv-loop μ-loop
+cast-first c = search needs
+
 loop-holds : tie.Need-loop-holds Inv-loop μ-loop
 loop-holds c = (search needs, length-replicate 261 (c .before .places-of .result), none)
 
@@ -33,6 +39,9 @@ slice-aggregate-doubt-at c = search needs
 
 doubt-at-requires : tie.Need-doubt-at-requires Inv-loop μ-loop
 doubt-at-requires c κs = search needs
+
+cast-first-2 : tie.Need-cast-first-2 Inv-loop μ-loop
+cast-first-2 c = search needs
 
 mul-skips : tie.Need-mul-skips Inv-loop μ-loop
 mul-skips c = search needs
@@ -70,10 +79,13 @@ skips-spec =
     μ-loop
     places-of-requires
     bounds-requires
+    cast-skips
+    cast-first
     loop-holds
     sub-i
     slice-aggregate-doubt-at
     doubt-at-requires
+    cast-first-2
     mul-skips
     array-write-skips
     loop-less

@@ -1,0 +1,174 @@
+-- Tables that were filled by one pass over the sheet's records are those of the sheet, and of a state. Assumes nothing.
+use mathlib.Core.Path.{_≡_, sym, _∙_, ap, subst}
+use mathlib.Core.Bool.{Bool, true}
+use mathlib.Core.List.{List, map}
+use Prim.Native.Nat.{ℕ, _-_, _≤_}
+use native.Mathlib.Omega.{arith}
+use lib.ListN.{length, getD, drop, replicate, length-drop, length-replicate, List·getD-eq-default, length-map}
+use lib.Seq.{ext-getD, getD-drop}
+use Rattle.records.specs.Records.{programAt}
+use Rattle.records.specs.declared.Program.{Program}
+use Rattle.records.specs.Table.{upTo}
+use Rattle.records.proofs.Fills.{getD-same, default-at, length-up}
+use Rattle.sheet.specs.Layout.{layoutOf, formulasIn, effectsIn, actionsIn, programsIn}
+use Rattle.sheet.specs.declared.Layout.{Layout}
+use Rattle.sheet.proofs.Accepted.{laid}
+use Rattle.golog.specs.declared.State.{State}
+use Rattle.held.specs.Extended.{table}
+use Rattle.held.specs.Leaves.{leafAt}
+use Rattle.held.specs.Rest.{AllLower}
+use Rattle.demands.specs.Decoded.{worldOf, interruptsIn}
+use Rattle.demands.specs.Held.{heldRecords}
+use Rattle.demands.proofs.Held.{all-lower}
+use Rattle.state.specs.Truths as truths
+use Rattle.state.specs.Truths.{truthsOf}
+use Rattle.state.proofs.Held.{truths-held}
+use Rattle.leaves.specs.Tallies.{places, counted, countsOf, possibleIn, Tallied}
+use Rattle.leaves.specs.Endable.{Endable, boundsOf, skipsOf, Skips, Decides}
+use Rattle.leaves.proofs.Marking.{bounds-above, bounds-after, places-few}
+use Rattle.leaves.proofs.Skipping.{skips-settled}
+use Rattle.leaves.proofs.Entries.{finals-whole, counts-whole}
+use Rattle.engine.specs.Tables.{truthsIn, finalsIn, endableIn, countsIn, skipsIn, placesOf, Prepared, Judged, Surveyed}
+use Rattle.engine.specs.Frames.{Of}
+use Rattle.engine.specs.declared.Machine.{Machine}
+use Rattle.engine.proofs.Parts.{by-machine, of-machine}
+use Rattle.engine.proofs.Seen.{sees}
+use Rattle.engine.proofs.Tables.{finals-long, counts-long}
+
+-- the table that runs and its number of records, by the names of a layout
+abbrev pub runs : List ℕ → Layout → (interrupts : Bool) → ℕ → Program
+runs s l b = table b (programAt (programsIn s l)) (l .p)
+
+abbrev pub many : Layout → (interrupts : Bool) → ℕ
+many l b = places b (l .p)
+
+few-places : {s : List ℕ} {m : Machine} → Of s m → placesOf s ≤ 260
+few-places {s} O = places-few (interruptsIn s) _ (laid s (O .accepted) .p)
+
+module _ {s : List ℕ} {m : Machine} (O : Of s m) where
+  pub runs-lower : AllLower (runs s (m .layout) (m .interrupts))
+  runs-lower = by-machine O (λ (l : Layout) (b : Bool) (f : ℕ). AllLower (runs s l b)) (all-lower s (O .accepted))
+
+  -- what the formulas say in a state
+  pub truths-told :
+      (st : State) (old : List Bool) {held : List Bool} → held ≡ truthsOf (formulasIn s (m .layout)) (st .values) (m .layout .q) old → truths.Held (worldOf s) st (layoutOf s .q) held
+  truths-told st old {held} e =
+      let l = layoutOf s in
+      let e₂ = e ∙ ap (λ (l : Layout). truthsOf (formulasIn s l) (st .values) (l .q) old) (O .layout-is) in
+      subst (truths.Held (worldOf s) st (l .q)) (sym e₂) (truths-held (formulasIn s l) (effectsIn s l) (actionsIn s l) st (l .q) old)
+
+  -- once told of a sheet
+  pub prepared :
+      {flags : List Bool} {numbers : List ℕ} (marks : List Bool)
+      → length flags ≡ 1032 → length numbers ≡ 521
+      → endableIn flags ≡ marks
+      → marks ≡ boundsOf true (runs s (m .layout) (m .interrupts)) (many (m .layout) (m .interrupts))
+      → countsIn numbers ≡ replicate 260 0
+      → skipsIn numbers ≡ skipsOf (runs s (m .layout) (m .interrupts)) (many (m .layout) (m .interrupts)) marks
+      → Prepared s flags numbers
+  prepared {flags} {numbers} marks n k e eb ec es =
+      let low = all-lower s (O .accepted) in
+      let e₂ = e ∙ of-machine O (λ (l : Layout) (b : Bool) (f : ℕ). marks ≡ boundsOf true (runs s l b) (many l b)) eb in
+      let E : Endable (heldRecords s) (placesOf s) (endableIn flags) = subst (Endable (heldRecords s) (placesOf s)) (sym e₂) (bounds-above (heldRecords s) low (placesOf s)) in
+      let S = skips-settled (heldRecords s) (placesOf s) (endableIn flags) low E in
+      let e₃ = of-machine O (λ (l : Layout) (b : Bool) (f : ℕ). skipsIn numbers ≡ skipsOf (runs s l b) (many l b) marks) es in
+      let e₄ = e₃ ∙ ap (skipsOf (heldRecords s) (placesOf s)) (sym e) in
+      record {
+        flags-long = n;
+        numbers-long = k;
+        endable = E;
+        none-final = λ i l. ap (λ (x : List Bool). getD x i true) e₂ ∙ bounds-after true (heldRecords s) (placesOf s) i l;
+        none-counted = λ i l. ap (λ (x : List ℕ). getD x i 0) ec ∙ getD-same 0 260 i;
+        skipping = subst (Skips (heldRecords s) (placesOf s) (endableIn flags)) (sym e₄) S;
+      }
+
+  module _ {flags : List Bool} {numbers : List ℕ} (P : Prepared s flags numbers) where
+    -- what a pass over the records in doubt goes by
+    pub skips-by :
+        (finals : List Bool) (skips : List ℕ) → finals ≡ endableIn flags → skips ≡ skipsIn numbers
+        → Skips (runs s (m .layout) (m .interrupts)) (many (m .layout) (m .interrupts)) finals skips
+    skips-by finals skips e k =
+        by-machine O (λ (l : Layout) (b : Bool) (f : ℕ). Skips (runs s l b) (many l b) finals skips)
+        (subst (λ (x : List Bool). Skips (heldRecords s) (placesOf s) x skips) (sym e)
+        (subst (Skips (heldRecords s) (placesOf s) (endableIn flags)) (sym k) (P .skipping)))
+
+    prepared-kept : (flags′ : List Bool) → length flags′ ≡ 1032 → endableIn flags′ ≡ endableIn flags → Prepared s flags′ numbers
+    prepared-kept flags′ n e = record {
+      flags-long = n;
+      numbers-long = P .numbers-long;
+      endable = subst (Endable (heldRecords s) (placesOf s)) (sym e) (P .endable);
+      none-final = λ i l. ap (λ (x : List Bool). getD x i true) e ∙ P .none-final i l;
+      none-counted = P .none-counted;
+      skipping = subst (λ (x : List Bool). Skips (heldRecords s) (placesOf s) x (skipsIn numbers)) (sym e) (P .skipping);
+    }
+
+    -- told of a state
+    pub judged :
+        (st : State) (flags′ : List Bool) → length flags′ ≡ 1032 → endableIn flags′ ≡ endableIn flags
+        → truths.Held (worldOf s) st (layoutOf s .q) (truthsIn flags′)
+        → Decides (runs s (m .layout) (m .interrupts)) (many (m .layout) (m .interrupts)) (truthsIn flags′) (st .running) (finalsIn flags′)
+        → ((i : ℕ) → many (m .layout) (m .interrupts) ≤ i → getD (finalsIn flags′) i true ≡ getD (endableIn flags) i true)
+        → Judged s st flags′ numbers
+    judged st flags′ n e H D A =
+        let W = worldOf s in
+        let D₂ = of-machine O (λ (l : Layout) (b : Bool) (f : ℕ). Decides (runs s l b) (many l b) (truthsIn flags′) (st .running) (finalsIn flags′)) D in
+        let A₂ = of-machine O (λ (l : Layout) (b : Bool) (f : ℕ). (i : ℕ) → many l b ≤ i → getD (finalsIn flags′) i true ≡ getD (endableIn flags) i true) A in
+        let F = D₂ W st _ (sees s (O .accepted) st (truthsIn flags′) H) in
+        record {
+          prepared = prepared-kept flags′ n e;
+          truths-are = H;
+          decides = D₂;
+          finals-are = finals-whole W st (heldRecords s) (placesOf s) (few-places O) (finalsIn flags′) (finals-long flags′ n) F (λ i l. A₂ i l ∙ P .none-final i l);
+        }
+
+  module _ {st : State} {flags : List Bool} {numbers : List ℕ} (J : Judged s st flags numbers) where
+    abbrev pub seenBy : Layout → ℕ → Bool
+    seenBy l = possibleIn (actionsIn s l) (l .a) (truthsIn flags)
+
+    pub decides-by : Decides (runs s (m .layout) (m .interrupts)) (many (m .layout) (m .interrupts)) (truthsIn flags) (st .running) (finalsIn flags)
+    decides-by = by-machine O (λ (l : Layout) (b : Bool) (f : ℕ). Decides (runs s l b) (many l b) (truthsIn flags) (st .running) (finalsIn flags)) (J .decides)
+
+    -- behind the records no transition is counted
+    nil-counts : drop (placesOf s) (countsIn numbers) ≡ replicate (260 - placesOf s) 0
+    nil-counts =
+        let m = placesOf s in
+        let n = length-drop m (countsIn numbers) in
+        let k = counts-long (J .prepared) in
+        ext-getD 0 (drop m (countsIn numbers)) (replicate (260 - m) 0) (omega (arith, n, k, length-replicate {A = ℕ} (260 - m) 0))
+        (λ i l. getD-drop m (countsIn numbers) i 0 ∙ J .prepared .none-counted _ (omega arith) ∙ sym (getD-same 0 (260 - m) i))
+
+    counts-after : (i : ℕ) → placesOf s ≤ i → getD (countsOf (worldOf s) st (heldRecords s) (placesOf s)) i 0 ≡ 0
+    unfolding countsOf
+    counts-after i l =
+        let made = map counted (upTo (leafAt (worldOf s) st (heldRecords s)) (placesOf s)) in
+        let few : length made ≤ i = simp (length-map, length-up) l in
+        default-at 0 made (260 - placesOf s) i ∙ List·getD-eq-default made 0 few
+
+    -- counted in a state
+    pub surveyed :
+        (numbers′ : List ℕ) → length numbers′ ≡ 521 → skipsIn numbers′ ≡ skipsIn numbers
+        → Tallied (runs s (m .layout) (m .interrupts)) (many (m .layout) (m .interrupts)) (truthsIn flags) (seenBy (m .layout)) (st .running) (countsIn numbers) (countsIn numbers′)
+        → Surveyed s st flags numbers′
+    surveyed numbers′ n e T =
+        let W = worldOf s in
+        let P = J .prepared in
+        let T₂ = of-machine O (λ (l : Layout) (b : Bool) (f : ℕ). Tallied (runs s l b) (many l b) (truthsIn flags) (seenBy l) (st .running) (countsIn numbers) (countsIn numbers′)) T in
+        let S = sees s (O .accepted) st (truthsIn flags) (J .truths-are) in
+        let c = T₂ W st S ∙ counts-whole W st (heldRecords s) (placesOf s) (countsIn numbers) nil-counts in
+        record {
+          prepared =
+              record {
+                flags-long = P .flags-long;
+                numbers-long = n;
+                endable = P .endable;
+                none-final = P .none-final;
+                none-counted = λ i l. ap (λ (x : List ℕ). getD x i 0) c ∙ counts-after i l;
+                skipping = subst (Skips (heldRecords s) (placesOf s) (endableIn flags)) (sym e) (P .skipping);
+              };
+          truths-are = J .truths-are;
+          tabled =
+              record {
+                counted = record { can = seenBy (layoutOf s); sees = S; lower = all-lower s (O .accepted); counts-are = c };
+                finals-are = J .finals-are;
+              };
+        }

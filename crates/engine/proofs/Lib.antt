@@ -1,0 +1,12 @@
+pub mod Parts
+pub mod Codes
+pub mod Seen
+pub mod Actions
+pub mod Moves
+pub mod Copied
+pub mod Tables
+pub mod Frames
+pub mod Judging
+pub mod Going
+pub mod Telling
+pub mod Made

@@ -1,0 +1,36 @@
+-- Every move of a remaining program is that of an act record: so where the acts of a table name what can be performed, every move does.
+-- Assumes nothing.
+use mathlib.Core.Path.{_≡_, refl, sym, subst}
+use mathlib.Core.Bool.{Bool, true, false, cond}
+use mathlib.Core.List.{List·Memᴰ}
+use mathlib.Core.Option.{none, some}
+use Prim.Native.Nat.{ℕ}
+use lib.Dec.{T, eqb, eqb→eq}
+use Rattle.records.specs.declared.Program.{Program}
+use Rattle.golog.specs.declared.State.{State}
+use Rattle.golog.specs.World.{World}
+use Rattle.golog.specs.Steps.{isNone}
+use Rattle.held.specs.Rest.{Rest, gone, leaf, node, AllLower}
+use Rattle.held.specs.Leaves.{Move, ownMove, restFinal, goesRight, wrapRight, restSteps}
+use Rattle.held.proofs.Every.{Every, nobody, every-append, every-map, every-part, every-at, leaf-every}
+use Rattle.engine.specs.Going.{Known}
+
+module _ (K : ℕ → Type 0) where
+  known-own : (r : Program) → (r .kind ≡ 1 → K (r .a)) → Known K (ownMove r)
+  known-own r h = go (eqb (r .kind) 1) refl
+    where
+      go : (b : Bool) → eqb (r .kind) 1 ≡ b → Known K (cond b (some (r .a)) none)
+      go true e = h (eqb→eq (r .kind) 1 (subst T (sym e) tt))
+      go false e = tt
+
+  module _ (W : World) (s : State) (p : ℕ → Program) (low : AllLower p) (acts : (i : ℕ) → p i .kind ≡ 1 → K (p i .a)) where
+    all-known : (g : Rest) → Every (λ (x : Move). Known K (x .0)) (restSteps W s p g)
+    unfolding restSteps
+    all-known gone = nobody
+    all-known (leaf i) = leaf-every W s p low (λ (i : ℕ) (x : Move). Known K (x .0)) (λ i. known-own (p i) (acts i)) (λ i x t h. h) (λ i x t h. h) i
+    all-known (node tag l r) =
+        every-append (every-map (λ (g : Rest). node tag g r) (λ x h. h) (all-known l))
+        (every-part (goesRight tag (restFinal W s p l) (isNone (restSteps W s p l))) (wrapRight tag l) (λ t x h. h) (λ t. all-known r))
+
+    pub rest-known : (g : Rest) (x : Move) → List·Memᴰ x (restSteps W s p g) → Known K (x .0)
+    rest-known g x k = every-at (all-known g) k

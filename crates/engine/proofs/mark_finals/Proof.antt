@@ -1,0 +1,137 @@
+-- The records in doubt are gone through upwards, by the law of Skipping: each turn puts what the record is, whatever state is seen so.
+-- Assumes nothing.
+use denote.Ref.{now}
+use mathlib.Core.Path.{_≡_, refl, sym, _∙_, ap}
+use mathlib.Core.Bool.{Bool, true}
+use mathlib.Core.List.{List}
+use Prim.Native.Nat.{ℕ, _+_, _-_, _≤_, _<_}
+use native.Mathlib.Omega.{arith}
+use lib.ListN.{length, getD, length-set}
+use lib.Seq.{getD-set-other}
+use Rattle.records.specs.Records.{programAt}
+use Rattle.golog.specs.declared.State.{State}
+use Rattle.golog.specs.World.{World}
+use Rattle.held.specs.Extended.{table}
+use Rattle.leaves.specs.Tallies.{places, Sees, finalBy}
+use Rattle.leaves.specs.Endable.{Decides}
+use Rattle.leaves.proofs.Skipping.{Done, first, next}
+use Rattle.engine.specs.Tables.{truthsIn, finalsIn, OnlyFinals}
+use Rattle.engine.proofs.Tables.{finals-long, only-same, final-set, only-more}
+use borrow.Author.Needs.{needs}
+use Rattle.engine.proofs.mark_finals.Statement.{statement}
+use Rattle.engine.proofs.mark_finals.Tie as tie
+
+abbrev Inv-loop : tie.InvT-loop
+Inv-loop flags₀ programs n interrupts skips running m i₀ flags i =
+    (length flags ≡ 1032)
+    × OnlyFinals flags₀ flags
+    × ((a : ℕ) → places interrupts n ≤ a → getD (finalsIn flags) a true ≡ getD (finalsIn flags₀) a true)
+    × ((W : World) (s : State) (can : ℕ → Bool) → Sees W s (table interrupts (programAt programs) n) (places interrupts n) (truthsIn flags₀) can running →
+    Done W s (table interrupts (programAt programs) n) (places interrupts n) (finalsIn flags₀) (finalsIn flags) i)
+
+abbrev μ-loop : tie.MeasureT-loop
+μ-loop flags₀ programs n interrupts skips running m i₀ flags i = m - i
+
+places-of-requires : tie.Need-places-of-requires Inv-loop μ-loop
+places-of-requires c κs = search needs
+
+skip-in-requires : tie.Need-skip-in-requires Inv-loop μ-loop
+skip-in-requires c κs = search needs
+
+-- Places: what stands before a need, by name. Written by `named`: run it again when the code changes.
+abbrev start-from-places-of : tie.After-places-of Inv-loop μ-loop → tie.Start Inv-loop μ-loop
+start-from-places-of c = c .before .before .before .before
+
+abbrev start-from-loop : tie.At-loop Inv-loop μ-loop → tie.Start Inv-loop μ-loop
+start-from-loop c = start-from-places-of (c .before .before)
+
+abbrev loop-from-final-by : tie.After-final-by Inv-loop μ-loop → tie.At-loop Inv-loop μ-loop
+loop-from-final-by c = c .before .before .before .before
+
+loop-holds : tie.Need-loop-holds Inv-loop μ-loop
+loop-holds c =
+    let at-start = start-from-places-of (c .before) in
+    let e = c .before .places-of .ensures .0 in
+    (at-start .pre .0 .3, only-same _, λ a h. refl, λ W s can S. rw (c .skip-in .ensures, e) (first (at-start .pre .1 .1)))
+
+record-at-requires : tie.Need-record-at-requires Inv-loop μ-loop
+record-at-requires c κs = search needs
+
+final-by-requires : tie.Need-final-by-requires Inv-loop μ-loop
+final-by-requires c κs = c .before .before .before .loop .inv .0
+
+add-flags : tie.Need-add-flags Inv-loop μ-loop
+add-flags c = search needs
+
+slice-write-flags : tie.Need-slice-write-flags Inv-loop μ-loop
+slice-write-flags c = omega (arith, loop-from-final-by c .loop .inv .0)
+
+add-skip-in : tie.Need-add-skip-in Inv-loop μ-loop
+add-skip-in c = search needs
+
+skip-in-requires-2 : tie.Need-skip-in-requires-2 Inv-loop μ-loop
+skip-in-requires-2 c κs = search needs
+
+loop-less : tie.Need-loop-less Inv-loop μ-loop
+loop-less c =
+    let at-loop = loop-from-final-by (c .before) in
+    let at-places-of = at-loop .before .before in
+    let at-start = start-from-places-of at-places-of in
+    let e = at-places-of .places-of .ensures .0 in
+    let o = at-start .pre .1 .1 .onward (at-loop .loop .i + 1) (omega (arith, e)) in
+    rw (c .skip-in2 .ensures, e) (omega (arith, o, e))
+
+loop-again : tie.Need-loop-again Inv-loop μ-loop
+loop-again c =
+    let at-final-by = c .before in
+    let at-record-at = at-final-by .before .before in
+    let at-loop = at-record-at .before .before in
+    let at-places-of = at-loop .before .before in
+    let at-start = start-from-places-of at-places-of in
+    let e = at-places-of .places-of .ensures .0 in
+    let z = at-start .pre .1 in
+    let v = at-loop .loop .inv in
+    let i = at-loop .loop .i in
+    let f = at-final-by .final-by .result in
+    let flags = at-loop .loop .flags in
+    let finals = finalsIn flags in
+    let few : i < 260 = omega (arith, at-places-of .places-of .ensures .1) in
+    let l : i < places (at-start .args .interrupts) (at-start .args .n) = omega (arith, e) in
+    let by = at-final-by .final-by .ensures ∙ ap (λ (held : List Bool). finalBy (at-record-at .record-at .result) held (at-start .args .running) finals) (v .1 .truths-kept) in (
+      simp length-set (v .0),
+      only-more flags i f few (v .1),
+      λ a h. rw (final-set flags i f few) (getD-set-other finals i a f true (λ u. omega (arith, l)) ∙ v .2 a h),
+      λ W s can S. rw (final-set flags i f few, c .skip-in2 .ensures, e) (next (z .1) (z .0) (v .3 W s can S) l (S .each _ l) (S .runs) (omega (arith, finals-long flags (v .0)))
+          (rw (at-record-at .record-at .ensures .0) at by)),
+    )
+
+same-length : tie.Need-same-length Inv-loop μ-loop
+same-length c = c .before .loop .inv .0 ∙ sym (start-from-loop (c .before) .pre .0 .3)
+
+returns : tie.Need-returns Inv-loop μ-loop
+returns c =
+    let at-loop = c .before in
+    let at-start = start-from-loop at-loop in
+    let v = at-loop .loop .inv in
+    let D : Decides _ _ (truthsIn (now (at-start .args .flags))) _ (finalsIn (at-loop .loop .flags)) = λ W s can S i h. v .3 W s can S .right i (omega arith) h in
+    (rw (v .1 .truths-kept) D, (v .1, v .2))
+
+pub mark-finals-spec : {M : Type 1} → statement M
+mark-finals-spec =
+    tie.close
+    (tie.spec
+    Inv-loop
+    μ-loop
+    places-of-requires
+    skip-in-requires
+    loop-holds
+    record-at-requires
+    final-by-requires
+    add-flags
+    slice-write-flags
+    add-skip-in
+    skip-in-requires-2
+    loop-less
+    loop-again
+    same-length
+    returns)

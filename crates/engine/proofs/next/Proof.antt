@@ -1,0 +1,116 @@
+-- A spent cursor has none ahead of it; else the transition at the cursor is made, for there is one. Assumes nothing.
+use denote.Ref.{now}
+use native.Mathlib.Omega.{arith}
+use mathlib.Core.Bool.{true≢false}
+use mathlib.Core.Path.{sym, _∙_, subst}
+use Rattle.words.proofs.Written.{kept-refl}
+use Rattle.engine.specs.Going.{Makes}
+use Rattle.engine.proofs.Tables.{truths-long}
+use Rattle.engine.proofs.Going.{ahead-none}
+use Rattle.engine.proofs.Made.{none-left, made-coded, made-next, step-kept}
+use borrow.Author.Needs.{needs}
+use Rattle.engine.proofs.next.Statement.{statement}
+use Rattle.engine.proofs.next.Tie as tie
+
+none-made-requires : tie.Need-none-made-requires
+none-made-requires c κs = search needs
+
+-- Places: what stands before a need, by name. Written by `named`: run it again when the code changes.
+abbrev start-from-else1 : tie.Else1 → tie.Start
+start-from-else1 c = c .before .before .before .before .before .before
+
+abbrev start-from-then1 : tie.Then1 → tie.Start
+start-from-then1 c = c .before .before .before .before .before .before
+
+abbrev start-from-lay-next : tie.After-lay-next → tie.Start
+start-from-lay-next c = start-from-else1 (c .before .before)
+
+abbrev lay-next-from-enum-told : tie.After-enum-told → tie.After-lay-next
+lay-next-from-enum-told c = c .before .before .before .before
+
+abbrev lay-next-from-turn : tie.After-turn → tie.After-lay-next
+lay-next-from-turn c = c .before .before .before .before
+
+abbrev start-from-turn : tie.After-turn → tie.Start
+start-from-turn c = start-from-lay-next (lay-next-from-turn c)
+
+returns : tie.Need-returns
+returns c =
+    let at-start = start-from-then1 (c .before) in
+    let r = c .none-made .ensures in
+    record {
+      makes = λ g. subst (Makes (now (at-start .args .s)) (g .program, at-start .args .st) (g .left) _ _ (c .none-made .result)) (sym (ahead-none (g .listed) (c .before .if1 .taken))) r;
+      kept = kept-refl _ _;
+      falls = λ e. absurd (true≢false (sym e ∙ r));
+    }
+
+lay-next-requires : tie.Need-lay-next-requires
+lay-next-requires c κs = search needs
+
+enum-known-turn : tie.Need-enum-known-turn
+enum-known-turn c = search needs
+
+enum-told : tie.Need-enum-told
+enum-told c = search needs
+
+none-made-requires-2 : tie.Need-none-made-requires-2
+none-made-requires-2 c κs = search needs
+
+same-length : tie.Need-same-length
+same-length c = search needs
+
+returns-2 : tie.Need-returns-2
+returns-2 c =
+    let at-lay-next = lay-next-from-enum-told (c .before) in
+    let at-if1 = at-lay-next .before .before in
+    let at-start = start-from-else1 at-if1 in
+    let P = at-start .pre in
+    absurd (none-left (P .0 .accepted) (at-lay-next .lay-next .ensures) (P .2) _ _ (c .before .enum-told .given .1) (at-if1 .if1 .left))
+
+slice-aggregate-state-after : tie.Need-slice-aggregate-state-after
+slice-aggregate-state-after c = truths-long (start-from-turn (c .before .before) .pre .1 .prepared)
+
+state-after-requires : tie.Need-state-after-requires
+state-after-requires c κs =
+    let at-lay-next = lay-next-from-turn (c .before .before) in
+    let at-start = start-from-lay-next at-lay-next in
+    let P = at-start .pre in
+    ((P .0, P .1 .truths-are), made-coded (P .0 .accepted) (at-lay-next .lay-next .ensures) (P .2) (c .before .before .turn .given .1))
+
+add-t17 : tie.Need-add-t17
+add-t17 c = search needs
+
+same-length-2 : tie.Need-same-length-2
+same-length-2 c = search needs
+
+returns-3 : tie.Need-returns-3
+returns-3 c =
+    let at-turn = c .before .before .before .before in
+    let at-lay-next = lay-next-from-turn at-turn in
+    let at-if1 = at-lay-next .before .before in
+    let at-start = start-from-else1 at-if1 in
+    let P = at-start .pre in
+    let A = at-lay-next .lay-next .ensures in
+    record {
+      makes = λ g. made-next (P .0 .accepted) A g (at-turn .turn .given .1) (c .before .state-after .ensures);
+      kept = step-kept (P .0 .accepted) A (P .2);
+      falls = λ e. omega (arith, at-if1 .if1 .left);
+    }
+
+pub next-spec : {M : Type 1} → statement M
+next-spec =
+    tie.close
+    (tie.spec
+    none-made-requires
+    returns
+    lay-next-requires
+    enum-known-turn
+    enum-told
+    none-made-requires-2
+    same-length
+    returns-2
+    slice-aggregate-state-after
+    state-after-requires
+    add-t17
+    same-length-2
+    returns-3)

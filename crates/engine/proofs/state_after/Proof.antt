@@ -1,0 +1,83 @@
+-- A test leaves the state; an action that the sheet has is performed by its tables. Assumes nothing.
+use denote.Ref.{now}
+use Prim.Native.Nat.{ℕ}
+use native.Mathlib.Omega.{arith}
+use mathlib.Core.Option.{Option}
+use mathlib.Core.Path.{sym, _∙_, ap}
+use Rattle.sheet.specs.Layout.{layoutOf, formulasIn, effectsIn, actionsIn}
+use Rattle.sheet.specs.declared.Layout.{Layout}
+use Rattle.golog.specs.World.{after}
+use Rattle.demands.specs.Decoded.{worldOf}
+use Rattle.state.specs.Performed.{performBy}
+use Rattle.state.proofs.Performed.{perform-is}
+use Rattle.engine.proofs.Codes.{test-of, move-of, action-of-code}
+use Rattle.engine.proofs.Actions.{performable, judged}
+use Rattle.engine.proofs.Parts.{in-order, fits-in}
+use Rattle.engine.proofs.state_after.Statement.{statement}
+use Rattle.engine.proofs.state_after.Tie as tie
+
+returns : tie.Need-returns
+returns c =
+    let at-start = c .before .before .before in
+    λ x k. sym (ap (λ (x : Option ℕ). after (worldOf (now (at-start .args .s))) x (at-start .args .st)) (test-of x k (c .if1 .taken)))
+
+sub-perform : tie.Need-sub-perform
+sub-perform c = in-order (fits-in (c .before .before .before .before .pre .0 .0)) .effects
+
+part-perform-start : tie.Need-part-perform-start
+part-perform-start c = let o = in-order (fits-in (c .before .before .before .before .pre .0 .0)) in omega arith
+
+part-perform-end : tie.Need-part-perform-end
+part-perform-end c = let o = in-order (fits-in (c .before .before .before .before .pre .0 .0)) in omega arith
+
+-- Places: what stands before a need, by name. Written by `named`: run it again when the code changes.
+abbrev start-from-else1 : tie.Else1 → tie.Start
+start-from-else1 c = c .before .before .before
+
+sub-perform-2 : tie.Need-sub-perform-2
+sub-perform-2 c = in-order (fits-in (start-from-else1 (c .before .before) .pre .0 .0)) .actions
+
+part-perform-start-2 : tie.Need-part-perform-start-2
+part-perform-start-2 c = let o = in-order (fits-in (start-from-else1 (c .before .before) .pre .0 .0)) in omega arith
+
+part-perform-end-2 : tie.Need-part-perform-end-2
+part-perform-end-2 c = let o = in-order (fits-in (start-from-else1 (c .before .before) .pre .0 .0)) in omega arith
+
+perform-requires : tie.Need-perform-requires
+perform-requires c κs =
+    let at-if1 = c .before .before .before in
+    let at-start = start-from-else1 at-if1 in
+    let O = at-start .pre .0 .0 in
+    let x = at-start .pre .1 in
+    let a = action-of-code (x .0) (x .1) (at-if1 .if1 .left) in
+    (rw (O .layout-is) (performable (now (at-start .args .s)) (O .accepted) (at-start .args .entry) a), fits-in O .f)
+
+returns-2 : tie.Need-returns-2
+returns-2 c =
+    let at-if1 = c .before .before .before .before in
+    let at-start = start-from-else1 at-if1 in
+    λ x k.
+    let s = now (at-start .args .s) in
+    let e = at-start .args .entry in
+    let st = at-start .args .st in
+    let O = at-start .pre .0 .0 in
+    let l = layoutOf s in
+    let held = now (at-start .args .held) in
+    let by = c .perform .ensures ∙ ap (λ (l : Layout). performBy (effectsIn s l) (actionsIn s l) held e st) (O .layout-is) in
+    let action = judged s (O .accepted) e (action-of-code x k (at-if1 .if1 .left)) in
+    let is = perform-is (formulasIn s l) (effectsIn s l) (actionsIn s l) st (l .q) held (at-start .pre .0 .1) e action in
+    by ∙ is ∙ sym (ap (λ (x : Option ℕ). after (worldOf s) x st) (move-of x k (at-if1 .if1 .left)))
+
+pub state-after-spec : {M : Type 1} → statement M
+state-after-spec =
+    tie.close
+    (tie.spec
+    returns
+    sub-perform
+    part-perform-start
+    part-perform-end
+    sub-perform-2
+    part-perform-start-2
+    part-perform-end-2
+    perform-requires
+    returns-2)

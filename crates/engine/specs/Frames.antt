@@ -1,0 +1,43 @@
+-- A frame: a remaining program in words, with room for those that follow it (document 01, "Work area"). The engine's own vocabulary.
+-- Assumes nothing.
+use Prim.Native.Nat.{ℕ, _+_, _*_, _^_, _≤_, _<_}
+use mathlib.Core.Path.{_≡_}
+use mathlib.Core.List.{List}
+use lib.ListN.{length}
+use Rattle.height.specs.Work.{frameWords}
+use Rattle.sheet.specs.Layout.{layoutOf}
+use Rattle.sheet.specs.Check.{Accepts}
+use Rattle.golog.specs.Prog.{Prog}
+use Rattle.held.specs.Rest.{Rest, full, nodes, high}
+use Rattle.demands.specs.Decoded.{interruptsIn, boundOf}
+use Rattle.demands.specs.Held.{heldRecords, levelsOf}
+use Rattle.words.specs.Words.{At}
+use Rattle.ends.specs.Ends.{Within}
+use Rattle.engine.specs.Tables.{placesOf}
+use Rattle.engine.specs.declared.Machine.{Machine}
+
+-- the words of a frame of a sheet
+abbrev pub frameOf : List ℕ → ℕ
+frameOf s = frameWords (levelsOf s) (boundOf s)
+
+-- a machine is that of an accepted sheet
+pub record Of (s : List ℕ) (m : Machine) : Type 0 where
+  pub accepted : Accepts s
+  pub layout-is : m .layout ≡ layoutOf s
+  pub interrupts-are : m .interrupts ≡ interruptsIn s
+  pub frame-is : m .frame ≡ frameOf s
+
+-- the frame at `at` may grow by what `left` transitions add to g, and as many frames follow it
+pub record Roomy (s : List ℕ) (left : ℕ) (w : List ℕ) (at : ℕ) (g : Rest) : Type 0 where
+  pub large : 64 + 3 * (nodes g + 2 * levelsOf s * left) ≤ frameOf s
+  pub inside : at + frameOf s + frameOf s * left ≤ length w
+  pub small : length w < 2 ^ 32
+  pub high-is : high (heldRecords s) g ≤ levelsOf s
+  pub within : Within (heldRecords s) (placesOf s) g
+
+-- the remaining program p stands in the frame at `at`, with room for `left` transitions more
+pub record Frame (s : List ℕ) (left : ℕ) (w : List ℕ) (at : ℕ) (p : Prog) : Type 0 where
+  pub rest : Rest
+  pub stands-for : full (heldRecords s) rest ≡ p
+  pub words-are : At rest w (at + 64)
+  pub roomy : Roomy s left w at rest

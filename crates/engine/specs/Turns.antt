@@ -1,0 +1,15 @@
+-- The transition at a cursor, laid out in words. The engine's own vocabulary. Assumes nothing.
+use Prim.Native.Nat.{ℕ, _+_}
+use mathlib.Core.List.{List}
+use Rattle.golog.specs.declared.State.{State}
+use Rattle.demands.specs.Decoded.{worldOf}
+use Rattle.demands.specs.Held.{heldRecords}
+use Rattle.steps.specs.Stepped.{Stepped}
+use Rattle.steps.specs.declared.Turn.{Turn}
+use Rattle.engine.specs.Frames.{frameOf}
+use Rattle.engine.specs.Going.{CanGoOn}
+use Rattle.engine.specs.declared.Cursor.{Cursor}
+
+-- what it leaves stands in the frame after that at `at`, or it has none
+abbrev pub Turns : (s : List ℕ) (st : State) (at : ℕ) (k : Cursor) (w w′ : List ℕ) → Turn → Type 0
+Turns s st at k w w′ t = (g : CanGoOn s st w at k) → Stepped (worldOf s) st (heldRecords s) (g .frame .rest) (k .next) (at + frameOf s + 64) w w′ t
