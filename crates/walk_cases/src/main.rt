@@ -1,24 +1,28 @@
-// Walks worked cases of document 01 (its example of three sections) transition by transition, through the functions that the search is
-// made of, and writes each configuration and each transition taken.
+// Walks worked cases of document 01 (its example of three sections) transition by transition, through the engine that the strategies go
+// through, and writes each configuration and each transition taken.
 ghost use mathlib.Core.Path.{_≡_};
-ghost use Prim.Native.Nat.{_+_, _≤_};
+ghost use mathlib.Core.Bool.{true};
+ghost use Prim.Native.Nat.{ℕ, _+_, _≤_};
 ghost use lib.ListN.{length};
 ghost use Rattle.sheet.specs.Check.{Accepts, checkOf};
 ghost use Rattle.sheet.specs.Layout.{layoutOf};
 ghost use Rattle.sheet.specs.declared.Checked.the-variants.{Accepted};
 ghost use Rattle.height.specs.Work.{workWords};
+ghost use Rattle.golog.specs.Prog.{Prog};
 ghost use Rattle.demands.specs.Decoded.{boundOf};
 ghost use Rattle.demands.specs.Held.{levelsOf};
-ghost use Rattle.search.specs.Frames.{Config, Stands, Tasked, Ready};
+ghost use Rattle.engine.specs.Tables.{Prepared, Surveyed};
+ghost use Rattle.engine.specs.Frames.{Of, Frame};
+ghost use Rattle.engine.specs.Going.{Ahead, transitionsOf, CanGoOn};
 
 mod report;
 
-use search::Place;
-use search::Task;
+use engine::Cursor;
+use engine::Machine;
+use engine::Transition;
+use golog::State;
 use sheet::Checked;
 use sheet::Layout;
-use steps::Setting;
-use steps::Turn;
 
 fn wide(x: u8) -> usize {
     x as usize
@@ -32,73 +36,114 @@ fn choice(choices: &[u8], d: usize) -> usize {
     0
 }
 
-// Walks on from the configuration at q, while transitions are left and there is the one chosen.
-fn walk(s: &[u8], choices: &[u8], work: &mut [u32], t: Task, q: Place)
-    requires { ⌜ Tasked (now s) t ⌝ }
-    requires { ⌜ ((c : Config) × Stands (now work) (q .at) c × Ready (now s) (now work) t q (c .0)) ⌝ }
-    requires { ⌜ q .d + q .left ≤ 64 ⌝ }
+// Surveys and writes the configuration at depth d, that of the frame at `at` and the state: its first cursor.
+fn tell(
+    flags: &mut [bool],
+    numbers: &mut [u32],
+    work: &[u32],
+    s: &[u8],
+    m: Machine,
+    st: State,
+    at: usize,
+    d: usize,
+) -> Cursor
+    requires { ⌜ Of (now s) m × Prepared (now s) (now flags) (now numbers) ⌝ }
+    requires { ⌜ ((left : ℕ) × (p : Prog) × Frame (now s) left (now work) at p) ⌝ }
+    ensures { λ r. ⌜ ((left : ℕ) (p : Prog) → Frame (now (s .entry)) left (now (work .entry)) at p
+        → Ahead (now (s .entry)) (p, st) r (transitionsOf (now (s .entry)) (p, st))) ⌝ }
+    ensures { λ _. ⌜ Surveyed (now (s .entry)) st (now (flags .exit)) (now (numbers .exit)) ⌝ }
+{
+    let f = engine::survey(flags, numbers, work, s, m, st, at);
+    report::configuration(d, st, f);
+    let from = at + 64;
+    report::nodes(work, from, words::size_at(work, from));
+    f.first
+}
+
+// Makes the transitions from a cursor on, past n of them, each into the frame after that at `at`: the last one made, if there are so many.
+fn make(
+    work: &mut [u32],
+    flags: &[bool],
+    numbers: &[u32],
+    s: &[u8],
+    m: Machine,
+    st: State,
+    at: usize,
+    k: Cursor,
+    n: usize,
+) -> Transition
+    requires { ⌜ Of (now s) m × Surveyed (now s) st (now flags) (now numbers) × CanGoOn (now s) st (now work) at k ⌝ }
+    ensures { λ r. ⌜ ((g : CanGoOn (now (s .entry)) st (now (work .entry)) at k) → r .made ≡ true
+        → ((p : Prog) × Frame (now (s .entry)) (g .left) (now (work .exit)) (at + m .frame) p)) ⌝ }
     ensures { λ _. ⌜ length (now (work .exit)) ≡ length (now (work .entry)) ⌝ }
 {
-    let l = t.layout;
-    let st = state::read_state(work, q.at);
-    let mut held = [false; 512];
-    search::truths_of(s, l, st, &mut held);
-    let endable = search::endable_of(s, t);
-    let skips = search::skips_of(s, t, &endable);
-    let mut finals = [false; 260];
-    search::finals_of(s, t, &endable, &skips, &held, st.running, &mut finals);
-    let mut counts = [0u32; 260];
-    search::tally_of(s, t, &held, st.running, &finals, &mut counts);
-    let from = q.at + 64;
-    report::configuration(
-        q.d,
-        st,
-        ends::total_rest(&finals, &endable, &counts, work, from),
-    );
-    report::nodes(work, from, words::size_at(work, from));
-    if q.left == 0 {
+    let mut cursor = k;
+    let mut i = 0;
+    while i < n {
+        let x = engine::next(work, flags, numbers, s, m, st, at, cursor);
+        if !x.made {
+            return x;
+        }
+        cursor = x.cursor;
+        i += 1;
+    }
+    engine::next(work, flags, numbers, s, m, st, at, cursor)
+}
+
+// Walks on from the configuration of the frame at `at` and the state, while transitions are left and there is the one chosen.
+fn walk(
+    work: &mut [u32],
+    flags: &mut [bool],
+    numbers: &mut [u32],
+    s: &[u8],
+    choices: &[u8],
+    m: Machine,
+    st: State,
+    at: usize,
+    left: usize,
+)
+    requires { ⌜ Of (now s) m × Prepared (now s) (now flags) (now numbers) × (left ≤ m .layout .d) ⌝ }
+    requires { ⌜ ((p : Prog) × Frame (now s) left (now work) at p) ⌝ }
+    ensures { λ _. ⌜ length (now (work .exit)) ≡ length (now (work .entry)) ⌝ }
+    ensures { λ _. ⌜ Prepared (now (s .entry)) (now (flags .exit)) (now (numbers .exit)) ⌝ }
+{
+    let l = m.layout;
+    let d = l.d - left;
+    let k = tell(flags, numbers, work, s, m, st, at, d);
+    if left == 0 {
         return;
     }
-    let k = choice(choices, q.d);
-    let a = l.programs;
-    let b = l.end;
-    let to = q.at + t.frame;
-    let v = Setting {
-        n: l.p,
-        interrupts: t.interrupts,
-        running: st.running,
-    };
-    let turn = steps::step_rest(&s[a..b], v, &held, &finals, &counts, work, from, to + 64, k);
-    let Turn::Made { entry, size: _ } = turn else {
+    let n = choice(choices, d);
+    let x = make(work, flags, numbers, s, m, st, at, k, n);
+    if !x.made {
         return;
-    };
-    report::transition(k, entry);
-    state::write_state(work, to, search::state_after(s, l, &held, entry, st));
-    let next = Place {
-        at: to,
-        left: q.left - 1,
-        j: 0,
-        n: 0,
-        d: q.d + 1,
-    };
-    walk(s, choices, work, t, next);
+    }
+    report::transition(n, x.entry);
+    walk(
+        work,
+        flags,
+        numbers,
+        s,
+        choices,
+        m,
+        x.state,
+        at + m.frame,
+        left - 1,
+    );
 }
 
 // Walks from a sheet's first configuration.
-fn walk_from(s: &[u8], l: Layout, choices: &[u8], work: &mut [u32])
+fn walk_from(work: &mut [u32], s: &[u8], l: Layout, choices: &[u8])
     requires { ⌜ Accepts (now s) × (l ≡ layoutOf (now s)) ⌝ }
     requires { ⌜ length (now work) ≡ workWords (levelsOf (now s)) (boundOf (now s)) ⌝ }
 {
-    let t = search::task_of(s, l, true);
-    search::put_first(s, t, work);
-    let q = Place {
-        at: 0,
-        left: l.d,
-        j: 0,
-        n: 0,
-        d: 0,
-    };
-    walk(s, choices, work, t, q);
+    let m = engine::machine_of(s, l);
+    let mut flags = [false; 1032];
+    let mut numbers = [0u32; 521];
+    engine::prepare(&mut flags, &mut numbers, s, m);
+    engine::put_first(work, s, m);
+    let st = engine::initial_of(s, m);
+    walk(work, &mut flags, &mut numbers, s, choices, m, st, 0, l.d);
 }
 
 // Walks on an accepted sheet that requires so many words.
@@ -110,7 +155,7 @@ fn walk_accepted(s: &[u8], words: usize, choices: &[u8], work: &mut [u32])
         report::text(b"too large\n");
         return;
     }
-    walk_from(s, l, choices, &mut work[..words]);
+    walk_from(&mut work[..words], s, l, choices);
 }
 
 fn walk_sheet(s: &[u8], choices: &[u8]) {

@@ -1,5 +1,5 @@
 // What is written of a configuration and of a transition.
-use ends::Totals;
+use engine::Findings;
 use golog::State;
 
 pub fn text(label: &[u8]) {
@@ -20,10 +20,11 @@ fn yes_or_no(b: bool) {
     }
 }
 
-// The depth, the two fluents' values, whether interrupts run, whether the rest is final, whether it may be in some state, now or after one
-// transition, and how many transitions it has.
-pub fn configuration(d: usize, st: State, x: Totals) {
+// The depth, the two fluents' values, whether interrupts run, whether the configuration is final, whether a transition may lead to a final
+// one, and how many transitions there are.
+pub fn configuration(d: usize, st: State, x: Findings) {
     let values = st.values;
+    let first = x.first;
     text(b"  depth");
     number(d as u64);
     text(b": values");
@@ -33,12 +34,10 @@ pub fn configuration(d: usize, st: State, x: Totals) {
     yes_or_no(st.running);
     text(b", final");
     yes_or_no(x.done);
-    text(b", endable");
-    yes_or_no(x.endable);
     text(b", soon");
     yes_or_no(x.soon);
     text(b", transitions");
-    number(x.count as u64);
+    number(first.end as u64);
     text(b", rest");
 }
 

@@ -1,0 +1,63 @@
+-- After a transition is made from a cursor, what it leaves stands in the next frame, and the transitions go on from the cursor after it,
+-- with the same room. Assumes nothing.
+use Prim.Native.Nat.{ℕ, suc, _+_, _-_, _≤_}
+use native.Mathlib.Omega.{arith}
+use mathlib.Core.Bool.{true, true≢false}
+use mathlib.Core.List.{List, [], _∷_}
+use mathlib.Core.Path.{_≡_, sym, _∙_, subst}
+use Rattle.golog.specs.declared.State.{State}
+use Rattle.golog.specs.Prog.{Prog}
+use Rattle.golog.specs.Steps.{Config, Step}
+use Rattle.engine.specs.Frames.{Of, Frame, frameOf}
+use Rattle.engine.specs.Going.{Made, Makes, Ahead, CanGoOn, GoesOn, transitionsOf}
+use Rattle.engine.specs.declared.Cursor.{Cursor}
+use Rattle.engine.specs.declared.Machine.{Machine}
+use Rattle.engine.specs.declared.Transition.{Transition}
+use Rattle.engine.proofs.Frames.{frame-kept}
+
+-- one of the transitions was made
+pub record MadeOne (s : List ℕ) (c : Config) (left : ℕ) (w : List ℕ) (at : ℕ) (r : Transition) : Type 0 where
+  pub step : Step
+  pub others : List Step
+  pub made : Made s c left w at r step others
+
+made-one :
+    {s : List ℕ} {c : Config} {left : ℕ} {w : List ℕ} {at : ℕ} {r : Transition} (xs : List Step)
+    → Makes s c left w at r xs
+    → r .made ≡ true
+    → MadeOne s c left w at r
+made-one [] none e = absurd (true≢false (sym e ∙ none))
+made-one (x ∷ ys) M e = record { step = x; others = ys; made = M }
+
+module _
+    {s w w′ : List ℕ} {st : State} {at : ℕ} {k : Cursor} {r : Transition}
+    (G : GoesOn s st at k w w′ r) (g : CanGoOn s st w at k) (e : r .made ≡ true) where
+  pub one : MadeOne s (g .program, st) (g .left) w′ (at + frameOf s) r
+  one = made-one (g .ahead) (G .makes g) e
+
+  -- what it leaves stands in the next frame, as the machine counts frames
+  pub next-stands : {m : Machine} {left : ℕ} → Of s m → g .left ≡ left → (p : Prog) × Frame s left w′ (at + m .frame) p
+  next-stands {m} {left} O l =
+      let p = one .step .1 .0 in
+      let F = subst (λ (n : ℕ). Frame s n w′ (at + frameOf s) p) l (one .made .frame) in
+      (p, subst (λ (f : ℕ). Frame s left w′ (at + f) p) (sym (O .frame-is)) F)
+
+  -- the transitions behind it go on
+  abbrev pub next-goes-on : CanGoOn s st w′ at (r .cursor)
+  next-goes-on = record {
+    left = g .left;
+    program = g .program;
+    ahead = one .others;
+    frame = frame-kept (g .frame) w′ (G .kept);
+    listed = one .made .ahead;
+  }
+
+-- where there is room for a transition, the transitions go on from a configuration's first cursor
+module _
+    {s w : List ℕ} {left at : ℕ} {p : Prog} {st : State} {k : Cursor}
+    (F : Frame s left w at p) (l : 1 ≤ left) (A : Ahead s (p, st) k (transitionsOf s (p, st))) where
+  pub one-left : Frame s (suc (left - 1)) w at p
+  one-left = subst (λ (n : ℕ). Frame s n w at p) (omega arith) F
+
+  abbrev pub first-goes-on : CanGoOn s st w at k
+  first-goes-on = record { left = left - 1; program = p; ahead = transitionsOf s (p, st); frame = one-left; listed = A }
