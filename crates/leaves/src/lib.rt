@@ -2,14 +2,14 @@
 // every state at once, whether it may be final, whether it surely is, and which records depend on the state.
 ghost use mathlib.Core.Path.{_≡_};
 ghost use mathlib.Core.Bool.{true, not, cond, _&&_, _||_};
-ghost use Prim.Native.Nat.{ℕ, _+_, _*_, _≤_, _<_, min};
+ghost use Prim.Native.Nat.{_+_, _*_, _≤_, _<_, min};
 ghost use lib.ListN.{length, getD};
 ghost use Rattle.records.specs.Records.{programAt};
 ghost use Rattle.held.specs.Kinds.{usesA};
 ghost use Rattle.held.specs.Rest.{AllLower};
 ghost use Rattle.held.specs.Extended.{empty, virtual, table};
 ghost use Rattle.leaves.specs.Tallies.{cap, places, possibleIn, Tallied, finalBy, countBy, firstBy};
-ghost use Rattle.leaves.specs.Endable.{boundBy, boundsOf, doubtBy, skipsOf, Skips, Decides};
+ghost use Rattle.leaves.specs.Endable.{boundBy, boundsOf, doubtBy, skipsOf, Decides};
 use records::Program;
 
 // Whether record a is final: past the end stands nil, which is.
@@ -333,33 +333,6 @@ pub fn skip_in(skips: &[u32], i: usize, m: usize) -> usize
         skips[i] as usize
     } else {
         m
-    }
-}
-
-// Fills in which records are final in the state that `held` and `running` say: only those that depend on it are looked at.
-pub fn finals_in(
-    programs: &[u8],
-    n: usize,
-    interrupts: bool,
-    skips: &[u32],
-    held: &[bool],
-    running: bool,
-    finals: &mut [bool],
-)
-    requires { ⌜ (8 * n ≤ length (now programs)) × (1 ≤ n) × (n ≤ 256) ⌝ }
-    requires { ⌜ AllLower (table interrupts (programAt (now programs)) n)
-        × Skips (table interrupts (programAt (now programs)) n) (places interrupts n) (now finals) (now skips)
-        × (length (now finals) ≡ 260) ⌝ }
-    ensures { λ _. ⌜ Decides (table interrupts (programAt (now (programs .entry))) n) (places interrupts n) (now (held .entry)) running (now (finals .exit)) ⌝ }
-    ensures { λ _. ⌜ ((i : ℕ) → places interrupts n ≤ i → getD (now (finals .exit)) i true ≡ getD (now (finals .entry)) i true) ⌝ }
-{
-    let m = places_of(n, interrupts);
-    let mut i = skip_in(skips, 0, m);
-    while i < m {
-        let r = record_at(programs, n, interrupts, i);
-        let f = final_at(r, held, running, finals);
-        finals[i] = f;
-        i = skip_in(skips, i + 1, m);
     }
 }
 

@@ -11,17 +11,14 @@ use lib.ListN.{length, take, drop, set, replicate}
 use lib.Seq.{length-take-le}
 use Rattle.runs.specs.Runs.{add, Run}
 use Rattle.runs.specs.Search.{Verdict, plan, nothing, more, isPlan}
-use Rattle.sheet.specs.Check.{Accepts, checkOf}
+use Rattle.sheet.specs.Check.{checkOf}
 use Rattle.sheet.specs.declared.Checked.the-variants.{Accepted}
 use Rattle.demands.specs.Decoded.{worldOf, boundOf, firstOf}
-use Rattle.demands.specs.Held.{heldRecords, heldFirst}
 use Rattle.demands.specs.Planning as meant
 use Rattle.demands.specs.Planning.{answer, verdictOf, acceptsOf, RunOf}
-use Rattle.demands.proofs.Held.{verdict-held, accepts-held}
 use Rattle.demands.proofs.Demands.{plan-is, replay-is, plan-transitions}
-use Rattle.held.specs.Leaves.{movesHeld, finalHeld}
 use Rattle.search.specs.Outcome.{lay, Says, Reported, isFound}
-use Rattle.search.specs.Frames.{outcomeOf}
+use Rattle.search.specs.Searching.{outcomeOf}
 use Rattle.runs.proofs.Outcomes.{outcome-free, outcome-closed}
 use Rattle.search.specs.declared.Outcome.{Outcome}
 use Rattle.search.specs.declared.Outcome.the-variants.{Found}
@@ -49,11 +46,9 @@ lay-front (e ∷ h) [] l = absurd (omega arith)
 lay-front (e ∷ h) (x ∷ trace) l = ap (λ (k : List ℕ). set k 0 e) (lay-cons h x trace 0) ∙ ap (λ (k : List ℕ). e ∷ k) (lay-front h trace (omega arith))
 
 -- planning
-module _ (s : List ℕ) (accepted : Accepts s) where
-  pub free-verdict : outcomeOf s true (boundOf s) (heldFirst s, []) ≡ verdictOf s
-  free-verdict =
-      outcome-free (movesHeld (worldOf s) (heldRecords s)) (finalHeld (worldOf s) (heldRecords s)) (boundOf s) (heldFirst s)
-      ∙ verdict-held s accepted
+pub free-verdict : (s : List ℕ) → outcomeOf s true (boundOf s) (firstOf s, []) ≡ verdictOf s
+unfolding verdictOf
+free-verdict s = outcome-free (meant.movesIn (worldOf s)) (meant.finalIn (worldOf s)) (boundOf s) (firstOf s)
 
 -- the answer and the trace, where the histories of plans fit
 pub planned-says :
@@ -72,13 +67,11 @@ found-plan n d trace trace′ o nothing (e, l) = ap isFound e
 found-plan n d trace trace′ o more (e, l) = ap isFound e
 
 pub closed-reply :
-    (s : List ℕ) → Accepts s → (h trace trace′ : List ℕ) (o : Outcome)
-    → Reported 0 0 trace trace′ o (outcomeOf s false (boundOf s) (heldFirst s, h))
-    → isFound o ≡ acceptsOf s h
-closed-reply s accepted h trace trace′ o R =
-    found-plan 0 0 trace trace′ o (outcomeOf s false (boundOf s) (heldFirst s, h)) (R .says)
-    ∙ outcome-closed (movesHeld (worldOf s) (heldRecords s)) (finalHeld (worldOf s) (heldRecords s)) (boundOf s) (heldFirst s) h
-    ∙ accepts-held s accepted h
+    (s h trace trace′ : List ℕ) (o : Outcome) → Reported 0 0 trace trace′ o (outcomeOf s false (boundOf s) (firstOf s, h)) → isFound o ≡ acceptsOf s h
+unfolding acceptsOf
+closed-reply s h trace trace′ o R =
+    found-plan 0 0 trace trace′ o (outcomeOf s false (boundOf s) (firstOf s, h)) (R .says)
+    ∙ outcome-closed (meant.movesIn (worldOf s)) (meant.finalIn (worldOf s)) (boundOf s) (firstOf s) h
 
 pub replied-as : (b : Bool) → repliedAs b ≡ reply (meant.replied b)
 replied-as true = refl
@@ -93,10 +86,10 @@ module _ (s : List ℕ) (w : ℕ) (accepted : checkOf s ≡ Accepted w) (work tr
 
   pub planning :
       (trace′ : List ℕ) (o : Outcome)
-      → Reported 0 0 trace trace′ o (outcomeOf s true (boundOf s) (heldFirst s, []))
+      → Reported 0 0 trace trace′ o (outcomeOf s true (boundOf s) (firstOf s, []))
       → (plannedAs o ≡ answerOf s (length work) (length trace)) × (trace′ ≡ traceOf s (length work) trace)
   planning trace′ o R =
-      let says = subst (Says 0 0 trace trace′ o) (free-verdict s (w, accepted)) (R .says) in
+      let says = subst (Says 0 0 trace trace′ o) (free-verdict s) (R .says) in
       let P = planned-says trace trace′ o (verdictOf s) short says in
       let e = plan-is s (w, accepted) in (
         P .0 ∙ sym (ap planAnswer e) ∙ sym (answer-is s w accepted work enough trace long),
@@ -106,10 +99,10 @@ module _ (s : List ℕ) (w : ℕ) (accepted : checkOf s ≡ Accepted w) (work tr
 -- and what the closed search reports is replay's
 pub replaying :
     (s : List ℕ) (w : ℕ) (accepted : checkOf s ≡ Accepted w) (work : List ℕ) (enough : w ≤ length work) (h trace trace′ : List ℕ) (o : Outcome)
-    → Reported 0 0 trace trace′ o (outcomeOf s false (boundOf s) (heldFirst s, h))
+    → Reported 0 0 trace trace′ o (outcomeOf s false (boundOf s) (firstOf s, h))
     → repliedAs (isFound o) ≡ replyOf s h (length work)
 replaying s w accepted work enough h trace trace′ o R =
-    ap repliedAs (closed-reply s (w, accepted) h trace trace′ o R)
+    ap repliedAs (closed-reply s h trace trace′ o R)
     ∙ replied-as (acceptsOf s h)
     ∙ sym (ap reply (replay-is s (w, accepted) h))
     ∙ sym (reply-is s w accepted work enough h)

@@ -3,3 +3,4 @@ pub mod Lowest
 pub mod Scan
 pub mod Truth
 pub mod Written
+pub mod Laid

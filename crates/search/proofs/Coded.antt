@@ -9,7 +9,7 @@ use mathlib.Core.Path.{_≡_, refl, sym, _∙_, ap, subst}
 use lib.ListN.{length, drop, getD, drop-of-length-le}
 use lib.Seq.{drop-cons}
 use Rattle.steps.specs.Laid.{codeOf}
-use Rattle.search.specs.Moves.{Known, Action}
+use Rattle.engine.specs.Going.{Known, Action}
 
 abbrev pub Small : ℕ → Type 0
 Small a = a < 65536
@@ -29,9 +29,6 @@ small-of s (some a) k = k .0
 pub code-bound : (m : Option ℕ) (e : ℕ) → Known Small m → e ≡ codeOf m → e ≤ 65536
 code-bound none e k q = omega arith
 code-bound (some a) e k q = omega arith
-
-pub action-of-code : (s : List ℕ) (m : Option ℕ) (e : ℕ) → Known (Action s) m → e ≡ codeOf m → ¬ (e ≡ 65536) → Action s e
-action-of-code s m e k q z = subst (Known (Action s)) (move-of m e (small-of s m k) q z) k
 
 module _ (g : List ℕ) (j : ℕ) where
   pub next-move : (h : j < length g) → drop j g ≡ getD g j 0 ∷ drop (j + 1) g

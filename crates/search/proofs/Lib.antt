@@ -1,7 +1,5 @@
-pub mod Tried
 pub mod Coded
-pub mod Known
-pub mod Seen
-pub mod Room
+pub mod Rows
+pub mod Looking
 pub mod Trying
-pub mod Exploring
+pub mod Expanding

@@ -1,154 +1,167 @@
--- One transition tried: the step made in the next frame is the k-th of the remaining program, its move is known, and what the search from
+-- One transition tried: the engine made the first one ahead of the cursor, the visit that it leads to is ready, and what the search from
 -- there reports is the report on that transition. Assumes nothing.
-use Prim.Native.Nat.{ℕ, _+_, _-_, _*_, _≤_, _<_}
+use Prim.Native.Nat.{ℕ, suc, _+_, _-_, _≤_, _<_}
 use native.Mathlib.Omega.{arith}
 use mathlib.Core.Bool.{Bool, true, false}
-use mathlib.Core.List.{List}
-use mathlib.Core.Option.{some}
-use mathlib.Core.Path.{_≡_, sym, _∙_, subst}
-use lib.ListN.{length, drop, getElem?}
-use Rattle.sheet.specs.Layout.{programsIn}
+use mathlib.Core.List.{List, [], _∷_}
+use mathlib.Core.Option.{Option}
+use mathlib.Core.Path.{_≡_, refl, sym, _∙_, ap, subst}
+use lib.ListN.{length, drop}
 use Rattle.golog.specs.declared.State.{State}
-use Rattle.golog.specs.World.{after}
-use Rattle.runs.specs.Search.{Verdict}
-use Rattle.held.specs.Rest.{Rest, nodes}
-use Rattle.held.specs.Leaves.{Move, Held, restSteps, movesHeld}
-use Rattle.demands.specs.Decoded.{worldOf}
-use Rattle.demands.specs.Held.{heldRecords}
-use Rattle.state.specs.Header.{StatePut}
-use Rattle.words.specs.Words.{At, Kept}
-use Rattle.words.proofs.Standing.{at-room}
-use Rattle.words.proofs.Written.{kept-less, kept-trans}
-use Rattle.steps.specs.Laid.{View, view, codeOf}
-use Rattle.steps.specs.Stepped.{CanStep, Stepped, StepsRest}
-use Rattle.steps.specs.declared.Turn.{Turn}
-use Rattle.steps.specs.declared.Turn.the-variants as turn
+use Rattle.golog.specs.Prog.{Prog}
+use Rattle.golog.specs.Steps.{Config, Step, isNone}
 use Rattle.runs.specs.Outcome.{join, flagged}
-use Rattle.search.specs.Outcome.{told, Reported}
-use Rattle.search.specs.Moves.{Known, Action, passes, leftOver, entries, noted}
-use Rattle.search.specs.Frames.{Stands, Tasked, Ready, Surveyed, outcomeOf, Branched}
+use Rattle.engine.specs.Frames.{Frame, frameOf}
+use Rattle.engine.specs.Tables.{Surveyed}
+use Rattle.engine.specs.Going.{transitionsOf, Ahead, Makes, Made, CanGoOn, GoesOn, Known}
+use Rattle.engine.specs.declared.Cursor.{Cursor}
+use Rattle.engine.proofs.Frames.{frame-same}
+use Rattle.engine.specs.declared.Transition.{Transition}
+use Rattle.search.specs.Outcome.{Reported, told}
+use Rattle.search.specs.Moves.{passes, noted}
+use Rattle.search.specs.Searching.{outcomeOf, Ready, visited, toMake, verdictAt, branchesAt, Unknown, Going, Stepped, Steps, Follows, withCursor}
 use Rattle.search.specs.declared.Task.{Task}
-use Rattle.search.specs.declared.Place.{Place}
+use Rattle.search.specs.declared.Visit.{Visit}
+use Rattle.search.specs.declared.Seen.{Seen}
+use Rattle.search.specs.declared.Tried.{Tried}
 use Rattle.search.specs.declared.Outcome.{Outcome}
 use Rattle.search.proofs.Coded.{Small, small-of}
-use Rattle.search.proofs.Known.{rest-known}
-use Rattle.search.proofs.Seen.{acts-known}
-use Rattle.search.proofs.Tried.{held-back, let-pass}
-use Rattle.search.proofs.Room.{nth-mem, nth-map, ready-same, can-step, next-ready, view-is, program-kept, put-kept}
+use Rattle.search.proofs.Rows.{branch, branch-one, held-back, let-pass}
 
--- the k-th transition of g in st was made at `to`, with the code e
-pub record Taken (s : List ℕ) (st : State) (g : Rest) (k to e : ℕ) (w w′ : List ℕ) : Type 0 where
-  pub move : Move
-  pub nth : getElem? (restSteps (worldOf s) st (heldRecords s) g) k ≡ some move
-  pub at : At (move .1) w′ to
-  pub code : e ≡ codeOf (move .0)
-  pub kept : Kept to w w′
-  pub known : Known (Action s) (move .0)
+-- the same report by other names of its parts
+renamed :
+    (s : List ℕ) (free : Bool) (p : Prog) (trace trace′ : List ℕ) (o : Outcome)
+    {n n′ d d′ l l′ : ℕ} {cut cut′ : Bool} {st st′ : State} {g g′ : List ℕ}
+    → n ≡ n′ → d ≡ d′ → l ≡ l′ → cut ≡ cut′ → st ≡ st′ → g ≡ g′
+    → Reported n d trace trace′ o (join (flagged cut) (outcomeOf s free l ((p, st), g)))
+    → Reported n′ d′ trace trace′ o (join (flagged cut′) (outcomeOf s free l′ ((p, st′), g′)))
+renamed s free p trace trace′ o {n} {n′} {d} {d′} {l} {l′} {cut} {cut′} {st} {st′} {g} {g′} en ed el ec es eg R =
+    subst (λ (x : List ℕ). Reported n′ d′ trace trace′ o (join (flagged cut′) (outcomeOf s free l′ ((p, st′), x)))) eg
+    (subst (λ (x : State). Reported n′ d′ trace trace′ o (join (flagged cut′) (outcomeOf s free l′ ((p, x), g)))) es
+    (subst (λ (x : Bool). Reported n′ d′ trace trace′ o (join (flagged x) (outcomeOf s free l′ ((p, st), g)))) ec
+    (subst (λ (x : ℕ). Reported n′ d′ trace trace′ o (join (flagged cut) (outcomeOf s free x ((p, st), g)))) el
+    (subst (λ (x : ℕ). Reported n′ x trace trace′ o (join (flagged cut) (outcomeOf s free l ((p, st), g)))) ed
+    (subst (λ (x : ℕ). Reported x d trace trace′ o (join (flagged cut) (outcomeOf s free l ((p, st), g)))) en R)))))
 
--- where it leads
-abbrev pub leads : {s : List ℕ} {st : State} {g : Rest} {k to e : ℕ} {w w′ : List ℕ} → Taken s st g k to e w w′ → Held
-leads {s} {st} X = (X .move .1, after (worldOf s) (X .move .0) st)
+module _ {s w moves : List ℕ} {trace : ℕ} {t : Task} {q : Visit} {flags : List Bool} {numbers : List ℕ} where
+  -- what is ahead of a cursor is one list
+  pub ahead-same : (g h : Going s w moves trace t q flags numbers) → g .ahead ≡ h .ahead
+  ahead-same g h =
+      g .listed .ahead-are
+      ∙ ap (λ (p : Prog). drop (q .cursor .next) (transitionsOf s (visited q p))) (frame-same (g .ready .frame) (h .ready .frame))
+      ∙ sym (h .listed .ahead-are)
 
-module _
-    {s w : List ℕ} {t : Task} {q : Place} {g : Rest} {st : State} {held finals : List Bool} {counts : List ℕ}
-    (T : Tasked s t) (S : Surveyed s st held finals counts) (R : Ready s w t q g) (L : 1 ≤ q .left) where
-  -- what the step is asked, by the task's names
-  pub asked : CanStep (view (programsIn s (t .layout)) (t .layout .p) (t .interrupts) held (st .running) counts) finals w (q .at + 64) (q .at + t .frame + 64)
-  asked =
-      subst (λ (v : View). CanStep v finals w (q .at + 64) (q .at + t .frame + 64)) (sym (view-is T held (st .running) counts))
-      (can-step R L S)
+-- the first of the transitions ahead was made
+pub record First (s : List ℕ) (q : Visit) (p : Prog) (ahead : List Step) (w : List ℕ) (x : Transition) : Type 0 where
+  pub step : Step
+  pub later : List Step
+  pub split : ahead ≡ step ∷ later
+  pub made : Made s (visited q p) (q .left - 1) w (q .at + frameOf s) x step later
 
-  module _
-      {k : ℕ} {w′ : List ℕ} {r : Turn}
-      (A : StepsRest (view (programsIn s (t .layout)) (t .layout .p) (t .interrupts) held (st .running) counts) finals (q .at + 64) k (q .at + t .frame + 64) w w′ r) where
-    stepped : Stepped (worldOf s) st (heldRecords s) g k (q .at + t .frame + 64) w w′ r
-    stepped =
-        subst (λ (v : View). StepsRest v finals (q .at + 64) k (q .at + t .frame + 64) w w′ r) (view-is T held (st .running) counts) A
-        (worldOf s) st (S .tabled) g (R .at)
+module _ {s w moves : List ℕ} {trace : ℕ} {t : Task} {q : Visit} {flags : List Bool} {numbers : List ℕ} (g : Going s w moves trace t q flags numbers) where
+  -- what the engine is asked
+  pub can : CanGoOn s (q .state) w (q .at) (q .cursor)
+  can =
+      let l = g .some-left in
+      let e : q .left ≡ suc (q .left - 1) = omega arith in
+      record {
+        left = q .left - 1;
+        program = g .program;
+        ahead = g .ahead;
+        frame = subst (λ (n : ℕ). Frame s n w (q .at) (g .program)) e (g .ready .frame);
+        listed = g .listed;
+      }
 
-    pub step-kept : Kept (q .at + t .frame + 64) w w′
-    step-kept = stepped .kept
+  pub first : {w₁ : List ℕ} {x : Transition} → GoesOn s (q .state) (q .at) (q .cursor) w w₁ x → isNone (g .ahead) ≡ false → First s q (g .program) (g .ahead) w₁ x
+  unfolding can
+  first {w₁} {x} M some = go (g .ahead) some (M .makes can)
+    where
+      go : (xs : List Step) → isNone xs ≡ false → Makes s (visited q (g .program)) (q .left - 1) w₁ (q .at + frameOf s) x xs → First s q (g .program) xs w₁ x
+      go [] e m = let z : _≡_ {A = ℕ} 0 1 = let y : true ≡ false = e in cc in absurd (omega arith)
+      go (y ∷ ys) e m = record { step = y; later = ys; split = refl; made = m }
 
-    pub taken : (e z : ℕ) → r ≡ turn.Made e z → Taken s st g k (q .at + t .frame + 64) e w w′
-    taken e z y =
-        let B = subst (λ (r : Turn). Stepped (worldOf s) st (heldRecords s) g k (q .at + t .frame + 64) w w′ r) y stepped in
-        let b = B .turned in
-        record {
-          move = (b .move, b .rest);
-          nth = b .nth;
-          at = b .at;
-          code = b .entry-is;
-          kept = B .kept;
-          known =
-              rest-known (Action s) (worldOf s) st (heldRecords s) (acts-known s (T .accepted)) g (b .move, b .rest)
-              (nth-mem (restSteps (worldOf s) st (heldRecords s) g) k (b .nth));
-        }
+  module _ {w₁ : List ℕ} {x : Transition} (F : First s q (g .program) (g .ahead) w₁ x) where
+    abbrev move : Option ℕ
+    move = F .step .0
 
-    pub none-left : (j : ℕ) (d : Bool) → r ≡ turn.Left j d → k < length (restSteps (worldOf s) st (heldRecords s) g) → ⊥
-    none-left j d y l =
-        let B = subst (λ (r : Turn). Stepped (worldOf s) st (heldRecords s) g k (q .at + t .frame + 64) w w′ r) y stepped in
-        omega (arith, B .turned .0)
+    -- where it leads
+    abbrev pub leads : Prog
+    leads = F .step .1 .0
 
-  module _ {k e : ℕ} {w₁ : List ℕ} (X : Taken s st g k (q .at + t .frame + 64) e w w₁) where
-    pub taken-known : Known Small (X .move .0)
-    taken-known = small-of s (X .move .0) (X .known)
+    pub small : Known Small move
+    small = small-of s move (F .made .coded .known)
 
-    pub taken-nth : getElem? (movesHeld (worldOf s) (heldRecords s) (g, st)) k ≡ some (X .move .0, leads X)
-    taken-nth =
-        nth-map (λ (x : Move). (x .0, (x .1, after (worldOf s) (x .0) st))) (restSteps (worldOf s) st (heldRecords s) g) k (X .nth)
+    pub one : (trace trace′ : List ℕ) (o : Outcome)
+        → Reported (q .n) (q .d) trace trace′ o (join (flagged (q .cut)) (branch (λ (d : Config × List ℕ). outcomeOf s (t .free) (q .left - 1) d) (t .free) (toMake moves q) (F .step)))
+        → Reported (q .n) (q .d) trace trace′ o (branchesAt s moves t q (F .step ∷ []))
+    one trace trace′ o R =
+        subst (Reported (q .n) (q .d) trace trace′ o)
+        (sym (branch-one (λ (d : Config × List ℕ). outcomeOf s (t .free) (q .left - 1) d) (t .free) (toMake moves q) (q .cut) (F .step))) R
 
     -- held back by the guide
-    pub back : (free : Bool) (moves trace : List ℕ) (cut : Bool) → passes free (drop (q .j) moves) (X .move .0) ≡ false → Branched s free moves q st g cut k trace trace (told cut)
-    back free moves trace cut e =
-        record {
-          taken = (X .move .0, leads X);
-          nth = taken-nth;
-          reported =
-              held-back (λ (d : Held × List ℕ). outcomeOf s free (q .left - 1) d) free (drop (q .j) moves) (X .move .0) (leads X) (q .n) (q .d) trace trace (told cut) cut e;
-        }
+    pub back : (trace : List ℕ) → passes (t .free) (toMake moves q) move ≡ false → Reported (q .n) (q .d) trace trace (told (q .cut)) (branchesAt s moves t q (F .step ∷ []))
+    back trace e =
+        one trace trace (told (q .cut))
+        (held-back (λ (d : Config × List ℕ). outcomeOf s (t .free) (q .left - 1) d) (t .free) (toMake moves q) move (F .step .1) (q .n) (q .d) trace trace (told (q .cut)) (q .cut) e)
 
-    -- let pass: the state is put into the next frame
-    module _ {w₂ : List ℕ} (P : StatePut (leads X .1) (q .at + t .frame) w₁ w₂) where
-      in-next : q .at + t .frame + 64 + 3 * nodes (X .move .1) ≤ length w₁
-      in-next = at-room (X .move .1) w₁ (q .at + t .frame + 64) (X .at)
+    -- let pass: the visit that it leads to
+    module _ {v : Visit} (Y : Follows moves (t .machine .frame) q x v) where
+      at-next : q .at + frameOf s ≡ v .at
+      at-next = ap (λ (n : ℕ). q .at + n) (sym (g .ready .of .frame-is)) ∙ sym (Y .at-is)
 
-      pub stands-next : Stands w₂ (q .at + t .frame) (leads X)
-      stands-next = record { program = program-kept (X .move .1) (leads X .1) (q .at + t .frame) w₁ w₂ P (X .at) in-next; state = P .stands }
+      pub child : Ready s w₁ moves trace t v leads
+      child =
+          let r = g .ready in
+          let l = g .some-left in
+          record {
+            of = r .of;
+            frame =
+                subst (λ (n : ℕ). Frame s n w₁ (v .at) leads) (sym (Y .left-is))
+                (subst (λ (n : ℕ). Frame s (q .left - 1) w₁ n leads) at-next (F .made .frame));
+            made = Y .made;
+            traced = omega (arith, r .traced, Y .one-more, Y .left-is);
+            few = omega (arith, r .few, Y .one-more, Y .transitions-are);
+            deep = omega (arith, r .deep, Y .transitions-are, Y .left-is);
+          }
 
-      pub next-is-ready : (j n d : ℕ) → Ready s w₂ t (record { at = q .at + t .frame; left = q .left - 1; j = j; n = n; d = d }) (X .move .1)
-      next-is-ready j n d =
-          next-ready R L T (worldOf s) st (X .move) w₂ j n d (nth-mem _ k (X .nth)) (P .len ∙ X .kept .len) (stands-next .program)
+      pub forth :
+          (trace trace′ : List ℕ) (o : Outcome)
+          → passes (t .free) (toMake moves q) move ≡ true
+          → Reported (v .n) (v .d) trace trace′ o (verdictAt s moves t v leads)
+          → Reported (q .n) (q .d) trace (noted move (q .n) o trace′) o (branchesAt s moves t q (F .step ∷ []))
+      forth trace trace′ o e R =
+          let code = F .made .coded .entry-is in
+          one trace (noted move (q .n) o trace′) o
+          (let-pass (λ (d : Config × List ℕ). outcomeOf s (t .free) (q .left - 1) d) (t .free) (toMake moves q) move (F .step .1) (q .n) (q .d) trace trace′ o (q .cut) e
+          (renamed s (t .free) leads trace trace′ o (Y .moves-are move small code) (Y .transitions-are) (Y .left-is) (Y .cut-is) (Y .state-is ∙ F .made .state-is)
+          (Y .to-make move small code) R))
 
-      pub kept-before : Kept (q .at + t .frame) w w₂
-      kept-before =
-          kept-trans (q .at + t .frame) (q .at + t .frame) w w₁ w₂ (kept-less (q .at + t .frame) (q .at + t .frame + 64) w w₁ (X .kept) (omega arith))
-          (put-kept (leads X .1) (q .at + t .frame) (q .at + t .frame) w₁ w₂ P (omega arith)) (omega arith)
+-- the step made is that of any reading of the visit
+pub any-steps :
+    {s w moves : List ℕ} {trace : ℕ} {t : Task} {q : Visit} {flags : List Bool} {numbers : List ℕ} {w₁ : List ℕ} {x : Transition}
+    (g h : Going s w moves trace t q flags numbers) (F : First s q (g .program) (g .ahead) w₁ x) (before after : List ℕ) (r : Tried) → r .cursor ≡ x .cursor
+    → Reported (q .n) (q .d) before after (r .outcome) (branchesAt s moves t q (F .step ∷ []))
+    → Steps s moves before after t q (h .program) r (h .ahead)
+any-steps {s} {moves = moves} {t = t} {q} {x = x} g h F before after r e R =
+    subst (λ (p : Prog). Steps s moves before after t q p r (h .ahead)) (frame-same (g .ready .frame) (h .ready .frame))
+    (subst (Steps s moves before after t q (g .program) r) (sym (F .split) ∙ ahead-same g h)
+    (record { reported = R; listed = subst (λ (k : Cursor). Ahead s (visited q (g .program)) k (F .later)) (sym e) (F .made .ahead) }))
 
-    pub forth :
-        (free : Bool) (moves trace trace′ : List ℕ) (o : Outcome) (cut : Bool) (j n d : ℕ)
-        → passes free (drop (q .j) moves) (X .move .0) ≡ true
-        → drop j moves ≡ leftOver (drop (q .j) moves) (X .move .0)
-        → n ≡ q .n + entries (X .move .0)
-        → d ≡ q .d + 1
-        → Reported n d trace trace′ o (join (flagged cut) (outcomeOf s free (q .left - 1) (leads X, drop j moves)))
-        → Branched s free moves q st g cut k trace (noted (X .move .0) (q .n) o trace′) o
-    forth free moves trace trace′ o cut j n d y ej en ed Y =
-        let m = X .move .0 in
-        let f : Held × List ℕ → Verdict = λ d. outcomeOf s free (q .left - 1) d in
-        let Y₁ = subst (λ (l : List ℕ). Reported n d trace trace′ o (join (flagged cut) (f (leads X, l)))) ej Y in
-        let Y₂ = subst (λ (n : ℕ). Reported n d trace trace′ o (join (flagged cut) (f (leads X, leftOver (drop (q .j) moves) m)))) en Y₁ in
-        let Y₃ = subst (λ (d : ℕ). Reported (q .n + entries m) d trace trace′ o (join (flagged cut) (f (leads X, leftOver (drop (q .j) moves) m)))) ed Y₂ in
-        record {
-          taken = (m, leads X);
-          nth = taken-nth;
-          reported = let-pass f free (drop (q .j) moves) m (leads X) (q .n) (q .d) trace trace′ o cut y Y₃;
-        }
+-- where the outcome is not known yet, the visit goes on from the first cursor
+module _
+    {s w moves : List ℕ} {trace : ℕ} {t : Task} {v : Visit} {p : Prog} {flags : List Bool} {numbers : List ℕ} {r : Seen}
+    (R : Ready s w moves trace t v p) (U : Unknown s moves t v p flags numbers r) where
+  abbrev pub deeper : Going s w moves trace t (withCursor v (v .cut) (r .cursor)) flags numbers
+  deeper = record {
+    program = p;
+    ready = record { of = R .of; frame = R .frame; made = R .made; traced = R .traced; few = R .few; deep = R .deep };
+    some-left = U .some-left;
+    surveyed = U .surveyed;
+    ahead = transitionsOf s (visited v p);
+    listed = U .first;
+  }
 
--- for whatever stands there
-pub branched-any :
-    {s w : List ℕ} {t : Task} {q : Place} {g : Rest} (R : Ready s w t q g) {free : Bool} {moves : List ℕ} {st : State} {cut : Bool} {k : ℕ} {trace trace′ : List ℕ} {o : Outcome}
-    → Branched s free moves q st g cut k trace trace′ o
-    → (u : Rest)
-    → At u w (q .at + 64)
-    → Branched s free moves q st u cut k trace trace′ o
-branched-any {s} {q = q} R {free} {moves} {st} {cut} {k} {trace} {trace′} {o} B u a = subst (λ (x : Rest). Branched s free moves q st x cut k trace trace′ o) (sym (ready-same R u a)) B
+  pub deeper-reported :
+      (before after : List ℕ) (o : Outcome) → Reported (v .n) (v .d) before after o (branchesAt s moves t (withCursor v (v .cut) (r .cursor)) (transitionsOf s (visited v p)))
+      → Reported (v .n) (v .d) before after o (verdictAt s moves t v p)
+  deeper-reported before after o = subst (Reported (v .n) (v .d) before after o) (sym (U .same))

@@ -1,3 +1,3 @@
 pub mod Outcome
 pub mod Moves
-pub mod Frames
+pub mod Searching

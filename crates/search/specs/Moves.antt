@@ -1,24 +1,13 @@
--- A transition's move in the search: its code in a word, whether the guide lets it pass, what it leaves to be made, and what is known of
--- the moves of an accepted sheet. Assumes nothing.
-use Prim.Native.Nat.{ℕ, _<_}
+-- A transition's move in the search: whether the guide lets it pass, what it leaves to be made, and what it puts into the trace. Assumes
+-- nothing.
+use Prim.Native.Nat.{ℕ}
 use mathlib.Core.Bool.{Bool, true, cond}
 use mathlib.Core.List.{List, [], _∷_}
 use mathlib.Core.Option.{Option, none, some}
 use lib.Dec.{eqb}
 use lib.ListN.{set}
-use Rattle.sheet.specs.Layout.{layoutOf}
-use Rattle.golog.specs.World.{start}
 use Rattle.search.specs.declared.Outcome.{Outcome}
 use Rattle.search.specs.Outcome.{isFound}
-
--- a test, or a move that has K
-abbrev pub Known : (ℕ → Type 0) → Option ℕ → Type 0
-Known K none = Unit {0}
-Known K (some a) = K a
-
--- an action of the sheet, start or stop
-abbrev pub Action : List ℕ → ℕ → Type 0
-Action s a = (a < 65536) × (a < start → a < layoutOf s .a)
 
 -- what `runs` asks of a move while the moves g are still to be made, as a test
 abbrev pub passes : (free : Bool) → List ℕ → Option ℕ → Bool

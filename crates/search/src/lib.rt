@@ -1,33 +1,30 @@
-// The bounded depth-first search over frames.
+// The bounded depth-first search over the engine's configurations, along the moves of a guide.
 ghost use mathlib.Core.Path.{_≡_};
 ghost use mathlib.Core.Bool.{true, false, _&&_};
+ghost use mathlib.Core.List.{List};
 ghost use mathlib.Core.Option.{Option};
-ghost use Prim.Native.Nat.{ℕ, _+_, _*_, _≤_, _<_};
+ghost use Prim.Native.Nat.{ℕ, _+_, _≤_, _<_};
 ghost use lib.ListN.{length, replicate, drop};
-ghost use Rattle.golog.specs.World.{after};
-ghost use Rattle.demands.specs.Decoded.{startingWith, worldOf, boundOf};
 ghost use Rattle.sheet.specs.Layout.{layoutOf};
 ghost use Rattle.sheet.specs.Check.{Accepts};
-ghost use Rattle.state.specs.Truths.{Held};
-ghost use Rattle.state.specs.Header.{Full};
-ghost use Rattle.golog.specs.declared.State.{State};
+ghost use Rattle.height.specs.Work.{workWords};
+ghost use Rattle.golog.specs.Prog.{Prog};
+ghost use Rattle.golog.specs.Steps.{isNone};
+ghost use Rattle.demands.specs.Decoded.{firstOf, boundOf};
+ghost use Rattle.demands.specs.Held.{levelsOf};
 ghost use Rattle.runs.specs.Guide.{isNil};
-ghost use Rattle.held.specs.Rest.{Rest};
-ghost use Rattle.held.specs.Leaves.{restSteps};
-ghost use Rattle.demands.specs.Held.{heldRecords, heldFirst, levelsOf};
-ghost use Rattle.height.specs.Work.{frameWords, workWords};
-ghost use Rattle.held.specs.Extended.{top};
-ghost use Rattle.words.specs.Words.{At, Holds, Kept};
-ghost use Rattle.ends.specs.Ends.{finalIn};
 ghost use Rattle.steps.specs.Laid.{codeOf};
-ghost use Rattle.runs.specs.Outcome.{join, flagged};
+ghost use Rattle.engine.specs.Tables.{Prepared, Surveyed};
+ghost use Rattle.engine.specs.Frames.{Of, Frame};
+ghost use Rattle.engine.specs.Going.{Known};
 ghost use Rattle.search.specs.Outcome.{Reported, isFound, isMore, told};
-ghost use Rattle.search.specs.Frames.{Config, Stands, Tasked, MayEnd, NilAfter, Marks, Settles, Ready, Counts, Surveyed, outcomeOf, branchesOf, Branched, lastOf};
-ghost use Rattle.search.specs.Moves.{Known, Action, passes, leftOver, entries, noted};
+ghost use Rattle.search.specs.Moves.{passes, leftOver, entries, noted};
+ghost use Rattle.search.specs.Searching.{outcomeOf, Ready, verdictAt, Looked, Going, Leaves, Expanded, Tries, Follows, withCursor, lastOf};
+use engine::Cursor;
+use engine::Machine;
+use engine::Transition;
 use golog::State;
 use sheet::Layout;
-use steps::Setting;
-use steps::Turn;
 
 // What a search comes to: a run that ends final, of n moves and t transitions; none at all; none within the bound.
 pub enum Outcome {
@@ -36,47 +33,37 @@ pub enum Outcome {
     More,
 }
 
-// What stays the same throughout a search: where the tables lie, whether there are interrupts, whether moves may follow those that are
-// given, and the words of a frame.
+// What stays the same throughout a search: the machine, and whether moves may follow those that are given.
 pub struct Task {
-    pub layout: Layout,
-    pub interrupts: bool,
+    pub machine: Machine,
     pub free: bool,
-    pub frame: usize,
 }
 
-// Where a search stands: its frame, the transitions left, the given moves made, the moves and the transitions made.
-pub struct Place {
+// A visit to a configuration: its frame and state, the transitions left, the given moves made, the moves and the transitions made,
+// whether the bound ran out in some run before, and the cursor over its transitions.
+pub struct Visit {
     pub at: usize,
     pub left: usize,
     pub j: usize,
     pub n: usize,
     pub d: usize,
+    pub cut: bool,
+    pub state: State,
+    pub cursor: Cursor,
 }
 
-fn byte(x: usize) -> u8
-    requires { ⌜ x ≤ 255 ⌝ }
-    ensures { λ r. ⌜ r ≡ x ⌝ }
-{
-    x as u8
+// What is seen without a transition: what the search comes to, where that is known, or else the first cursor.
+struct Seen {
+    known: bool,
+    outcome: Outcome,
+    cursor: Cursor,
 }
 
-// The first state of n fluents.
-fn initial(fluents: &[u8], n: usize) -> State
-    requires { ⌜ (2 * n ≤ length (now fluents)) × (n ≤ 32) ⌝ }
-    ensures { λ r. ⌜ r ≡ startingWith (now (fluents .entry)) n ⌝ }
-{
-    let mut values = [0u8; 32];
-    let mut x = 0;
-    while x < n {
-        let r = records::fluent_at(fluents, x);
-        values[x] = byte(r.initial);
-        x += 1;
-    }
-    State {
-        values,
-        running: false,
-    }
+// One transition tried: what the search comes to, whether tables were filled for what it leads to, and the cursor after it.
+struct Tried {
+    outcome: Outcome,
+    expanded: bool,
+    cursor: Cursor,
 }
 
 // Every word 0.
@@ -111,7 +98,7 @@ fn is_more(o: Outcome) -> bool
 }
 
 // What a search comes to at the bound, where the bound ran out in some run before: only whether it is over matters.
-fn last_outcome(over: bool, q: Place) -> Outcome
+fn last_outcome(over: bool, q: Visit) -> Outcome
     ensures { λ r. ⌜ r ≡ lastOf over q ⌝ }
 {
     if over {
@@ -179,117 +166,6 @@ fn note(trace: &mut [u16], n: usize, entry: u32, answer: Outcome)
     }
 }
 
-// The state after a transition, where `held` has what the formulas say in the state before it.
-pub fn state_after(s: &[u8], l: Layout, held: &[bool], entry: u32, st: State) -> State
-    requires { ⌜ Accepts (now s) × (l ≡ layoutOf (now s)) ⌝ }
-    requires { ⌜ ((m : Option ℕ) × Known (Action (now s)) m × (entry ≡ codeOf m)) ⌝ }
-    ensures { λ r. ⌜ (Held (worldOf (now (s .entry))) st (layoutOf (now (s .entry)) .q) (now (held .entry)) → (m : Option ℕ) → Known (Action (now (s .entry))) m → entry ≡ codeOf m → r ≡ after (worldOf (now (s .entry))) m st) ⌝ }
-{
-    if entry == 65536 {
-        return st;
-    }
-    let a = l.effects;
-    let b = l.actions;
-    let c = l.programs;
-    state::perform(&s[a..b], &s[b..c], l.f, held, entry as usize, st)
-}
-
-// Fills in what the formulas of a sheet say in a state, whatever stood there.
-pub fn truths_of(s: &[u8], l: Layout, st: State, held: &mut [bool])
-    requires { ⌜ Accepts (now s) × (l ≡ layoutOf (now s)) ⌝ }
-    requires { ⌜ length (now held) ≡ 512 ⌝ }
-    ensures { λ _. ⌜ Held (worldOf (now (s .entry))) st (layoutOf (now (s .entry)) .q) (now (held .exit)) ⌝ }
-{
-    let a = l.formulas;
-    let b = l.effects;
-    state::truths(&s[a..b], l.q, st, held)
-}
-
-// Fills in how many transitions each record of a sheet has in a state, where `finals` tells which are final.
-pub fn tally_of(
-    s: &[u8],
-    t: Task,
-    held: &[bool],
-    running: bool,
-    finals: &[bool],
-    counts: &mut [u32],
-)
-    requires { ⌜ Tasked (now s) t × Settles (now s) (now held) running (now finals) ⌝ }
-    requires { ⌜ now counts ≡ replicate 260 0 ⌝ }
-    ensures { λ _. ⌜ ((st : State) → running ≡ st .running → Held (worldOf (now (s .entry))) st (layoutOf (now (s .entry)) .q) (now (held .entry))
-        → Surveyed (now (s .entry)) st (now (held .entry)) (now (finals .entry)) (now (counts .exit))) ⌝ }
-{
-    let l = t.layout;
-    let a = l.actions;
-    let b = l.programs;
-    let c = l.end;
-    leaves::tallies(
-        counts,
-        &s[b..c],
-        l.p,
-        t.interrupts,
-        &s[a..b],
-        l.a,
-        held,
-        running,
-        finals,
-    )
-}
-
-// Which records of a sheet may be final in some state.
-pub fn endable_of(s: &[u8], t: Task) -> [bool; 260]
-    requires { ⌜ Tasked (now s) t ⌝ }
-    ensures { λ r. ⌜ MayEnd (now (s .entry)) r × (length r ≡ 260) × NilAfter (now (s .entry)) r ⌝ }
-{
-    let l = t.layout;
-    let a = l.programs;
-    let b = l.end;
-    leaves::bounds(&s[a..b], l.p, t.interrupts, true)
-}
-
-// From each record of a sheet on, the first whose finality depends on the state.
-pub fn skips_of(s: &[u8], t: Task, endable: &[bool]) -> [u32; 261]
-    requires { ⌜ Tasked (now s) t × MayEnd (now s) (now endable) × (length (now endable) ≡ 260) × NilAfter (now s) (now endable) ⌝ }
-    ensures { λ r. ⌜ Marks (now (s .entry)) (now (endable .entry)) r ⌝ }
-{
-    let l = t.layout;
-    let a = l.programs;
-    let b = l.end;
-    leaves::skips(&s[a..b], l.p, t.interrupts, endable)
-}
-
-// Makes one table the same as another.
-fn copy_flags(from: &[bool], to: &mut [bool])
-    requires { ⌜ length (now to) ≡ length (now from) ⌝ }
-    ensures { λ _. ⌜ now (to .exit) ≡ now (from .entry) ⌝ }
-{
-    let mut i = 0;
-    while i < to.len() {
-        to[i] = from[i];
-        i += 1;
-    }
-}
-
-// Fills in which records of a sheet are final in a state: only those whose finality depends on the state are looked at.
-pub fn finals_of(
-    s: &[u8],
-    t: Task,
-    endable: &[bool],
-    skips: &[u32],
-    held: &[bool],
-    running: bool,
-    finals: &mut [bool],
-)
-    requires { ⌜ Tasked (now s) t × Marks (now s) (now endable) (now skips) × (length (now finals) ≡ 260) ⌝ }
-    ensures { λ _. ⌜ Settles (now (s .entry)) (now (held .entry)) running (now (finals .exit)) ⌝ }
-{
-    let l = t.layout;
-    let a = l.programs;
-    let b = l.end;
-    copy_flags(endable, finals);
-    leaves::finals_in(&s[a..b], l.p, t.interrupts, skips, held, running, finals)
-}
-
 // Whether no given move is left and the remaining program is final.
 fn is_over(moves: &[u16], j: usize, done: bool) -> bool
     requires { ⌜ j ≤ length (now moves) ⌝ }
@@ -315,207 +191,256 @@ fn no_end_next(cut: bool, left: usize, soon: bool) -> bool
     !soon
 }
 
-// Tries the k-th transition of the remaining program at q: makes it in the next frame and, if the guide lets it pass, searches on. `cut` is
-// whether the bound ran out in some run before.
-fn try_step(
-    s: &[u8],
-    moves: &[u16],
-    endable: &[bool],
-    skips: &[u32],
-    held: &[bool],
-    finals: &[bool],
-    counts: &[u32],
-    work: &mut [u32],
-    trace: &mut [u16],
-    t: Task,
-    q: Place,
-    st: State,
-    cut: bool,
-    k: usize,
-) -> Outcome
-    requires { ⌜ Tasked (now s) t × Marks (now s) (now endable) (now skips) × Surveyed (now s) st (now held) (now finals) (now counts) ⌝ }
-    requires { ⌜ ((g : Rest) × Ready (now s) (now work) t q g × (k < length (restSteps (worldOf (now s)) st (heldRecords (now s)) g))) ⌝ }
-    requires { ⌜ Counts (now moves) (now trace) q × (1 ≤ q .left) × Full (st .values) ⌝ }
-    ensures { λ r. ⌜ ((g : Rest) → At g (now (work .entry)) (q .at + 64) → Branched (now (s .entry)) (t .free) (now (moves .entry)) q st g cut k (now (trace .entry)) (now (trace .exit)) r) ⌝ }
-    ensures { λ _. ⌜ Kept (q .at + t .frame) (now (work .entry)) (now (work .exit)) ⌝ }
+fn known(outcome: Outcome, cursor: Cursor) -> Seen
+    ensures { λ r. ⌜ (r .known ≡ true) × (r .outcome ≡ outcome) ⌝ }
 {
-    let l = t.layout;
-    let a = l.programs;
-    let b = l.end;
-    let to = q.at + t.frame;
-    let v = Setting {
-        n: l.p,
-        interrupts: t.interrupts,
-        running: st.running,
-    };
-    let from = q.at + 64;
-    let turn = steps::step_rest(&s[a..b], v, held, finals, counts, work, from, to + 64, k);
-    let Turn::Made { entry, size: _ } = turn else {
-        return Outcome::Nothing;
-    };
-    if !lets_pass(moves, q.j, t.free, entry) {
-        return unfound(cut);
+    Seen {
+        known: true,
+        outcome,
+        cursor,
     }
-    state::write_state(work, to, state_after(s, l, held, entry, st));
-    let next = Place {
-        at: to,
-        left: q.left - 1,
-        j: made_after(moves, q.j, entry),
-        n: q.n + entries_of(entry),
-        d: q.d + 1,
-    };
-    let o = explore(s, moves, endable, skips, work, trace, t, next, cut);
-    note(trace, q.n, entry, o);
-    o
 }
 
-// Tries all `count` transitions of the remaining program at q, until a plan is found.
-fn try_all(
+// Looks at the configuration visited: what the search comes to, where that can be told before a transition is made.
+fn look(
+    flags: &mut [bool],
+    numbers: &mut [u32],
+    work: &[u32],
     s: &[u8],
     moves: &[u16],
-    endable: &[bool],
-    skips: &[u32],
-    held: &[bool],
-    finals: &[bool],
-    counts: &[u32],
+    trace: usize,
+    t: Task,
+    q: Visit,
+) -> Seen
+    requires { ⌜ Prepared (now s) (now flags) (now numbers) × ((p : Prog) × Ready (now s) (now work) (now moves) trace t q p) ⌝ }
+    ensures { λ r. ⌜ Looked (now (s .entry)) (now (work .entry)) (now (moves .entry)) trace t q (now (flags .exit)) (now (numbers .exit)) r ⌝ }
+{
+    let m = t.machine;
+    let state = q.state;
+    let cursor = q.cursor;
+    if q.cut {
+        if q.left == 0 {
+            let end = engine::is_final(flags, numbers, work, s, m, state, q.at);
+            return known(last_outcome(is_over(moves, q.j, end), q), cursor);
+        }
+    }
+    let x = engine::survey(flags, numbers, work, s, m, state, q.at);
+    let first = x.first;
+    if is_over(moves, q.j, x.done) {
+        return known(Outcome::Found { n: q.n, t: q.d }, cursor);
+    }
+    if q.left == 0 {
+        return known(unfound(q.cut | !engine::is_spent(first)), cursor);
+    }
+    if no_end_next(q.cut, q.left, x.soon) {
+        return known(Outcome::More, cursor);
+    }
+    Seen {
+        known: false,
+        outcome: Outcome::Nothing,
+        cursor: first,
+    }
+}
+
+// The same visit, with what is known by now and another cursor.
+fn at_cursor(q: Visit, cut: bool, cursor: Cursor) -> Visit
+    ensures { λ r. ⌜ r ≡ withCursor q cut cursor ⌝ }
+{
+    let state = q.state;
+    Visit {
+        at: q.at,
+        left: q.left,
+        j: q.j,
+        n: q.n,
+        d: q.d,
+        cut,
+        state,
+        cursor,
+    }
+}
+
+// The visit that a transition leads to.
+fn follow(moves: &[u16], m: Machine, q: Visit, x: Transition) -> Visit
+    requires { ⌜ (1 ≤ q .left) × (q .j ≤ length (now moves)) × (q .n ≤ 64) × (q .d ≤ 64) × (q .at + m .frame ≤ 4294967295) ⌝ }
+    ensures { λ r. ⌜ Follows (now (moves .entry)) (m .frame) q x r ⌝ }
+{
+    let state = x.state;
+    let cursor = x.cursor;
+    Visit {
+        at: q.at + m.frame,
+        left: q.left - 1,
+        j: made_after(moves, q.j, x.entry),
+        n: q.n + entries_of(x.entry),
+        d: q.d + 1,
+        cut: q.cut,
+        state,
+        cursor,
+    }
+}
+
+// Fills the tables for the configuration visited again, where others were filled in between.
+fn refresh(
+    flags: &mut [bool],
+    numbers: &mut [u32],
+    work: &[u32],
+    s: &[u8],
+    m: Machine,
+    q: Visit,
+    stale: bool,
+)
+    requires { ⌜ Of (now s) m × Prepared (now s) (now flags) (now numbers) × (stale ≡ false → Surveyed (now s) (q .state) (now flags) (now numbers)) ⌝ }
+    requires { ⌜ ((left : ℕ) × (p : Prog) × Frame (now s) left (now work) (q .at) p) ⌝ }
+    ensures { λ _. ⌜ Surveyed (now (s .entry)) (q .state) (now (flags .exit)) (now (numbers .exit)) ⌝ }
+{
+    if stale {
+        let x = engine::survey(flags, numbers, work, s, m, q.state, q.at);
+    }
+}
+
+// Tries the next transition of the configuration visited: makes it in the next frame and, if the guide lets it pass, searches on.
+fn try_next(
     work: &mut [u32],
     trace: &mut [u16],
+    flags: &mut [bool],
+    numbers: &mut [u32],
+    spareflags: &mut [bool],
+    sparenumbers: &mut [u32],
+    s: &[u8],
+    moves: &[u16],
     t: Task,
-    q: Place,
-    st: State,
-    before: bool,
-    count: usize,
-) -> Outcome
-    requires { ⌜ Tasked (now s) t × Marks (now s) (now endable) (now skips) × Surveyed (now s) st (now held) (now finals) (now counts) ⌝ }
-    requires { ⌜ ((g : Rest) × Ready (now s) (now work) t q g × (count ≡ length (restSteps (worldOf (now s)) st (heldRecords (now s)) g))) ⌝ }
-    requires { ⌜ Counts (now moves) (now trace) q × (1 ≤ q .left) × Full (st .values) ⌝ }
-    ensures { λ r. ⌜ ((g : Rest) → At g (now (work .entry)) (q .at + 64) → Reported (q .n) (q .d) (now (trace .entry)) (now (trace .exit)) r (join (flagged before) (branchesOf (now (s .entry)) (t .free) (q .left) (g, st) (drop (q .j) (now (moves .entry)))))) ⌝ }
-    ensures { λ _. ⌜ Kept (q .at + t .frame) (now (work .entry)) (now (work .exit)) ⌝ }
+    q: Visit,
+) -> Tried
+    requires { ⌜ ((g : Going (now s) (now work) (now moves) (length (now trace)) t q (now flags) (now numbers)) × (isNone (g .ahead) ≡ false)) ⌝ }
+    requires { ⌜ Prepared (now s) (now spareflags) (now sparenumbers) ⌝ }
+    ensures { λ r. ⌜ Tries (now (s .entry)) (now (work .entry)) (now (work .exit)) (now (moves .entry)) (now (trace .entry)) (now (trace .exit)) t q (now (flags .entry)) (now (numbers .entry)) (now (flags .exit)) (now (numbers .exit)) r ⌝ }
+    ensures { λ _. ⌜ Leaves (now (s .entry)) (now (work .entry)) (now (work .exit)) q (now (flags .exit)) (now (numbers .exit)) (now (spareflags .exit)) (now (sparenumbers .exit)) ⌝ }
 {
-    let mut cut = before;
-    let mut k = 0;
-    while k < count {
-        let o = try_step(
-            s,
-            moves,
-            endable,
-            skips,
-            held,
-            finals,
-            counts,
+    let m = t.machine;
+    let x = engine::next(work, flags, numbers, s, m, q.state, q.at, q.cursor);
+    let cursor = x.cursor;
+    if !lets_pass(moves, q.j, t.free, x.entry) {
+        return Tried {
+            outcome: unfound(q.cut),
+            expanded: false,
+            cursor,
+        };
+    }
+    let v = follow(moves, m, q, x);
+    let a = look(spareflags, sparenumbers, work, s, moves, trace.len(), t, v);
+    let seen = a.outcome;
+    if a.known {
+        note(trace, q.n, x.entry, seen);
+        return Tried {
+            outcome: seen,
+            expanded: false,
+            cursor,
+        };
+    }
+    let c = at_cursor(v, v.cut, a.cursor);
+    let o = expand(
+        work,
+        trace,
+        spareflags,
+        sparenumbers,
+        flags,
+        numbers,
+        s,
+        moves,
+        t,
+        c,
+    );
+    note(trace, q.n, x.entry, o);
+    Tried {
+        outcome: o,
+        expanded: true,
+        cursor,
+    }
+}
+
+// Tries the transitions ahead of the cursor of a visit, until a plan is found. The other tables serve what they lead to.
+fn expand(
+    work: &mut [u32],
+    trace: &mut [u16],
+    flags: &mut [bool],
+    numbers: &mut [u32],
+    spareflags: &mut [bool],
+    sparenumbers: &mut [u32],
+    s: &[u8],
+    moves: &[u16],
+    t: Task,
+    q: Visit,
+) -> Outcome
+    requires { ⌜ Going (now s) (now work) (now moves) (length (now trace)) t q (now flags) (now numbers) ⌝ }
+    requires { ⌜ Prepared (now s) (now spareflags) (now sparenumbers) ⌝ }
+    ensures { λ r. ⌜ Expanded (now (s .entry)) (now (work .entry)) (now (moves .entry)) (now (trace .entry)) (now (trace .exit)) t q (now (flags .entry)) (now (numbers .entry)) r ⌝ }
+    ensures { λ _. ⌜ Leaves (now (s .entry)) (now (work .entry)) (now (work .exit)) q (now (flags .exit)) (now (numbers .exit)) (now (spareflags .exit)) (now (sparenumbers .exit)) ⌝ }
+{
+    let m = t.machine;
+    let mut cut = q.cut;
+    let mut k = q.cursor;
+    let mut stale = false;
+    while !engine::is_spent(k) {
+        refresh(flags, numbers, work, s, m, q, stale);
+        let v = at_cursor(q, cut, k);
+        let r = try_next(
             work,
             trace,
+            flags,
+            numbers,
+            spareflags,
+            sparenumbers,
+            s,
+            moves,
             t,
-            q,
-            st,
-            cut,
-            k,
+            v,
         );
+        let o = r.outcome;
         if found(o) {
             return o;
         }
         cut = is_more(o);
-        k += 1;
+        k = r.cursor;
+        stale = r.expanded;
     }
     unfound(cut)
 }
 
-// Searches from the configuration at q, depth first. `cut` is whether the bound ran out in some run before.
+// Searches from the configuration of a visit.
 fn explore(
-    s: &[u8],
-    moves: &[u16],
-    endable: &[bool],
-    skips: &[u32],
     work: &mut [u32],
     trace: &mut [u16],
+    flags: &mut [bool],
+    numbers: &mut [u32],
+    spareflags: &mut [bool],
+    sparenumbers: &mut [u32],
+    s: &[u8],
+    moves: &[u16],
     t: Task,
-    q: Place,
-    cut: bool,
+    q: Visit,
 ) -> Outcome
-    requires { ⌜ Tasked (now s) t × Marks (now s) (now endable) (now skips) ⌝ }
-    requires { ⌜ ((c : Config) × Stands (now work) (q .at) c × Ready (now s) (now work) t q (c .0)) ⌝ }
-    requires { ⌜ Counts (now moves) (now trace) q ⌝ }
-    ensures { λ r. ⌜ ((c : Config) → Stands (now (work .entry)) (q .at) c → Reported (q .n) (q .d) (now (trace .entry)) (now (trace .exit)) r (join (flagged cut) (outcomeOf (now (s .entry)) (t .free) (q .left) (c, drop (q .j) (now (moves .entry)))))) ⌝ }
-    ensures { λ _. ⌜ Kept (q .at + t .frame) (now (work .entry)) (now (work .exit)) ⌝ }
+    requires { ⌜ Prepared (now s) (now flags) (now numbers) × Prepared (now s) (now spareflags) (now sparenumbers) ⌝ }
+    requires { ⌜ ((p : Prog) × Ready (now s) (now work) (now moves) (length (now trace)) t q p) ⌝ }
+    ensures { λ r. ⌜ ((p : Prog) → Ready (now (s .entry)) (now (work .entry)) (now (moves .entry)) (length (now (trace .entry))) t q p → Reported (q .n) (q .d) (now (trace .entry)) (now (trace .exit)) r (verdictAt (now (s .entry)) (now (moves .entry)) t q p)) ⌝ }
+    ensures { λ _. ⌜ length (now (work .exit)) ≡ length (now (work .entry)) ⌝ }
 {
-    let st = state::read_state(work, q.at);
-    let mut held = [false; 512];
-    truths_of(s, t.layout, st, &mut held);
-    let mut finals = [false; 260];
-    finals_of(s, t, endable, skips, &held, st.running, &mut finals);
-    if cut {
-        if q.left == 0 {
-            let end = ends::final_rest(&finals, work, q.at + 64);
-            return last_outcome(is_over(moves, q.j, end), q);
-        }
+    let a = look(flags, numbers, work, s, moves, trace.len(), t, q);
+    let seen = a.outcome;
+    if a.known {
+        return seen;
     }
-    let mut counts = [0u32; 260];
-    tally_of(s, t, &held, st.running, &finals, &mut counts);
-    let x = ends::total_rest(&finals, endable, &counts, work, q.at + 64);
-    if is_over(moves, q.j, x.done) {
-        return Outcome::Found { n: q.n, t: q.d };
-    }
-    if q.left == 0 {
-        return unfound(cut | (x.count != 0));
-    }
-    if no_end_next(cut, q.left, x.soon) {
-        return Outcome::More;
-    }
-    try_all(
-        s,
-        moves,
-        endable,
-        skips,
-        &held,
-        &finals,
-        &counts,
+    let c = at_cursor(q, q.cut, a.cursor);
+    expand(
         work,
         trace,
+        flags,
+        numbers,
+        spareflags,
+        sparenumbers,
+        s,
+        moves,
         t,
-        q,
-        st,
-        cut,
-        x.count,
+        c,
     )
-}
-
-// The task of a search: there are interrupts or not, and the frames are as high as the work figure says.
-pub fn task_of(s: &[u8], l: Layout, free: bool) -> Task
-    requires { ⌜ Accepts (now s) × (l ≡ layoutOf (now s)) ⌝ }
-    ensures { λ r. ⌜ Tasked (now (s .entry)) r ⌝ }
-    ensures { λ r. ⌜ (r .free ≡ free) × (r .frame ≡ frameWords (levelsOf (now (s .entry))) (boundOf (now (s .entry)))) ⌝ }
-{
-    let a = l.programs;
-    let b = l.end;
-    let t = &s[a..b];
-    let interrupts = height::has_interrupts(t, l.p);
-    let h = height::levels_from(height::height(t, l.p), interrupts);
-    Task {
-        layout: l,
-        interrupts,
-        free,
-        frame: height::frame_words(h, l.d),
-    }
-}
-
-// The record that runs, of n records.
-fn top_of(n: usize, interrupts: bool) -> usize
-    requires { ⌜ (1 ≤ n) × (n ≤ 256) ⌝ }
-    ensures { λ r. ⌜ (r ≡ top interrupts n) × (r < 260) ⌝ }
-{
-    if interrupts { n + 3 } else { n - 1 }
-}
-
-// Puts the first configuration into the first frame.
-pub fn put_first(s: &[u8], t: Task, work: &mut [u32])
-    requires { ⌜ Tasked (now s) t × (67 ≤ length (now work)) ⌝ }
-    ensures { λ _. ⌜ Stands (now (work .exit)) 0 (heldFirst (now (s .entry))) × (length (now (work .exit)) ≡ length (now (work .entry))) ⌝ }
-{
-    let l = t.layout;
-    let a = l.fluents;
-    let b = l.formulas;
-    state::write_state(work, 0, initial(&s[a..b], l.f));
-    words::put_node(work, 64, 1, top_of(l.p, t.interrupts), 1);
 }
 
 // Searches from a sheet's first configuration, along the moves given first: the work area is as long as required.
@@ -529,21 +454,41 @@ pub fn run(
 ) -> Outcome
     requires { ⌜ Accepts (now s) × (l ≡ layoutOf (now s)) ⌝ }
     requires { ⌜ (length (now work) ≡ workWords (levelsOf (now s)) (boundOf (now s))) × (boundOf (now s) ≤ length (now trace)) ⌝ }
-    ensures { λ r. ⌜ Reported 0 0 (now (trace .entry)) (now (trace .exit)) r (outcomeOf (now (s .entry)) free (boundOf (now (s .entry))) (heldFirst (now (s .entry)), now (moves .entry))) ⌝ }
+    ensures { λ r. ⌜ Reported 0 0 (now (trace .entry)) (now (trace .exit)) r (outcomeOf (now (s .entry)) free (boundOf (now (s .entry))) (firstOf (now (s .entry)), now (moves .entry))) ⌝ }
     ensures { λ _. ⌜ now (work .exit) ≡ replicate (length (now (work .entry))) 0 ⌝ }
 {
-    let t = task_of(s, l, free);
-    put_first(s, t, work);
-    let q = Place {
+    let machine = engine::machine_of(s, l);
+    engine::put_first(work, s, machine);
+    let state = engine::initial_of(s, machine);
+    let mut flags = [false; 1032];
+    let mut numbers = [0u32; 521];
+    engine::prepare(&mut flags, &mut numbers, s, machine);
+    let mut spareflags = flags;
+    let mut sparenumbers = numbers;
+    let cursor = Cursor { next: 0, end: 0 };
+    let q = Visit {
         at: 0,
         left: l.d,
         j: 0,
         n: 0,
         d: 0,
+        cut: false,
+        state,
+        cursor,
     };
-    let endable = endable_of(s, t);
-    let skips = skips_of(s, t, &endable);
-    let o = explore(s, moves, &endable, &skips, work, trace, t, q, false);
+    let t = Task { machine, free };
+    let o = explore(
+        work,
+        trace,
+        &mut flags,
+        &mut numbers,
+        &mut spareflags,
+        &mut sparenumbers,
+        s,
+        moves,
+        t,
+        q,
+    );
     clear(work);
     o
 }

@@ -1,4 +1,2 @@
 pub mod Held
 pub mod Performed
-pub mod Laid
-pub mod Header

@@ -20,7 +20,7 @@ use Rattle.golog.specs.Decoded.{world}
 use Rattle.golog.proofs.Moves.{each-at}
 use Rattle.state.specs.Truths.{Held}
 use Rattle.state.specs.Performed.{changesBy, givenBy, changedBy, performBy, Names, Judged}
-use Rattle.state.proofs.Laid.{Laid}
+use Rattle.records.proofs.Laid.{Laid}
 
 module _ (effects : List ℕ) (held : List Bool) (x old : ℕ) where
   given-none : (i : ℕ) → givenBy effects held x old i 0 ≡ old

@@ -1,6 +1,5 @@
-// One state: what all formulas say of it, which actions are possible, the state after an action, and the state in words.
+// One state: what all formulas say of it, and the state after an action.
 ghost use mathlib.Core.Path.{_≡_};
-ghost use mathlib.Core.Bool.{cond};
 ghost use Prim.Native.Nat.{_+_, _*_, _≤_};
 ghost use lib.ListN.{length, getD};
 ghost use Rattle.records.specs.Records.{formulaAt};
@@ -9,7 +8,6 @@ ghost use Rattle.golog.specs.declared.State.{State};
 ghost use Rattle.golog.specs.World.{truthOf};
 ghost use Rattle.state.specs.Truths.{truthsOf};
 ghost use Rattle.state.specs.Performed.{changesBy, givenBy, changedBy, performBy, Names, Performable};
-ghost use Rattle.state.specs.Header.{StateAt, StatePut};
 use golog::State;
 use records::Effect;
 
@@ -125,43 +123,5 @@ pub fn perform(effects: &[u8], actions: &[u8], n: usize, held: &[bool], a: usize
     State {
         values: new,
         running: s.running,
-    }
-}
-
-// A flag as a word.
-fn bit(b: bool) -> u32
-    ensures { λ r. ⌜ r ≡ cond b 1 0 ⌝ }
-{
-    if b { 1 } else { 0 }
-}
-
-// Writes a state into the 33 words from `at` on.
-pub fn write_state(work: &mut [u32], at: usize, s: State)
-    requires { ⌜ at + 33 ≤ length (now work) ⌝ }
-    ensures { λ _. ⌜ StatePut s at (now (work .entry)) (now (work .exit)) ⌝ }
-{
-    let values = s.values;
-    let mut x = 0;
-    while x < 32 {
-        work[at + x] = values[x] as u32;
-        x += 1;
-    }
-    work[at + 32] = bit(s.running);
-}
-
-// The state in the 33 words from `at` on.
-pub fn read_state(work: &[u32], at: usize) -> State
-    requires { ⌜ ((s : State) × StateAt s (now work) at) ⌝ }
-    ensures { λ r. ⌜ ((s : State) → StateAt s (now (work .entry)) at → r ≡ s) ⌝ }
-{
-    let mut values = [0; 32];
-    let mut x = 0;
-    while x < 32 {
-        values[x] = work[at + x] as u8;
-        x += 1;
-    }
-    State {
-        values,
-        running: work[at + 32] == 1,
     }
 }

@@ -1,7 +1,7 @@
 -- By whether it is over. Assumes nothing.
 use mathlib.Core.Bool.{Bool}
 use mathlib.Core.Path.{sym, ap}
-use Rattle.search.specs.Frames.{lastOf}
+use Rattle.search.specs.Searching.{lastOf}
 use Rattle.search.proofs.last_outcome.Statement.{statement}
 use Rattle.search.proofs.last_outcome.Tie as tie
 

@@ -1,74 +1,72 @@
+-- The first configuration stands in the first frame, with room for as many transitions as the bound. Assumes nothing.
 use denote.Ref.{now}
 use Prim.Native.Nat.{ℕ}
 use native.Mathlib.Omega.{arith}
-use mathlib.Core.Bool.{Bool}
-use mathlib.Core.Path.{refl, _∙_, ap, subst}
-use lib.ListN.{replicate}
+use mathlib.Core.Bool.{false}
+use mathlib.Core.Path.{_≡_, sym, _∙_, ap, subst}
+use lib.ListN.{length, replicate}
 use Rattle.sheet.specs.declared.Layout.{Layout}
 use Rattle.sheet.proofs.Accepted.{laid}
-use Rattle.demands.specs.Held.{heldFirst}
+use Rattle.golog.specs.declared.State.{State}
+use Rattle.demands.specs.Decoded.{firstOf, boundOf}
+use Rattle.engine.specs.Frames.{Frame}
 use Rattle.search.specs.Outcome.{Reported}
-use Rattle.search.specs.Frames.{outcomeOf}
-use Rattle.search.proofs.Room.{first-ready}
+use Rattle.search.specs.Searching.{Ready, outcomeOf}
+use Rattle.search.specs.declared.Task.{Task}
+use Rattle.search.specs.declared.Visit.{Visit}
 use borrow.Author.Needs.{needs}
 use Rattle.search.proofs.run.Statement.{statement}
 use Rattle.search.proofs.run.Tie as tie
 
-task-of-requires : tie.Need-task-of-requires
-task-of-requires c κs = search needs
-
-endable-of-requires : tie.Need-endable-of-requires
-endable-of-requires c κs = c .before .before .before .before .task-of .ensures .0
-
-slice-aggregate-skips-of : tie.Need-slice-aggregate-skips-of
-slice-aggregate-skips-of c = search needs
-
--- Places: what stands before a need, by name. Written by `named`: run it again when the code changes.
-abbrev start-from-task-of : tie.After-task-of → tie.Start
-start-from-task-of c = c .before .before .before .before .before
-
-abbrev task-of-from-endable-of : tie.After-endable-of → tie.After-task-of
-task-of-from-endable-of c = c .before .before .before .before .before
-
-abbrev put-first-from-skips-of : tie.After-skips-of → tie.After-put-first
-put-first-from-skips-of c = c .before .before .before .before .before
-
-abbrev put-first-from-explore : tie.After-explore → tie.After-put-first
-put-first-from-explore c = put-first-from-skips-of (c .before .before .before .before .before)
-
-abbrev explore-from-clear : tie.After-clear → tie.After-explore
-explore-from-clear c = c .before .before .before .before .before .before
-
-skips-of-requires : tie.Need-skips-of-requires
-skips-of-requires c κs =
-    let at-endable-of = c .before in
-    let at-task-of = task-of-from-endable-of at-endable-of in
-    let E = at-endable-of .endable-of .ensures in
-    (at-task-of .task-of .ensures .0, E .0, E .1, E .2)
-
-slice-aggregate-explore-2 : tie.Need-slice-aggregate-explore-2
-slice-aggregate-explore-2 c = search needs
-
-slice-aggregate-explore : tie.Need-slice-aggregate-explore
-slice-aggregate-explore c = search needs
+machine-of-requires : tie.Need-machine-of-requires
+machine-of-requires c κs = search needs
 
 put-first-requires : tie.Need-put-first-requires
 put-first-requires c κs = search needs
 
+initial-of-requires : tie.Need-initial-of-requires
+initial-of-requires c κs = search needs
+
+slice-aggregate-prepare : tie.Need-slice-aggregate-prepare
+slice-aggregate-prepare c = search needs
+
+slice-aggregate-prepare-2 : tie.Need-slice-aggregate-prepare-2
+slice-aggregate-prepare-2 c = search needs
+
+prepare-requires : tie.Need-prepare-requires
+prepare-requires c κs = search needs
+
+slice-aggregate-explore : tie.Need-slice-aggregate-explore
+slice-aggregate-explore c = search needs
+
+slice-aggregate-explore-2 : tie.Need-slice-aggregate-explore-2
+slice-aggregate-explore-2 c = search needs
+
+slice-aggregate-explore-3 : tie.Need-slice-aggregate-explore-3
+slice-aggregate-explore-3 c = search needs
+
+slice-aggregate-explore-4 : tie.Need-slice-aggregate-explore-4
+slice-aggregate-explore-4 c = search needs
+
 explore-requires : tie.Need-explore-requires
 explore-requires c κs =
-    let at-skips-of = c .before .before .before .before in
-    let at-put-first = put-first-from-skips-of at-skips-of in
-    let at-task-of = at-put-first .before .before in
-    let at-start = start-from-task-of at-task-of in
-    let s = now (at-start .args .s) in
-    let p = at-start .pre .0 in
-    let T = at-task-of .task-of .ensures .0 in
-    let Z = at-put-first .put-first .ensures in
-    let f = laid s (p .0) in
-    let e = ap (λ (l : Layout). l .d) (p .1) in
-    let R = first-ready T (at-task-of .task-of .ensures .1 .1) (Z .1 ∙ at-start .pre .1 .0) refl e (Z .0 .program) in
-    ((T, at-skips-of .skips-of .ensures), ((heldFirst s, Z .0, R), record { made = omega arith; traced = omega (arith, e, at-start .pre .1 .1); few = omega arith; deep = omega (arith, e, f .d) }))
+    let s = now (c .before .before .before .before .before .before .before .before .before .before .before .before .before .before .before .before .before .before .before .before .before .args .s) in
+    let l = c .before .before .before .before .before .before .before .before .before .before .before .before .before .before .before .before .before .before .before .before .before .args .l in
+    let e : boundOf s ≡ l .d = ap (λ (l : Layout). l .d) (sym (c .before .before .before .before .before .before .before .before .before .before .before .before .before .before .before .before .before .before .before .before .before .pre .0 .1)) in
+    let f = laid s (c .before .before .before .before .before .before .before .before .before .before .before .before .before .before .before .before .before .before .before .before .before .pre .0 .0) in
+    let p = firstOf s .0 in
+    let t : Task = record { machine = c .before .before .before .before .before .before .before .before .before .before .before .before .before .before .before .before .machine-of .result; free = c .before .before .before .before .before .before .before .before .before .before .before .before .before .before .before .before .before .before .before .before .before .args .free } in
+    let q : Visit = record { at = 0; left = l .d; j = 0; n = 0; d = 0; cut = false; state = c .before .before .before .before .before .before .before .before .before .before .before .initial-of .result; cursor = record { next = 0; end = 0 } } in
+    let R : Ready s (c .before .before .before .before .before .before .before .before .before .before .before .before .before .before .put-first .last .0) (now (c .before .before .before .before .before .before .before .before .before .before .before .before .before .before .before .before .before .before .before .before .before .args .moves)) (length (now (c .before .before .before .before .before .before .before .before .before .before .before .before .before .before .before .before .before .before .before .before .before .args .trace))) t q p =
+    record {
+      of = c .before .before .before .before .before .before .before .before .before .before .before .before .before .before .before .before .machine-of .ensures;
+      frame = subst (λ (n : ℕ). Frame s n (c .before .before .before .before .before .before .before .before .before .before .before .before .before .before .put-first .last .0) 0 p) e (c .before .before .before .before .before .before .before .before .before .before .before .before .before .before .put-first .ensures .0);
+      made = omega arith;
+      traced = omega (arith, e, c .before .before .before .before .before .before .before .before .before .before .before .before .before .before .before .before .before .before .before .before .before .pre .1 .1);
+      few = omega arith;
+      deep = omega (arith, e, f .d);
+    } in
+    ((c .before .before .before .before .before .before .before .before .prepare .ensures, c .before .before .before .before .before .before .before .before .prepare .ensures), (p, R))
 
 clear-requires : tie.Need-clear-requires
 clear-requires c κs = search needs
@@ -81,33 +79,44 @@ same-length-2 c = search needs
 
 returns : tie.Need-returns
 returns c =
-    let at-explore = explore-from-clear (c .before .before) in
-    let at-put-first = put-first-from-explore at-explore in
-    let at-task-of = at-put-first .before .before in
-    let at-start = start-from-task-of at-task-of in
-    let s = now (at-start .args .s) in
-    let p = at-start .pre .0 in
-    let moves = now (at-start .args .moves) in
-    let e = ap (λ (l : Layout). l .d) (p .1) in
-    let Z = at-explore .explore .ensures .0 (heldFirst s) (at-put-first .put-first .ensures .0) in
-    let k = at-explore .explore .ensures .1 .len ∙ at-put-first .put-first .ensures .1 in
-    let Y : Bool → ℕ → Type 0 = λ b n. Reported 0 0 (now (at-start .args .trace)) (at-explore .explore .last .1 .1 .1 .1 .1 .0) (at-explore .explore .result) (outcomeOf s b n (heldFirst s, moves))
-    in (
-      subst (λ (n : ℕ). Y (at-start .args .free) n) e (subst (λ (b : Bool). Y b (at-start .args .l .d)) (at-task-of .task-of .ensures .1 .0) Z),
-      c .before .before .clear .ensures ∙ ap (λ (n : ℕ). replicate n 0) k,
+    let s = now (c .before .before .before .before .before .before .before .before .before .before .before .before .before .before .before .before .before .before .before .before .before .before .before .before .before .before .before .before .before .before .before .before .before .before .args .s) in
+    let l = c .before .before .before .before .before .before .before .before .before .before .before .before .before .before .before .before .before .before .before .before .before .before .before .before .before .before .before .before .before .before .before .before .before .before .args .l in
+    let e : boundOf s ≡ l .d = ap (λ (l : Layout). l .d) (sym (c .before .before .before .before .before .before .before .before .before .before .before .before .before .before .before .before .before .before .before .before .before .before .before .before .before .before .before .before .before .before .before .before .before .before .pre .0 .1)) in
+    let f = laid s (c .before .before .before .before .before .before .before .before .before .before .before .before .before .before .before .before .before .before .before .before .before .before .before .before .before .before .before .before .before .before .before .before .before .before .pre .0 .0) in
+    let p = firstOf s .0 in
+    let t : Task = record { machine = c .before .before .before .before .before .before .before .before .before .before .before .before .before .before .before .before .before .before .before .before .before .before .before .before .before .before .before .before .before .machine-of .result; free = c .before .before .before .before .before .before .before .before .before .before .before .before .before .before .before .before .before .before .before .before .before .before .before .before .before .before .before .before .before .before .before .before .before .before .args .free } in
+    let q : Visit = record { at = 0; left = l .d; j = 0; n = 0; d = 0; cut = false; state = c .before .before .before .before .before .before .before .before .before .before .before .before .before .before .before .before .before .before .before .before .before .before .before .before .initial-of .result; cursor = record { next = 0; end = 0 } } in
+    let R : Ready s (c .before .before .before .before .before .before .before .before .before .before .before .before .before .before .before .before .before .before .before .before .before .before .before .before .before .before .before .put-first .last .0) (now (c .before .before .before .before .before .before .before .before .before .before .before .before .before .before .before .before .before .before .before .before .before .before .before .before .before .before .before .before .before .before .before .before .before .before .args .moves)) (length (now (c .before .before .before .before .before .before .before .before .before .before .before .before .before .before .before .before .before .before .before .before .before .before .before .before .before .before .before .before .before .before .before .before .before .before .args .trace))) t q p =
+    record {
+      of = c .before .before .before .before .before .before .before .before .before .before .before .before .before .before .before .before .before .before .before .before .before .before .before .before .before .before .before .before .before .machine-of .ensures;
+      frame = subst (λ (n : ℕ). Frame s n (c .before .before .before .before .before .before .before .before .before .before .before .before .before .before .before .before .before .before .before .before .before .before .before .before .before .before .before .put-first .last .0) 0 p) e (c .before .before .before .before .before .before .before .before .before .before .before .before .before .before .before .before .before .before .before .before .before .before .before .before .before .before .before .put-first .ensures .0);
+      made = omega arith;
+      traced = omega (arith, e, c .before .before .before .before .before .before .before .before .before .before .before .before .before .before .before .before .before .before .before .before .before .before .before .before .before .before .before .before .before .before .before .before .before .before .pre .1 .1);
+      few = omega arith;
+      deep = omega (arith, e, f .d);
+    } in
+    let Z = c .before .before .before .before .before .before .before .before .before .before .before .before .explore .ensures .0 p R in
+    let trace = now (c .before .before .before .before .before .before .before .before .before .before .before .before .before .before .before .before .before .before .before .before .before .before .before .before .before .before .before .before .before .before .before .before .before .before .args .trace) in
+    let moves = now (c .before .before .before .before .before .before .before .before .before .before .before .before .before .before .before .before .before .before .before .before .before .before .before .before .before .before .before .before .before .before .before .before .before .before .args .moves) in
+    let X : State → ℕ → Type 0 = λ st n. Reported 0 0 trace (c .before .before .before .before .before .before .before .before .before .before .before .before .explore .last .1 .0) (c .before .before .before .before .before .before .before .before .before .before .before .before .explore .result) (outcomeOf s (c .before .before .before .before .before .before .before .before .before .before .before .before .before .before .before .before .before .before .before .before .before .before .before .before .before .before .before .before .before .before .before .before .before .before .args .free) n ((p, st), moves)) in (
+      subst (λ (n : ℕ). X (firstOf s .1) n) (sym e) (subst (λ (st : State). X st (l .d)) (c .before .before .before .before .before .before .before .before .before .before .before .before .before .before .before .before .before .before .before .before .before .before .before .before .initial-of .ensures) Z),
+      c .before .before .clear .ensures ∙ ap (λ (n : ℕ). replicate n 0) (c .before .before .before .before .before .before .before .before .before .before .before .before .explore .ensures .1 ∙ c .before .before .before .before .before .before .before .before .before .before .before .before .before .before .before .before .before .before .before .before .before .before .before .before .before .before .before .put-first .ensures .1),
     )
 
 pub run-spec : {M : Type 1} → statement M
 run-spec =
     tie.close
     (tie.spec
-    task-of-requires
+    machine-of-requires
     put-first-requires
-    endable-of-requires
-    slice-aggregate-skips-of
-    skips-of-requires
+    initial-of-requires
+    slice-aggregate-prepare
+    slice-aggregate-prepare-2
+    prepare-requires
     slice-aggregate-explore
     slice-aggregate-explore-2
+    slice-aggregate-explore-3
+    slice-aggregate-explore-4
     explore-requires
     clear-requires
     same-length

@@ -5,7 +5,7 @@ use native.Mathlib.Omega.{arith}
 use borrow.Author.Needs.{needs}
 use lib.ListN.{getD, length}
 use Rattle.state.specs.Performed.{givenBy}
-use Rattle.state.proofs.Laid.{Laid, laid-none, laid-more}
+use Rattle.records.proofs.Laid.{Laid, laid-none, laid-more}
 use Rattle.state.proofs.Performed.{changed-all}
 use Rattle.state.proofs.changed.Statement.{statement}
 use Rattle.state.proofs.changed.Tie as tie

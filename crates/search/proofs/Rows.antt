@@ -1,33 +1,22 @@
--- The loop over a configuration's transitions: after the first k, what was left before and what they left, as a flag, joined with the
--- verdict on the later ones, is the verdict on all beside what was left before. A plan ends the loop, and its history is laid into the trace on the way back. Assumes nothing.
-use Prim.Native.Nat.{ℕ, zero, suc, _+_, _≤_, _<_}
+-- The loop over a configuration's transitions: the first one's verdict, then a flag beside the verdict on the others. A plan ends the loop,
+-- and its history is laid into the trace on the way back. Assumes nothing.
+use Prim.Native.Nat.{ℕ, _+_}
 use native.Mathlib.Nat.{add-zero}
-use native.Mathlib.Numerals.{add-one}
 use native.Mathlib.Omega.{arith}
 use mathlib.Core.Bool.{Bool, true, false, cond}
-use mathlib.Core.List.{List, [], _∷_}
+use mathlib.Core.List.{List, [], _∷_, append-nil}
 use mathlib.Core.Option.{Option, none, some}
 use mathlib.Core.Path.{_≡_, refl, sym, _∙_, ap, ap₂, subst}
-use lib.ListN.{length, drop, set, getElem?, drop-of-length-le}
+use lib.ListN.{length, set}
 use Rattle.runs.specs.Search.{Verdict, plan, nothing, more, isPlan, before, tries}
 use Rattle.runs.specs.Guide.{only, follow1, follow}
 use Rattle.runs.specs.Outcome.{join, flagged}
 use Rattle.runs.proofs.Joined.{flag-nothing, join-assoc, before-flag, no-plan}
+use Rattle.runs.proofs.Outcomes.{tries-append}
 use Rattle.search.specs.Outcome.{Says, Reported, isFound, isMore, told}
 use Rattle.search.specs.Moves.{passes, leftOver, entries, noted}
 use Rattle.search.specs.declared.Outcome.{Outcome}
 use Rattle.search.specs.declared.Outcome.the-variants.{Found, More}
-use Rattle.runs.proofs.Outcomes.{tries-append}
-
-nth-drop : {A : Type 0} (xs : List A) (k : ℕ) {x : A} → getElem? xs k ≡ some x → drop k xs ≡ x ∷ drop (suc k) xs
-nth-drop [] k h = cc
-nth-drop (a ∷ xs) zero h = cc
-nth-drop (a ∷ xs) (suc k) h = nth-drop xs k h
-
-nth-less : {A : Type 0} (xs : List A) (k : ℕ) {x : A} → getElem? xs k ≡ some x → k < length xs
-nth-less [] k h = let z : _≡_ {A = ℕ} 0 1 = cc in omega arith
-nth-less (a ∷ xs) zero h = omega arith
-nth-less (a ∷ xs) (suc k) h = let z = nth-less xs k h in omega arith
 
 pub says-flag : (n d : ℕ) (trace : List ℕ) (cut : Bool) → Says n d trace trace (told cut) (flagged cut)
 says-flag n d trace true = (refl, refl)
@@ -54,61 +43,50 @@ module _ {C : Type 0} (f : C × List ℕ → Verdict) (free : Bool) (g : List �
   abbrev pub branches : List (Option ℕ × C) → Verdict
   branches xs = tries f (follow free g xs)
 
-  -- `was` is whether the bound ran out in some run before them
-  pub record Tried (was : Bool) (xs : List (Option ℕ × C)) (k : ℕ) (cut : Bool) : Type 0 where
-    pub count : k ≤ length xs
-    pub same : join (flagged cut) (branches (drop k xs)) ≡ join (flagged was) (branches xs)
+  abbrev one : Option ℕ × C → List (Option ℕ × C)
+  one x = x ∷ []
 
-  pub tried-none : (was : Bool) (xs : List (Option ℕ × C)) → Tried was xs 0 was
-  tried-none was xs = record { count = omega arith; same = refl }
+  only-branch : (x : Option ℕ × C) → branches (one x) ≡ branch x
+  only-branch x = ap (tries f) (append-nil (follow1 free g (x .0) (x .1)))
 
-  module _ (was : Bool) (xs : List (Option ℕ × C)) (k : ℕ) (cut : Bool) (T : Tried was xs k cut) where
-    pub tried-all : length xs ≤ k → join (flagged was) (branches xs) ≡ flagged cut
-    tried-all l =
-        sym (T .same)
-        ∙ ap (λ (ys : List (Option ℕ × C)). join (flagged cut) (branches ys)) (drop-of-length-le xs {i = k} l)
-        ∙ flag-nothing cut
+  -- the first of the transitions, then the others
+  pub tried-next : (cut : Bool) (x : Option ℕ × C) (xs : List (Option ℕ × C)) → join (flagged cut) (branches (x ∷ xs)) ≡ join (join (flagged cut) (branches (one x))) (branches xs)
+  tried-next cut x xs =
+      ap (join (flagged cut)) (tries-append f (follow1 free g (x .0) (x .1)) (follow free g xs) ∙ ap (λ (v : Verdict). join v (branches xs)) (sym (only-branch x)))
+      ∙ sym (join-assoc (flagged cut) (branches (one x)) (branches xs))
 
-    module _ (x : Option ℕ × C) (at : getElem? xs k ≡ some x) where
-      next : join (join (flagged cut) (branch x)) (branches (drop (suc k) xs)) ≡ join (flagged was) (branches xs)
-      next =
-          join-assoc (flagged cut) (branch x) (branches (drop (suc k) xs))
-          ∙ ap (join (flagged cut)) (sym (tries-append f (follow1 free g (x .0) (x .1)) (follow free g (drop (suc k) xs))))
-          ∙ ap (λ (ys : List (Option ℕ × C)). join (flagged cut) (branches ys)) (sym (nth-drop xs k at))
-          ∙ T .same
+  pub branch-one : (cut : Bool) (x : Option ℕ × C) → join (flagged cut) (branches (one x)) ≡ join (flagged cut) (branch x)
+  branch-one cut x = ap (join (flagged cut)) (only-branch x)
 
-      on : (cut′ : Bool) → join (flagged cut) (branch x) ≡ flagged cut′ → Tried was xs (k + 1) cut′
-      on cut′ e =
-          record {
-            count = omega (arith, nth-less xs k at);
-            same =
-                ap (λ (j : ℕ). join (flagged cut′) (branches (drop j xs))) (add-one k)
-                ∙ ap (λ (v : Verdict). join v (branches (drop (suc k) xs))) (sym e)
-                ∙ next;
-          }
+  module _ (cut : Bool) (x : Option ℕ × C) (xs : List (Option ℕ × C)) (n d : ℕ) (trace trace′ : List ℕ) (o : Outcome) (R : Reported n d trace trace′ o (join (flagged cut) (branches (one x)))) where
+    -- an answer that is found is that of all
+    pub tried-found : isFound o ≡ true → Reported n d trace trace′ o (join (flagged cut) (branches (x ∷ xs)))
+    tried-found y = go (join (flagged cut) (branches (one x))) refl (R .says)
+      where
+        no : {v : Outcome} → o ≡ v → isFound v ≡ false → Reported n d trace trace′ o (join (flagged cut) (branches (x ∷ xs)))
+        no e z = let q : _≡_ {A = ℕ} 0 1 = let p : true ≡ false = sym y ∙ ap isFound e ∙ z in cc in absurd (omega arith)
 
-      module _ (n d : ℕ) (trace trace′ : List ℕ) (o : Outcome) where
-        -- an answer that is found is that of all
-        pub tried-found : Reported n d trace trace′ o (join (flagged cut) (branch x)) → isFound o ≡ true → Reported n d trace trace′ o (join (flagged was) (branches xs))
-        tried-found R y = go (join (flagged cut) (branch x)) refl (R .says)
-          where
-            no : {v : Outcome} → o ≡ v → isFound v ≡ false → Reported n d trace trace′ o (join (flagged was) (branches xs))
-            no e z = let q : _≡_ {A = ℕ} 0 1 = let p : true ≡ false = sym y ∙ ap isFound e ∙ z in cc in absurd (omega arith)
+        go : (v : Verdict) → join (flagged cut) (branches (one x)) ≡ v → Says n d trace trace′ o v → Reported n d trace trace′ o (join (flagged cut) (branches (x ∷ xs)))
+        go (plan h t) e s =
+            record { says = subst (Says n d trace trace′ o) (sym (tried-next cut x xs ∙ ap (λ (v : Verdict). join v (branches xs)) e)) s }
+        go nothing e s = no (s .0) refl
+        go more e s = no (s .0) refl
 
-            go : (v : Verdict) → join (flagged cut) (branch x) ≡ v → Says n d trace trace′ o v → Reported n d trace trace′ o (join (flagged was) (branches xs))
-            go (plan h t) e s =
-                record { says = subst (Says n d trace trace′ o) (ap (λ (v : Verdict). join v (branches (drop (suc k) xs))) (sym e) ∙ next) s }
-            go nothing e s = no (s .0) refl
-            go more e s = no (s .0) refl
+    -- one that is not leaves the trace, and a flag beside the others
+    pub tried-more : isFound o ≡ false → (trace′ ≡ trace) × (join (flagged cut) (branches (x ∷ xs)) ≡ join (flagged (isMore o)) (branches xs))
+    tried-more y = go (join (flagged cut) (branches (one x))) refl (R .says)
+      where
+        rest : (b : Bool) → join (flagged cut) (branches (one x)) ≡ flagged b → isMore o ≡ b → join (flagged cut) (branches (x ∷ xs)) ≡ join (flagged (isMore o)) (branches xs)
+        rest b e z = tried-next cut x xs ∙ ap (λ (v : Verdict). join v (branches xs)) (e ∙ ap flagged (sym z))
 
-        -- one that is not leaves the trace, and a flag
-        pub tried-more : Reported n d trace trace′ o (join (flagged cut) (branch x)) → isFound o ≡ false → (trace′ ≡ trace) × Tried was xs (k + 1) (isMore o)
-        tried-more R y = go (join (flagged cut) (branch x)) refl (R .says)
-          where
-            go : (v : Verdict) → join (flagged cut) (branch x) ≡ v → Says n d trace trace′ o v → (trace′ ≡ trace) × Tried was xs (k + 1) (isMore o)
-            go (plan h t) e s = let q : _≡_ {A = ℕ} 0 1 = let p : false ≡ true = sym y ∙ ap isFound (s .0) in cc in absurd (omega arith)
-            go nothing e s = (s .1, subst (λ (v : Outcome). Tried was xs (k + 1) (isMore v)) (sym (s .0)) (on false e))
-            go more e s = (s .1, subst (λ (v : Outcome). Tried was xs (k + 1) (isMore v)) (sym (s .0)) (on true e))
+        go : (v : Verdict) → join (flagged cut) (branches (one x)) ≡ v → Says n d trace trace′ o v → (trace′ ≡ trace) × (join (flagged cut) (branches (x ∷ xs)) ≡ join (flagged (isMore o)) (branches xs))
+        go (plan h t) e s = let q : _≡_ {A = ℕ} 0 1 = let p : false ≡ true = sym y ∙ ap isFound (s .0) in cc in absurd (omega arith)
+        go nothing e s = (s .1, rest false e (ap isMore (s .0)))
+        go more e s = (s .1, rest true e (ap isMore (s .0)))
+
+  -- none is left: the flag
+  pub tried-none : (cut : Bool) → join (flagged cut) (branches []) ≡ flagged cut
+  tried-none cut = flag-nothing cut
 
 -- the answer from where a transition leads is the answer of that transition: it is written down where a plan was found
 module _ {C : Type 0} (f : C × List ℕ → Verdict) (n d : ℕ) (trace trace′ : List ℕ) (o : Outcome) (c : C × List ℕ) where

@@ -1,0 +1,22 @@
+-- Surveyed again, or as it was. Assumes nothing.
+use borrow.Author.Needs.{needs}
+use Rattle.search.proofs.refresh.Statement.{statement}
+use Rattle.search.proofs.refresh.Tie as tie
+
+survey-requires : tie.Need-survey-requires
+survey-requires c κs = search needs
+
+same-length : tie.Need-same-length
+same-length c = search needs
+
+same-length-2 : tie.Need-same-length-2
+same-length-2 c = search needs
+
+returns : tie.Need-returns
+returns c = search needs
+
+returns-2 : tie.Need-returns-2
+returns-2 c = c .before .before .before .before .before .pre .0 .2 (c .if1 .left)
+
+pub refresh-spec : {M : Type 1} → statement M
+refresh-spec = tie.close (tie.spec survey-requires same-length same-length-2 returns returns-2)
