@@ -61,7 +61,8 @@ module _ (W : World) (p : ℕ → Program) (m : ℕ) (endable : List Bool) (E : 
     Soon g = (x : Move) → List·Memᴰ x (restSteps W s p g) → (t : State) → restFinal W t p (x .1) ≡ true → soonIn (finalsOf W s p m) endable (countsOf W s p m) g ≡ true
 
     -- the right part goes by the tables where it does
-    goes-by : (tag : ℕ) (l : Rest) → Within p m l → goesRight tag (finalIn (finalsOf W s p m) l) (eqb (countIn (finalsOf W s p m) (countsOf W s p m) l) 0) ≡ goesRight tag (restFinal W s p l) (isNone (restSteps W s p l))
+    goes-by : (tag : ℕ) (l : Rest) → Within p m l → goesRight tag (finalIn (finalsOf W s p m) l) (eqb (countIn (finalsOf W s p m) (countsOf W s p m) l) 0) ≡ goesRight tag (restFinal W s p l)
+        (isNone (restSteps W s p l))
     goes-by tag l H = ap₂ (goesRight tag) (final-in W s p m l H) (ap (λ (n : ℕ). eqb n 0) (count-in W s p m low l H) ∙ sym (none-length (restSteps W s p l)))
 
     soon-node : (tag : ℕ) (l r : Rest) → Within p m l → Within p m r → Soon l → Soon r → Soon (node tag l r)

@@ -3,7 +3,8 @@
 -- program, with one law for each pair. Assumes nothing.
 use Prim.Native.Nat.{ℕ}
 use mathlib.Core.Bool.{Bool, true, false, not, _&&_}
-use mathlib.Core.List.{List, [], _∷_, _++_, map, List·Memᴰ, List·Memᴰ·head, List·Memᴰ·tail, List·Memᴰ·not-nil, List·Memᴰ·cases-cons, List·Memᴰ·append-cases, Memᴰ·append-left, Memᴰ·append-right, List·Memᴰ·eq-of-singleton}
+use mathlib.Core.List.{List, [], _∷_, _++_, map, List·Memᴰ, List·Memᴰ·head, List·Memᴰ·tail, List·Memᴰ·not-nil, List·Memᴰ·cases-cons, List·Memᴰ·append-cases, Memᴰ·append-left, Memᴰ·append-right}
+use mathlib.Core.List.{List·Memᴰ·eq-of-singleton}
 use mathlib.Core.Logic.{_⊎_, inl, inr, ⊎-elim, _↔_}
 use mathlib.Core.Option.{Option, none, some}
 use mathlib.Core.Path.{_≡_, refl, ap, _∙_}
@@ -26,14 +27,18 @@ only-iff true xs p q = (λ h. (p .0 tt, q .0 h), λ h. q .1 (h .1))
 only-iff false xs p q = (λ h. absurd (List·Memᴰ·not-nil h), λ h. absurd (p .1 (h .0)))
 
 one-iff : (m n : Option ℕ) (p q : Prog) (t u : State) (b : Bool) → List·Memᴰ {A = Step} (m, (p, t)) (only b ((n, (q, u)) ∷ [])) ↔ (T b × (m ≡ n) × (p ≡ q) × (t ≡ u))
-one-iff m n p q t u true = (λ h. let e = List·Memᴰ·eq-of-singleton h in (tt, ap (λ (x : Step). x .0) e, ap (λ (x : Step). x .1 .0) e, ap (λ (x : Step). x .1 .1) e), λ h. List·Memᴰ·head (λ i. (h .1 i, (h .2 i, h .3 i))))
+one-iff m n p q t u true = (
+  λ h. let e = List·Memᴰ·eq-of-singleton h in (tt, ap (λ (x : Step). x .0) e, ap (λ (x : Step). x .1 .0) e, ap (λ (x : Step). x .1 .1) e),
+  λ h. List·Memᴰ·head (λ i. (h .1 i, (h .2 i, h .3 i))),
+)
 one-iff m n p q t u false = (λ h. absurd (List·Memᴰ·not-nil h), λ h. absurd (h .0))
 
 mapped-in : (f : Prog → Prog) (m : Option ℕ) (p : Prog) (t : State) (xs : List Step) → List·Memᴰ (m, (p, t)) (map (onProg f) xs) → (g : Prog) × (p ≡ f g) × List·Memᴰ (m, (g, t)) xs
 mapped-in f m p t [] h = absurd (List·Memᴰ·not-nil h)
 mapped-in f m p t (x ∷ xs) h = go (λ k. mapped-in f m p t xs k) (List·Memᴰ·cases-cons h)
   where
-    go : (List·Memᴰ (m, (p, t)) (map (onProg f) xs) → (g : Prog) × (p ≡ f g) × List·Memᴰ (m, (g, t)) xs) → (_≡_ {A = Step} (m, (p, t)) (onProg f x)) ⊎ List·Memᴰ (m, (p, t)) (map (onProg f) xs) → (g : Prog) × (p ≡ f g) × List·Memᴰ (m, (g, t)) (x ∷ xs)
+    go : (List·Memᴰ (m, (p, t)) (map (onProg f) xs) → (g : Prog) × (p ≡ f g) × List·Memᴰ (m, (g, t)) xs) → (_≡_ {A = Step} (m, (p, t)) (onProg f x)) ⊎ List·Memᴰ (m, (p, t)) (map (onProg f) xs) →
+        (g : Prog) × (p ≡ f g) × List·Memᴰ (m, (g, t)) (x ∷ xs)
     go rec (inl e) = (x .1 .0, ap (λ (z : Step). z .1 .0) e, List·Memᴰ·head (λ i. (e i .0, (x .1 .0, e i .1 .1))))
     go rec (inr k) = let r = rec k in (r .0, r .1, List·Memᴰ·tail (r .2))
 
@@ -41,10 +46,12 @@ mapped-out : (f : Prog → Prog) (m : Option ℕ) (p g : Prog) (t : State) → p
 mapped-out f m p g t q (List·Memᴰ·head e) = List·Memᴰ·head (λ i. (e i .0, ((q ∙ ap (λ (z : Step). f (z .1 .0)) e) i, e i .1 .1)))
 mapped-out f m p g t q (List·Memᴰ·tail k) = List·Memᴰ·tail (mapped-out f m p g t q k)
 
-map-iff : {R : Prog → Type 0} (f : Prog → Prog) (m : Option ℕ) (p : Prog) (t : State) (xs : List Step) → ((g : Prog) → List·Memᴰ (m, (g, t)) xs ↔ R g) → List·Memᴰ (m, (p, t)) (map (onProg f) xs) ↔ ((g : Prog) × (p ≡ f g) × R g)
+map-iff : {R : Prog → Type 0} (f : Prog → Prog) (m : Option ℕ) (p : Prog) (t : State) (xs : List Step) → ((g : Prog) → List·Memᴰ (m, (g, t)) xs ↔ R g) →
+    List·Memᴰ (m, (p, t)) (map (onProg f) xs) ↔ ((g : Prog) × (p ≡ f g) × R g)
 map-iff f m p t xs h = (λ k. let r = mapped-in f m p t xs k in (r .0, r .1, h (r .0) .0 (r .2)), λ k. mapped-out f m p (k .0) t (k .1) (h (k .0) .1 (k .2)))
 
-none-iff : {R : Option ℕ → Prog → State → Type 0} (xs : List Step) → ((m : Option ℕ) (g : Prog) (t : State) → List·Memᴰ (m, (g, t)) xs ↔ R m g t) → T (isNone xs) ↔ ((m : Option ℕ) (g : Prog) (t : State) → ¬ R m g t)
+none-iff : {R : Option ℕ → Prog → State → Type 0} (xs : List Step) → ((m : Option ℕ) (g : Prog) (t : State) → List·Memᴰ (m, (g, t)) xs ↔ R m g t) →
+    T (isNone xs) ↔ ((m : Option ℕ) (g : Prog) (t : State) → ¬ R m g t)
 none-iff [] h = (λ k m g t r. List·Memᴰ·not-nil (h m g t .1 r), λ k. tt)
 none-iff (x ∷ xs) h = (λ k. absurd k, λ k. k (x .0) (x .1 .0) (x .1 .1) (h (x .0) (x .1 .0) (x .1 .1) .0 (List·Memᴰ·head refl)))
 
@@ -56,7 +63,8 @@ final-exact W (test q) s = same ⊥
 final-exact W (seq a b) s = and-iff (final W a s) (final W b s) (final-exact W a s) (final-exact W b s)
 final-exact W (alt a b) s = or-iff (final W a s) (final W b s) (final-exact W a s) (final-exact W b s)
 final-exact W (star a) s = same (Unit {0})
-final-exact W (ite q a b) s = or-iff (holds W q s && final W a s) (not (holds W q s) && final W b s) (and-iff (holds W q s) (final W a s) (same _) (final-exact W a s)) (and-iff (not (holds W q s)) (final W b s) (not-iff (holds W q s) (same _)) (final-exact W b s))
+final-exact W (ite q a b) s = or-iff (holds W q s && final W a s) (not (holds W q s) && final W b s) (and-iff (holds W q s) (final W a s) (same _) (final-exact W a s))
+    (and-iff (not (holds W q s)) (final W b s) (not-iff (holds W q s) (same _)) (final-exact W b s))
 final-exact W (while q a) s = or-iff (not (holds W q s)) (final W a s) (not-iff (holds W q s) (same _)) (final-exact W a s)
 final-exact W (conc a b) s = and-iff (final W a s) (final W b s) (final-exact W a s) (final-exact W b s)
 final-exact W (prio a b) s = and-iff (final W a s) (final W b s) (final-exact W a s) (final-exact W b s)
@@ -68,12 +76,17 @@ unfolding steps Trans
 steps-exact W nil s m p t = (λ h. List·Memᴰ·not-nil h, λ h. absurd h)
 steps-exact W (act a) s m p t = one-iff m (some a) p nil t (perform W a s) (possible W a s)
 steps-exact W (test q) s m p t = one-iff m none p nil t s (holds W q s)
-steps-exact W (seq a b) s m p t = append-iff _ _ (map-iff (λ (g : Prog). seq g b) m p t (steps W a s) (λ g. steps-exact W a s m g t)) (only-iff (final W a s) (steps W b s) (final-exact W a s) (steps-exact W b s m p t))
+steps-exact W (seq a b) s m p t = append-iff _ _ (map-iff (λ (g : Prog). seq g b) m p t (steps W a s) (λ g. steps-exact W a s m g t))
+    (only-iff (final W a s) (steps W b s) (final-exact W a s) (steps-exact W b s m p t))
 steps-exact W (alt a b) s m p t = append-iff (steps W a s) (steps W b s) (steps-exact W a s m p t) (steps-exact W b s m p t)
 steps-exact W (star a) s m p t = map-iff (λ (g : Prog). seq g (star a)) m p t (steps W a s) (λ g. steps-exact W a s m g t)
-steps-exact W (ite q a b) s m p t = append-iff _ _ (only-iff (holds W q s) (steps W a s) (same _) (steps-exact W a s m p t)) (only-iff (not (holds W q s)) (steps W b s) (not-iff (holds W q s) (same _)) (steps-exact W b s m p t))
+steps-exact W (ite q a b) s m p t = append-iff _ _ (only-iff (holds W q s) (steps W a s) (same _) (steps-exact W a s m p t))
+    (only-iff (not (holds W q s)) (steps W b s) (not-iff (holds W q s) (same _)) (steps-exact W b s m p t))
 steps-exact W (while q a) s m p t = map-iff (λ (g : Prog). seq g (while q a)) m p t _ (λ g. only-iff (holds W q s) (steps W a s) (same _) (steps-exact W a s m g t))
-steps-exact W (conc a b) s m p t = append-iff _ _ (map-iff (λ (g : Prog). conc g b) m p t (steps W a s) (λ g. steps-exact W a s m g t)) (map-iff (λ (g : Prog). conc a g) m p t (steps W b s) (λ g. steps-exact W b s m g t))
-steps-exact W (prio a b) s m p t = append-iff _ _ (map-iff (λ (g : Prog). prio g b) m p t (steps W a s) (λ g. steps-exact W a s m g t)) (map-iff (λ (g : Prog). prio a g) m p t _ (λ g. only-iff (isNone (steps W a s)) (steps W b s) (none-iff (steps W a s) (λ n z u. steps-exact W a s n z u)) (steps-exact W b s m g t)))
+steps-exact W (conc a b) s m p t = append-iff _ _ (map-iff (λ (g : Prog). conc g b) m p t (steps W a s) (λ g. steps-exact W a s m g t))
+    (map-iff (λ (g : Prog). conc a g) m p t (steps W b s) (λ g. steps-exact W b s m g t))
+steps-exact W (prio a b) s m p t = append-iff _ _ (map-iff (λ (g : Prog). prio g b) m p t (steps W a s) (λ g. steps-exact W a s m g t))
+    (map-iff (λ (g : Prog). prio a g) m p t _ (λ g. only-iff (isNone (steps W a s)) (steps W b s) (none-iff (steps W a s) (λ n z u. steps-exact W a s n z u)) (steps-exact W b s m g t)))
 steps-exact W (iter a) s m p t = map-iff (λ (g : Prog). conc g (iter a)) m p t (steps W a s) (λ g. steps-exact W a s m g t)
-steps-exact W (intr q a) s m p t = map-iff (λ (g : Prog). seq g (intr q a)) m p t _ (λ g. only-iff (s .running && holds W q s) (steps W a s) (and-iff (s .running) (holds W q s) (same _) (same _)) (steps-exact W a s m g t))
+steps-exact W (intr q a) s m p t = map-iff (λ (g : Prog). seq g (intr q a)) m p t _ (λ g. only-iff (s .running && holds W q s) (steps W a s) (and-iff (s .running) (holds W q s) (same _) (same _))
+    (steps-exact W a s m g t))

@@ -71,7 +71,8 @@ doubled : (m kind : ℕ) (can held fa h running : Bool) (ca cb : ℕ) → 1 ≤ 
 unfolding countOf ownOf usesA usesB
 doubled m kind can held fa h running ca cb l =
     by-kind (λ (kind : ℕ). (T (hasA kind) → ca + ca ≤ m) → (T (hasTwo kind) → cb + cb ≤ m) → countOf kind can held fa h running ca cb ≤ m)
-    (λ p q. omega arith) (λ p q. omega (arith, part can 1)) (λ p q. omega (arith, part held 1)) (λ p q. omega (arith, p tt, q tt, part fa cb)) (λ p q. omega (arith, p tt, q tt)) (λ p q. omega (arith, p tt))
+    (λ p q. omega arith) (λ p q. omega (arith, part can 1)) (λ p q. omega (arith, part held 1)) (λ p q. omega (arith, p tt, q tt, part fa cb)) (λ p q. omega (arith, p tt, q tt))
+    (λ p q. omega (arith, p tt))
     (λ p q. omega (arith, p tt, q tt, part h ca, part (not h) cb)) (λ p q. omega (arith, p tt, part h ca)) (λ p q. omega (arith, p tt, q tt)) (λ p q. omega (arith, p tt, q tt, part (eqb ca 0) cb))
     (λ p q. omega (arith, p tt)) (λ p q. omega (arith, p tt, part (running && h) ca)) (λ k p q. omega arith) kind
 

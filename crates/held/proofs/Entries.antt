@@ -105,7 +105,8 @@ program-step p low i =
     (λ h. program-at p i (p i .b) (lower-b p low i h))
 
 -- finality and transitions of a record depend on the parts that its kind has
-leaf-parts : (W : World) (s : State) (i kind a b c : ℕ) (A A′ B B′ : Leaf) → (T (hasA kind) → A ≡ A′) → (T (hasTwo kind) → B ≡ B′) → leafWith W s (fields kind a b c) i A B ≡ leafWith W s (fields kind a b c) i A′ B′
+leaf-parts : (W : World) (s : State) (i kind a b c : ℕ) (A A′ B B′ : Leaf) → (T (hasA kind) → A ≡ A′) → (T (hasTwo kind) → B ≡ B′) →
+    leafWith W s (fields kind a b c) i A B ≡ leafWith W s (fields kind a b c) i A′ B′
 unfolding leafWith finalOf usesA usesB
 leaf-parts W s i kind a b c A A′ B B′ =
     let two : (k : ℕ) → A ≡ A′ → B ≡ B′ → leafWith W s (fields k a b c) i A B ≡ leafWith W s (fields k a b c) i A′ B′ = λ k h j. ap₂ (leafWith W s (fields k a b c) i) h j in

@@ -58,7 +58,8 @@ module _ (W : World) (s : State) (p : ℕ → Program) (low : AllLower p) where
         (λ i x t h. left i (x .1) (omega (arith, ranked i (p i .a) (link-a (p i) t))) (eqb (tagA (p i .kind)) 0) (loops (p i .kind)) (has-sibling (p i .kind)))
         (λ i x t h. right i (x .1) (omega (arith, ranked i (p i .b) (link-b (p i) t))) (ranked i (p i .a) (link-a (p i) (two-parts (p i .kind) t))) (eqb (tagB (p i .kind)) 0))
       where
-        left : (i : ℕ) (g : Rest) → largest rank g ≤ rank i → (z own : Bool) → T (z || (own || hasTwo (p i .kind))) → largest rank (cond z g (node (tagA (p i .kind)) g (leaf (cond own i (p i .b))))) ≤ rank i
+        left : (i : ℕ) (g : Rest) → largest rank g ≤ rank i → (z own : Bool) → T (z || (own || hasTwo (p i .kind))) →
+            largest rank (cond z g (node (tagA (p i .kind)) g (leaf (cond own i (p i .b))))) ≤ rank i
         left i g h true own t = h
         left i g h false true t = omega arith
         left i g h false false t = omega (arith, ranked i (p i .b) (link-b (p i) t))

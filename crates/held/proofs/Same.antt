@@ -54,7 +54,8 @@ module _ {W : World} {s : State} {p : ℕ → Program} where
   one : (m : Option ℕ) (g : Rest) → Stands W s p ((m, g) ∷ []) ((m, (full p g, after W m s)) ∷ [])
   one m g = record { eq = refl }
 
-  wrapped : {xs : List Move} {xs′ : List Step} (f : Rest → Rest) (f′ : Prog → Prog) → ((g : Rest) → full p (f g) ≡ f′ (full p g)) → Stands W s p xs xs′ → Stands W s p (map (onRest f) xs) (map (onProg f′) xs′)
+  wrapped : {xs : List Move} {xs′ : List Step} (f : Rest → Rest) (f′ : Prog → Prog) → ((g : Rest) → full p (f g) ≡ f′ (full p g)) → Stands W s p xs xs′ →
+      Stands W s p (map (onRest f) xs) (map (onProg f′) xs′)
   wrapped {xs} f f′ h k = record { eq = go xs ∙ ap (map (onProg f′)) (k .eq) }
     where
       go : (xs : List Move) → map (seen W s p) (map (onRest f) xs) ≡ map (onProg f′) (map (seen W s p) xs)
@@ -159,11 +160,14 @@ module _ (W : World) (s : State) (p : ℕ → Program) where
 
   both-steps : (sq tog : Bool) (N : Rest → Rest → Rest) → ((g h : Rest) → full p (N g h) ≡ Both sq tog (full p g) (full p h))
       → (l r : Rest) {fl : Bool} {L R : List Move} → fl ≡ final W (full p l) s → Stands W s p L (steps W (full p l) s) → Stands W s p R (steps W (full p r) s)
-      → Stands W s p (map (onRest (λ (g : Rest). N g r)) L ++ map (onRest (λ (g : Rest). cond sq g (N l g))) (only (cond sq fl (cond tog true (isNone L))) R)) (steps W (Both sq tog (full p l) (full p r)) s)
+      → Stands W s p (map (onRest (λ (g : Rest). N g r)) L ++ map (onRest (λ (g : Rest). cond sq g (N l g))) (only (cond sq fl (cond tog true (isNone L))) R))
+      (steps W (Both sq tog (full p l) (full p r)) s)
   unfolding steps
   both-steps true tog N e l r f x y = joined (wrapped (λ (g : Rest). N g r) (λ (g : Prog). seq g (full p r)) (λ g. e g r) x) (bare (guarded f y))
-  both-steps false true N e l r f x y = joined (wrapped (λ (g : Rest). N g r) (λ (g : Prog). conc g (full p r)) (λ g. e g r) x) (wrapped (λ (g : Rest). N l g) (λ (g : Prog). conc (full p l) g) (λ g. e l g) y)
-  both-steps false false N e l r f x y = joined (wrapped (λ (g : Rest). N g r) (λ (g : Prog). prio g (full p r)) (λ g. e g r) x) (wrapped (λ (g : Rest). N l g) (λ (g : Prog). prio (full p l) g) (λ g. e l g) (guarded (nones x) y))
+  both-steps false true N e l r f x y = joined (wrapped (λ (g : Rest). N g r) (λ (g : Prog). conc g (full p r)) (λ g. e g r) x)
+      (wrapped (λ (g : Rest). N l g) (λ (g : Prog). conc (full p l) g) (λ g. e l g) y)
+  both-steps false false N e l r f x y = joined (wrapped (λ (g : Rest). N g r) (λ (g : Prog). prio g (full p r)) (λ g. e g r) x)
+      (wrapped (λ (g : Rest). N l g) (λ (g : Prog). prio (full p l) g) (λ g. e l g) (guarded (nones x) y))
 
   module _ (low : AllLower p) where
     leaf-right : (i : ℕ) → Right W s p (leafOf W s p i) (programOf p i)

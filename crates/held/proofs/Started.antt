@@ -80,6 +80,7 @@ module _ (p : ℕ → Program) (n : ℕ) (low : Lower p n) (some-record : 1 ≤ 
   unfolding links above
   top-rise true =
       let t : ℕ → Program = table true p n in
-      let at : (k : ℕ) → rise t (n + k) ≡ above (rise t) (links (getD (virtual true n) k empty)) = λ k. rise-above t (suc (n + k)) (λ j a l. table-lower true p n low j a) (n + k) (omega arith) ∙ ap (λ (r : Program). above (rise t) (links r)) (table-above true p n k) in
+      let at : (k : ℕ) → rise t (n + k) ≡ above (rise t) (links (getD (virtual true n) k empty)) =
+      λ k. rise-above t (suc (n + k)) (λ j a l. table-lower true p n low j a) (n + k) (omega arith) ∙ ap (λ (r : Program). above (rise t) (links r)) (table-above true p n k) in
       omega (arith, ap (rise t) (add-zero n), at 0, at 1, at 2, at 3, rise-below true p n (n - 1) (omega arith))
   top-rise false = rise-below false p n (n - 1) (omega arith) ∙ omega arith

@@ -78,7 +78,8 @@ module _ (W : World) (s : State) (actions : List ℕ) (na : ℕ) (held : List Bo
   virtual-seen false n k = record { condition = λ t. absurd t; test = λ e. absurd (omega arith); act = λ e. absurd (omega arith) }
 
   -- so what is seen of the records of the sheet is seen of the table that runs
-  pub table-seen : (b : Bool) (p : ℕ → Program) (n m : ℕ) → ((i : ℕ) → i < n → SeesRecord W s held (possibleIn actions na held) (p i)) → Sees W s (table b p n) m held (possibleIn actions na held) (s .running)
+  pub table-seen : (b : Bool) (p : ℕ → Program) (n m : ℕ) → ((i : ℕ) → i < n → SeesRecord W s held (possibleIn actions na held) (p i)) →
+      Sees W s (table b p n) m held (possibleIn actions na held) (s .running)
   table-seen b p n m seen = record { runs = refl; each = λ i l. go i (decLt i n) }
     where
       go : (i : ℕ) → Dec (i < n) → SeesRecord W s held (possibleIn actions na held) (table b p n i)

@@ -80,7 +80,8 @@ module _ (s : List ℕ) (w : ℕ) (accepted : checkOf s ≡ checked.Accepted w) 
         ap (planChecked s (length work) (length trace)) accepted
         ∙ simp (le-ltb (length trace) (boundOf s) long, lt-ltb (length work) w short)
 
-    pub eleven : (trace : List ℕ) → boundOf s ≤ length trace → (answerOf s (length work) (length trace) ≡ planned.Refused 11 0) × (traceOf s (length work) trace ≡ trace) × (planWork s work (length trace) ≡ work)
+    pub eleven : (trace : List ℕ) → boundOf s ≤ length trace → (answerOf s (length work) (length trace) ≡ planned.Refused 11 0) × (traceOf s (length work) trace ≡ trace) ×
+        (planWork s work (length trace) ≡ work)
     unfolding answerOf traceOf planWork
     eleven trace long =
         let e = plan-stage-eleven trace long in

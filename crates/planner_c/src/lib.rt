@@ -44,8 +44,11 @@ pub extern "C" fn planner_plan(
     place: &mut usize,
 ) -> u32
     ensures { λ r. ⌜ r ≡ planNumber (answerOf (now (sheet .entry)) (length (now (work .entry))) (length (now (trace .entry)))) ⌝ }
-    ensures { λ _. ⌜ (now (n .exit) ≡ planMoves (answerOf (now (sheet .entry)) (length (now (work .entry))) (length (now (trace .entry))))) × (now (t .exit) ≡ planTransitions (answerOf (now (sheet .entry)) (length (now (work .entry))) (length (now (trace .entry))))) × (now (place .exit) ≡ planPlace (answerOf (now (sheet .entry)) (length (now (work .entry))) (length (now (trace .entry))))) ⌝ }
-    ensures { λ _. ⌜ (now (trace .exit) ≡ traceOf (now (sheet .entry)) (length (now (work .entry))) (now (trace .entry))) × (now (work .exit) ≡ planWork (now (sheet .entry)) (now (work .entry)) (length (now (trace .entry)))) ⌝ }
+    ensures { λ _. ⌜ (now (n .exit) ≡ planMoves (answerOf (now (sheet .entry)) (length (now (work .entry))) (length (now (trace .entry)))))
+        × (now (t .exit) ≡ planTransitions (answerOf (now (sheet .entry)) (length (now (work .entry))) (length (now (trace .entry)))))
+        × (now (place .exit) ≡ planPlace (answerOf (now (sheet .entry)) (length (now (work .entry))) (length (now (trace .entry))))) ⌝ }
+    ensures { λ _. ⌜ (now (trace .exit) ≡ traceOf (now (sheet .entry)) (length (now (work .entry))) (now (trace .entry)))
+        × (now (work .exit) ≡ planWork (now (sheet .entry)) (now (work .entry)) (length (now (trace .entry)))) ⌝ }
 {
     match planner::plan(sheet, work, trace) {
         Planned::Found {
@@ -78,7 +81,8 @@ pub extern "C" fn planner_replay(
     place: &mut usize,
 ) -> u32
     ensures { λ r. ⌜ r ≡ replyNumber (replyOf (now (sheet .entry)) (now (history .entry)) (length (now (work .entry)))) ⌝ }
-    ensures { λ _. ⌜ (now (yes .exit) ≡ replyYes (replyOf (now (sheet .entry)) (now (history .entry)) (length (now (work .entry))))) × (now (place .exit) ≡ replyPlace (replyOf (now (sheet .entry)) (now (history .entry)) (length (now (work .entry))))) ⌝ }
+    ensures { λ _. ⌜ (now (yes .exit) ≡ replyYes (replyOf (now (sheet .entry)) (now (history .entry)) (length (now (work .entry)))))
+        × (now (place .exit) ≡ replyPlace (replyOf (now (sheet .entry)) (now (history .entry)) (length (now (work .entry))))) ⌝ }
     ensures { λ _. ⌜ now (work .exit) ≡ replayWork (now (sheet .entry)) (now (work .entry)) ⌝ }
 {
     match planner::replay(sheet, history, work) {
@@ -112,7 +116,8 @@ pub extern "C" fn planner_look_up(
     place: &mut usize,
 ) -> u32
     ensures { λ r. ⌜ r ≡ lookNumber (lookOf (now (sheet .entry)) fluent) ⌝ }
-    ensures { λ _. ⌜ (now (size .exit) ≡ lookSize (lookOf (now (sheet .entry)) fluent)) × (now (initial .exit) ≡ lookInitial (lookOf (now (sheet .entry)) fluent)) × (now (place .exit) ≡ lookPlace (lookOf (now (sheet .entry)) fluent)) ⌝ }
+    ensures { λ _. ⌜ (now (size .exit) ≡ lookSize (lookOf (now (sheet .entry)) fluent)) × (now (initial .exit) ≡ lookInitial (lookOf (now (sheet .entry)) fluent))
+        × (now (place .exit) ≡ lookPlace (lookOf (now (sheet .entry)) fluent)) ⌝ }
 {
     match planner::look_up(sheet, fluent) {
         Looked::Found {

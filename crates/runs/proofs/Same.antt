@@ -28,10 +28,12 @@ module _ {D C : Type 0} (F : D → C) where
   any-same [] = refl
   any-same (x ∷ xs) = refl
 
-  module _ (moves′ : D → List (Option ℕ × D)) (fin′ : D → Bool) (moves : C → List (Option ℕ × C)) (fin : C → Bool) (same-moves : (d : D) → map (under F) (moves′ d) ≡ moves (F d)) (same-fin : (d : D) → fin′ d ≡ fin (F d)) where
+  module _ (moves′ : D → List (Option ℕ × D)) (fin′ : D → Bool) (moves : C → List (Option ℕ × C)) (fin : C → Bool) (same-moves : (d : D) → map (under F) (moves′ d) ≡ moves (F d))
+      (same-fin : (d : D) → fin′ d ≡ fin (F d)) where
     pub search-same : (k : ℕ) (d : D) → search moves′ fin′ k d ≡ search moves fin k (F d)
     search-same zero d = ap₂ unless (same-fin d) (any-same (moves′ d) ∙ ap anyStep (same-moves d))
-    search-same (suc k) d = ap₂ unless (same-fin d) (tries-same (λ (e : D). search moves′ fin′ k e) (λ (e : C). search moves fin k e) (λ e. search-same k e) (moves′ d) ∙ ap (λ (l : List (Option ℕ × C)). tries (λ (e : C). search moves fin k e) l) (same-moves d))
+    search-same (suc k) d = ap₂ unless (same-fin d) (tries-same (λ (e : D). search moves′ fin′ k e) (λ (e : C). search moves fin k e) (λ e. search-same k e) (moves′ d) ∙ ap
+        (λ (l : List (Option ℕ × C)). tries (λ (e : C). search moves fin k e) l) (same-moves d))
 
 module _ {D C : Type 0} (F : D → C) where
   -- F beside the moves still to be made
@@ -48,9 +50,12 @@ module _ {D C : Type 0} (F : D → C) where
   follow-same free g [] = refl
   follow-same free g (x ∷ xs) = map-append (under beside) (follow1 free g (x .0) (x .1)) (follow free g xs) ∙ ap₂ _++_ (follow1-same free g (x .0) (x .1)) (follow-same free g xs)
 
-  module _ (moves′ : D → List (Option ℕ × D)) (fin′ : D → Bool) (moves : C → List (Option ℕ × C)) (fin : C → Bool) (same-moves : (d : D) → map (under F) (moves′ d) ≡ moves (F d)) (same-fin : (d : D) → fin′ d ≡ fin (F d)) where
+  module _ (moves′ : D → List (Option ℕ × D)) (fin′ : D → Bool) (moves : C → List (Option ℕ × C)) (fin : C → Bool) (same-moves : (d : D) → map (under F) (moves′ d) ≡ moves (F d))
+      (same-fin : (d : D) → fin′ d ≡ fin (F d)) where
     pub guided-same : (free : Bool) (k : ℕ) (d : D) (g : List ℕ) → search (movesG free moves′) (finG fin′) k (d, g) ≡ search (movesG free moves) (finG fin) k (F d, g)
-    guided-same free k d g = search-same beside (movesG free moves′) (finG fin′) (movesG free moves) (finG fin) (λ e. follow-same free (e .1) (moves′ (e .0)) ∙ ap (λ (l : List (Option ℕ × C)). follow free (e .1) l) (same-moves (e .0))) (λ e. ap (λ (b : Bool). isNil (e .1) && b) (same-fin (e .0))) k (d, g)
+    guided-same free k d g = search-same beside (movesG free moves′) (finG fin′) (movesG free moves) (finG fin)
+        (λ e. follow-same free (e .1) (moves′ (e .0)) ∙ ap (λ (l : List (Option ℕ × C)). follow free (e .1) l) (same-moves (e .0))) (λ e. ap (λ (b : Bool). isNil (e .1) && b) (same-fin (e .0))) k
+        (d, g)
 
     pub accepts-same : (k : ℕ) (d : D) (h : List ℕ) → accepts moves′ fin′ k d h ≡ accepts moves fin k (F d) h
     accepts-same k d h = ap isPlan (guided-same false k d h)

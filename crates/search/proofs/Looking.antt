@@ -63,7 +63,8 @@ module _ (s : List ℕ) (free : Bool) (c : Config) (moves : List ℕ) (n d : ℕ
           ∙ plan-any (transitionsOf s c))
 
   -- at the bound: is there a transition more?
-  pub at-bound : (left : ℕ) (spent : Bool) (h : List ℕ) → x ≡ false → left ≡ 0 → spent ≡ isNone (transitionsOf s c) → Reported n d h h (told (cut || not spent)) (join (flagged cut) (outcomeOf s free left (c, moves)))
+  pub at-bound : (left : ℕ) (spent : Bool) (h : List ℕ) → x ≡ false → left ≡ 0 → spent ≡ isNone (transitionsOf s c) →
+      Reported n d h h (told (cut || not spent)) (join (flagged cut) (outcomeOf s free left (c, moves)))
   at-bound left spent h y z es =
       let v : outcomeOf s free left (c, moves) ≡ flagged (not spent) =
       ap (λ (k : ℕ). outcomeOf s free k (c, moves)) z

@@ -58,31 +58,33 @@ module _ {C : Type 0} (f : C × List ℕ → Verdict) (free : Bool) (g : List �
   pub branch-one : (cut : Bool) (x : Option ℕ × C) → join (flagged cut) (branches (one x)) ≡ join (flagged cut) (branch x)
   branch-one cut x = ap (join (flagged cut)) (only-branch x)
 
-  module _ (cut : Bool) (x : Option ℕ × C) (xs : List (Option ℕ × C)) (n d : ℕ) (trace trace′ : List ℕ) (o : Outcome) (R : Reported n d trace trace′ o (join (flagged cut) (branches (one x)))) where
-    -- an answer that is found is that of all
-    pub tried-found : isFound o ≡ true → Reported n d trace trace′ o (join (flagged cut) (branches (x ∷ xs)))
-    tried-found y = go (join (flagged cut) (branches (one x))) refl (R .says)
-      where
-        no : {v : Outcome} → o ≡ v → isFound v ≡ false → Reported n d trace trace′ o (join (flagged cut) (branches (x ∷ xs)))
-        no e z = let q : _≡_ {A = ℕ} 0 1 = let p : true ≡ false = sym y ∙ ap isFound e ∙ z in cc in absurd (omega arith)
+  module _ (cut : Bool) (x : Option ℕ × C) (xs : List (Option ℕ × C)) (n d : ℕ) (trace trace′ : List ℕ) (o : Outcome) (R : Reported n d trace trace′ o (join (flagged cut) (branches (one x))))
+    where
+      -- an answer that is found is that of all
+      pub tried-found : isFound o ≡ true → Reported n d trace trace′ o (join (flagged cut) (branches (x ∷ xs)))
+      tried-found y = go (join (flagged cut) (branches (one x))) refl (R .says)
+        where
+          no : {v : Outcome} → o ≡ v → isFound v ≡ false → Reported n d trace trace′ o (join (flagged cut) (branches (x ∷ xs)))
+          no e z = let q : _≡_ {A = ℕ} 0 1 = let p : true ≡ false = sym y ∙ ap isFound e ∙ z in cc in absurd (omega arith)
 
-        go : (v : Verdict) → join (flagged cut) (branches (one x)) ≡ v → Says n d trace trace′ o v → Reported n d trace trace′ o (join (flagged cut) (branches (x ∷ xs)))
-        go (plan h t) e s =
-            record { says = subst (Says n d trace trace′ o) (sym (tried-next cut x xs ∙ ap (λ (v : Verdict). join v (branches xs)) e)) s }
-        go nothing e s = no (s .0) refl
-        go more e s = no (s .0) refl
+          go : (v : Verdict) → join (flagged cut) (branches (one x)) ≡ v → Says n d trace trace′ o v → Reported n d trace trace′ o (join (flagged cut) (branches (x ∷ xs)))
+          go (plan h t) e s =
+              record { says = subst (Says n d trace trace′ o) (sym (tried-next cut x xs ∙ ap (λ (v : Verdict). join v (branches xs)) e)) s }
+          go nothing e s = no (s .0) refl
+          go more e s = no (s .0) refl
 
-    -- one that is not leaves the trace, and a flag beside the others
-    pub tried-more : isFound o ≡ false → (trace′ ≡ trace) × (join (flagged cut) (branches (x ∷ xs)) ≡ join (flagged (isMore o)) (branches xs))
-    tried-more y = go (join (flagged cut) (branches (one x))) refl (R .says)
-      where
-        rest : (b : Bool) → join (flagged cut) (branches (one x)) ≡ flagged b → isMore o ≡ b → join (flagged cut) (branches (x ∷ xs)) ≡ join (flagged (isMore o)) (branches xs)
-        rest b e z = tried-next cut x xs ∙ ap (λ (v : Verdict). join v (branches xs)) (e ∙ ap flagged (sym z))
+      -- one that is not leaves the trace, and a flag beside the others
+      pub tried-more : isFound o ≡ false → (trace′ ≡ trace) × (join (flagged cut) (branches (x ∷ xs)) ≡ join (flagged (isMore o)) (branches xs))
+      tried-more y = go (join (flagged cut) (branches (one x))) refl (R .says)
+        where
+          rest : (b : Bool) → join (flagged cut) (branches (one x)) ≡ flagged b → isMore o ≡ b → join (flagged cut) (branches (x ∷ xs)) ≡ join (flagged (isMore o)) (branches xs)
+          rest b e z = tried-next cut x xs ∙ ap (λ (v : Verdict). join v (branches xs)) (e ∙ ap flagged (sym z))
 
-        go : (v : Verdict) → join (flagged cut) (branches (one x)) ≡ v → Says n d trace trace′ o v → (trace′ ≡ trace) × (join (flagged cut) (branches (x ∷ xs)) ≡ join (flagged (isMore o)) (branches xs))
-        go (plan h t) e s = let q : _≡_ {A = ℕ} 0 1 = let p : false ≡ true = sym y ∙ ap isFound (s .0) in cc in absurd (omega arith)
-        go nothing e s = (s .1, rest false e (ap isMore (s .0)))
-        go more e s = (s .1, rest true e (ap isMore (s .0)))
+          go : (v : Verdict) → join (flagged cut) (branches (one x)) ≡ v → Says n d trace trace′ o v →
+              (trace′ ≡ trace) × (join (flagged cut) (branches (x ∷ xs)) ≡ join (flagged (isMore o)) (branches xs))
+          go (plan h t) e s = let q : _≡_ {A = ℕ} 0 1 = let p : false ≡ true = sym y ∙ ap isFound (s .0) in cc in absurd (omega arith)
+          go nothing e s = (s .1, rest false e (ap isMore (s .0)))
+          go more e s = (s .1, rest true e (ap isMore (s .0)))
 
   -- none is left: the flag
   pub tried-none : (cut : Bool) → join (flagged cut) (branches []) ≡ flagged cut
@@ -159,8 +161,10 @@ module _
       go (some a) R = pick (isFound o) refl
         where
           pick : (b : Bool) → isFound o ≡ b → Reported n d trace (cond (isFound o) (set trace′ n a) trace′) o (tries f ((some a, (c, leftOver g (some a))) ∷ []))
-          pick true y = subst (λ (b : Bool). Reported n d trace (cond b (set trace′ n a) trace′) o (tries f ((some a, (c, leftOver g (some a))) ∷ []))) (sym y) (after-move f n d trace trace′ o (c, leftOver g (some a)) a R y)
-          pick false y = subst (λ (b : Bool). Reported n d trace (cond b (set trace′ n a) trace′) o (tries f ((some a, (c, leftOver g (some a))) ∷ []))) (sym y) (after-move-missed f n d trace trace′ o (c, leftOver g (some a)) a R y)
+          pick true y = subst (λ (b : Bool). Reported n d trace (cond b (set trace′ n a) trace′) o (tries f ((some a, (c, leftOver g (some a))) ∷ []))) (sym y)
+              (after-move f n d trace trace′ o (c, leftOver g (some a)) a R y)
+          pick false y = subst (λ (b : Bool). Reported n d trace (cond b (set trace′ n a) trace′) o (tries f ((some a, (c, leftOver g (some a))) ∷ []))) (sym y)
+              (after-move-missed f n d trace trace′ o (c, leftOver g (some a)) a R y)
 
 -- the same beside a flag
 pub let-pass :

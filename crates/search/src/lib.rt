@@ -312,7 +312,8 @@ fn try_next(
 ) -> Tried
     requires { ⌜ ((g : Going (now s) (now work) (now moves) (length (now trace)) t q (now flags) (now numbers)) × (isNone (g .ahead) ≡ false)) ⌝ }
     requires { ⌜ Prepared (now s) (now spareflags) (now sparenumbers) ⌝ }
-    ensures { λ r. ⌜ Tries (now (s .entry)) (now (work .entry)) (now (work .exit)) (now (moves .entry)) (now (trace .entry)) (now (trace .exit)) t q (now (flags .entry)) (now (numbers .entry)) (now (flags .exit)) (now (numbers .exit)) r ⌝ }
+    ensures { λ r. ⌜ Tries (now (s .entry)) (now (work .entry)) (now (work .exit)) (now (moves .entry)) (now (trace .entry)) (now (trace .exit)) t q (now (flags .entry))
+        (now (numbers .entry)) (now (flags .exit)) (now (numbers .exit)) r ⌝ }
     ensures { λ _. ⌜ Leaves (now (s .entry)) (now (work .entry)) (now (work .exit)) q (now (flags .exit)) (now (numbers .exit)) (now (spareflags .exit)) (now (sparenumbers .exit)) ⌝ }
 {
     let m = t.machine;
@@ -420,7 +421,8 @@ fn explore(
 ) -> Outcome
     requires { ⌜ Prepared (now s) (now flags) (now numbers) × Prepared (now s) (now spareflags) (now sparenumbers) ⌝ }
     requires { ⌜ ((p : Prog) × Ready (now s) (now work) (now moves) (length (now trace)) t q p) ⌝ }
-    ensures { λ r. ⌜ ((p : Prog) → Ready (now (s .entry)) (now (work .entry)) (now (moves .entry)) (length (now (trace .entry))) t q p → Reported (q .n) (q .d) (now (trace .entry)) (now (trace .exit)) r (verdictAt (now (s .entry)) (now (moves .entry)) t q p)) ⌝ }
+    ensures { λ r. ⌜ ((p : Prog) → Ready (now (s .entry)) (now (work .entry)) (now (moves .entry)) (length (now (trace .entry))) t q p → Reported (q .n) (q .d) (now (trace .entry))
+        (now (trace .exit)) r (verdictAt (now (s .entry)) (now (moves .entry)) t q p)) ⌝ }
     ensures { λ _. ⌜ length (now (work .exit)) ≡ length (now (work .entry)) ⌝ }
 {
     let a = look(flags, numbers, work, s, moves, trace.len(), t, q);

@@ -149,7 +149,11 @@ module _ {W : World} {s : State} {v : View} (C : Counted W s v) where
 
         pub a-room : {w w₁ : List ℕ} {to at e n : ℕ} → Room w to (1 + 2 * rise (v .records) i) → Lays (leafOf W s (v .records) (r .a) .steps) k at w w₁ e n → Room w₁ to (n + 2)
         a-room {w} {w₁} {to} {at} {e} {n} R L =
-            record { inside = omega (arith, R .inside, L .kept .len, leaf-few W s p (C .lower) (r .a) k at e n w₁ (L .built), a-lower (a-goes .0) .1); small = omega (arith, R .small, L .kept .len) }
+            record {
+              inside = omega (arith, R .inside, L .kept .len, leaf-few W s p (C .lower) (r .a) k at e n w₁ (L .built), a-lower (a-goes .0) .1);
+              small =
+                  omega (arith, R .small, L .kept .len);
+            }
 
         pub a-lays : {w w₁ w′ : List ℕ} {to x tag e n n′ : ℕ} → tag ≡ tagA (r .kind) → x ≡ past (eqb tag 0) 3 → Lays (leafOf W s (v .records) (r .a) .steps) k (to + x) w w₁ e n
             → Wrapped (wrapA (tagA (r .kind)) (siblingA r i)) (to + past (eqb (tagA (r .kind)) 0) 3) to n n′ w₁ w′ → Lays (leafOf W s (v .records) i .steps) k to w w′ e n′
@@ -190,7 +194,11 @@ module _ {W : World} {s : State} {v : View} (C : Counted W s v) where
 
         pub b-room : {w w₁ : List ℕ} {to at e n : ℕ} → Room w to (1 + 2 * rise (v .records) i) → Lays (leafOf W s (v .records) (r .b) .steps) (k - first) at w w₁ e n → Room w₁ to (n + 2)
         b-room {w} {w₁} {to} {at} {e} {n} R L =
-            record { inside = omega (arith, R .inside, L .kept .len, leaf-few W s p (C .lower) (r .b) (k - first) at e n w₁ (L .built), b-lower (b-goes .0) .1); small = omega (arith, R .small, L .kept .len) }
+            record {
+              inside = omega (arith, R .inside, L .kept .len, leaf-few W s p (C .lower) (r .b) (k - first) at e n w₁ (L .built), b-lower (b-goes .0) .1);
+              small =
+                  omega (arith, R .small, L .kept .len);
+            }
 
         pub b-lays : {w w₁ w′ : List ℕ} {to x tag e n n′ : ℕ} → tag ≡ tagB (r .kind) → x ≡ past (eqb tag 0) 6 → Lays (leafOf W s (v .records) (r .b) .steps) (k - first) (to + x) w w₁ e n
             → Wrapped (wrapB (tagB (r .kind)) (r .a)) (to + past (eqb (tagB (r .kind)) 0) 6) to n n′ w₁ w′ → Lays (leafOf W s (v .records) i .steps) k to w w′ e n′

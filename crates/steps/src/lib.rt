@@ -130,7 +130,8 @@ fn lay_record(
 ) -> Laid
     requires { ⌜ (8 * v .n ≤ length (now programs)) × (1 ≤ v .n) × (v .n ≤ 256) ⌝ }
     requires { ⌜ CanLay (view (now programs) (v .n) (v .interrupts) (now held) (v .running) (now counts)) (now work) i to k ⌝ }
-    ensures { λ r. ⌜ LaysRecord (view (now (programs .entry)) (v .n) (v .interrupts) (now (held .entry)) (v .running) (now (counts .entry))) i k to (now (work .entry)) (now (work .exit)) (r .entry) (r .size) ⌝ }
+    ensures { λ r. ⌜ LaysRecord (view (now (programs .entry)) (v .n) (v .interrupts) (now (held .entry)) (v .running) (now (counts .entry))) i k to (now (work .entry))
+        (now (work .exit)) (r .entry) (r .size) ⌝ }
 {
     let r = leaves::record_at(programs, v.n, v.interrupts, i);
     if r.kind < 3 {
@@ -185,7 +186,8 @@ fn step_record(
 ) -> Turn
     requires { ⌜ (8 * v .n ≤ length (now programs)) × (1 ≤ v .n) × (v .n ≤ 256) ⌝ }
     requires { ⌜ CanStepRecord (view (now programs) (v .n) (v .interrupts) (now held) (v .running) (now counts)) (now finals) (now work) i to ⌝ }
-    ensures { λ r. ⌜ StepsRecord (view (now (programs .entry)) (v .n) (v .interrupts) (now (held .entry)) (v .running) (now (counts .entry))) (now (finals .entry)) i k to (now (work .entry)) (now (work .exit)) r ⌝ }
+    ensures { λ r. ⌜ StepsRecord (view (now (programs .entry)) (v .n) (v .interrupts) (now (held .entry)) (v .running) (now (counts .entry))) (now (finals .entry)) i k to
+        (now (work .entry)) (now (work .exit)) r ⌝ }
 {
     let count = wide(leaves::count_in(counts, i));
     if k < count {
@@ -261,7 +263,8 @@ pub fn step_rest(
 ) -> Turn
     requires { ⌜ (8 * v .n ≤ length (now programs)) × (1 ≤ v .n) × (v .n ≤ 256) ⌝ }
     requires { ⌜ CanStep (view (now programs) (v .n) (v .interrupts) (now held) (v .running) (now counts)) (now finals) (now work) from to ⌝ }
-    ensures { λ r. ⌜ StepsRest (view (now (programs .entry)) (v .n) (v .interrupts) (now (held .entry)) (v .running) (now (counts .entry))) (now (finals .entry)) from k to (now (work .entry)) (now (work .exit)) r ⌝ }
+    ensures { λ r. ⌜ StepsRest (view (now (programs .entry)) (v .n) (v .interrupts) (now (held .entry)) (v .running) (now (counts .entry))) (now (finals .entry)) from k to
+        (now (work .entry)) (now (work .exit)) r ⌝ }
 {
     let tag = words::tag_at(work, from);
     if tag == 0 {

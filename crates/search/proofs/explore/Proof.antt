@@ -21,18 +21,47 @@ same-length-2 c = search needs
 same-length-3 : tie.Need-same-length-3
 same-length-3 c = search needs
 
+-- Places: what stands before a need, by name. Written by `named`: run it again when the code changes.
+abbrev start-from-look : tie.After-look → tie.Start
+start-from-look c = c .before .before .before .before .before .before .before .before .before .before .before .before
+
+abbrev look-from-else1 : tie.Else1 → tie.After-look
+look-from-else1 c = c .before .before .before .before .before
+
+abbrev look-from-returns : tie.Then1 → tie.After-look
+look-from-returns c = c .before .before .before .before .before
+
+abbrev at-cursor-from-expand-requires : tie.After-expand-arg6 → tie.After-at-cursor
+at-cursor-from-expand-requires c = c .before .before .before .before .before .before
+
+abbrev at-cursor-from-expand : tie.After-expand → tie.After-at-cursor
+at-cursor-from-expand c = at-cursor-from-expand-requires (c .before)
+
+abbrev expand-from-returns-2 : tie.After-slice-known14 → tie.After-expand
+expand-from-returns-2 c = c .before .before .before .before .before .before .before .before .before .before .before .before
+
 returns : tie.Need-returns
-returns c = (λ p R. c .before .before .before .before .before .look .ensures .known p R (c .if1 .taken) (now (c .before .before .before .before .before .before .before .before .before .before .before .before .before .before .before .before .before .args .trace)), refl)
+returns c =
+    let at-look = look-from-returns c in
+    let at-start = start-from-look at-look in
+    (λ p R. at-look .look .ensures .known p R (c .if1 .taken) (now (at-start .args .trace)), refl)
 
 at-cursor-requires : tie.Need-at-cursor-requires
 at-cursor-requires c κs = search needs
 
 expand-requires : tie.Need-expand-requires
 expand-requires c κs =
-    let p = c .before .before .before .before .before .before .before .before .before .before .before .before .before .before .before .before .before .before .before .before .before .before .before .before .pre .1 .0 in
-    let R = c .before .before .before .before .before .before .before .before .before .before .before .before .before .before .before .before .before .before .before .before .before .before .before .before .pre .1 .1 in
-    let U = c .before .before .before .before .before .before .before .before .before .before .before .before .look .ensures .unknown p R (c .before .before .before .before .before .before .before .if1 .left) in
-    (subst (λ (v : Visit). Going (now (c .before .before .before .before .before .before .before .before .before .before .before .before .before .before .before .before .before .before .before .before .before .before .before .before .args .s)) (now (c .before .before .before .before .before .before .before .before .before .before .before .before .before .before .before .before .before .before .before .before .before .before .before .before .args .work)) (now (c .before .before .before .before .before .before .before .before .before .before .before .before .before .before .before .before .before .before .before .before .before .before .before .before .args .moves)) (length (now (c .before .before .before .before .before .before .before .before .before .before .before .before .before .before .before .before .before .before .before .before .before .before .before .before .args .trace))) (c .before .before .before .before .before .before .before .before .before .before .before .before .before .before .before .before .before .before .before .before .before .before .before .before .args .t) v (c .before .before .before .before .before .before .before .before .before .before .before .before .look .last .0) (c .before .before .before .before .before .before .before .before .before .before .before .before .look .last .1 .0)) (sym (c .before .before .before .before .before .before .at-cursor .ensures)) (deeper R U), c .before .before .before .before .before .before .before .before .before .before .before .before .before .before .before .before .before .before .before .before .before .before .before .before .pre .0 .1)
+    let at-at-cursor = at-cursor-from-expand-requires c in
+    let at-if1 = at-at-cursor .before in
+    let at-look = look-from-else1 at-if1 in
+    let at-start = start-from-look at-look in
+    let p = at-start .pre .1 .0 in
+    let R = at-start .pre .1 .1 in
+    let U = at-look .look .ensures .unknown p R (at-if1 .if1 .left) in (
+      subst (λ (v : Visit). Going (now (at-start .args .s)) (now (at-start .args .work)) (now (at-start .args .moves)) (length (now (at-start .args .trace))) (at-start .args .t) v
+          (at-look .look .last .0) (at-look .look .last .1 .0)) (sym (at-at-cursor .at-cursor .ensures)) (deeper R U),
+      at-start .pre .0 .1,
+    )
 
 same-length-4 : tie.Need-same-length-4
 same-length-4 c = search needs
@@ -54,12 +83,18 @@ same-length-9 c = search needs
 
 returns-2 : tie.Need-returns-2
 returns-2 c =
-    let s = now (c .before .before .before .before .before .before .before .before .before .before .before .before .before .before .before .before .before .before .before .before .before .before .before .before .before .before .before .before .before .before .before .before .before .before .before .before .before .args .s) in
-    let trace = now (c .before .before .before .before .before .before .before .before .before .before .before .before .before .before .before .before .before .before .before .before .before .before .before .before .before .before .before .before .before .before .before .before .before .before .before .before .before .args .trace) in
-    let o = c .before .before .before .before .before .before .before .before .before .before .before .before .expand .result in
-    let E = subst (λ (v : Visit). Expanded s (now (c .before .before .before .before .before .before .before .before .before .before .before .before .before .before .before .before .before .before .before .before .before .before .before .before .before .before .before .before .before .before .before .before .before .before .before .before .before .args .work)) (now (c .before .before .before .before .before .before .before .before .before .before .before .before .before .before .before .before .before .before .before .before .before .before .before .before .before .before .before .before .before .before .before .before .before .before .before .before .before .args .moves)) trace (c .before .before .before .before .before .before .before .before .before .before .before .before .expand .last .1 .0) (c .before .before .before .before .before .before .before .before .before .before .before .before .before .before .before .before .before .before .before .before .before .before .before .before .before .before .before .before .before .before .before .before .before .before .before .before .before .args .t) v (c .before .before .before .before .before .before .before .before .before .before .before .before .before .before .before .before .before .before .before .before .before .before .before .before .before .look .last .0) (c .before .before .before .before .before .before .before .before .before .before .before .before .before .before .before .before .before .before .before .before .before .before .before .before .before .look .last .1 .0) o) (c .before .before .before .before .before .before .before .before .before .before .before .before .before .before .before .before .before .before .before .at-cursor .ensures) (c .before .before .before .before .before .before .before .before .before .before .before .before .expand .ensures .0) in (
-      λ p R. let U = c .before .before .before .before .before .before .before .before .before .before .before .before .before .before .before .before .before .before .before .before .before .before .before .before .before .look .ensures .unknown p R (c .before .before .before .before .before .before .before .before .before .before .before .before .before .before .before .before .before .before .before .before .if1 .left) in deeper-reported R U trace (c .before .before .before .before .before .before .before .before .before .before .before .before .expand .last .1 .0) o (E (deeper R U)),
-      c .before .before .before .before .before .before .before .before .before .before .before .before .expand .ensures .1 .kept .len,
+    let at-expand = expand-from-returns-2 c in
+    let at-at-cursor = at-cursor-from-expand at-expand in
+    let at-if1 = at-at-cursor .before in
+    let at-look = look-from-else1 at-if1 in
+    let at-start = start-from-look at-look in
+    let s = now (at-start .args .s) in
+    let trace = now (at-start .args .trace) in
+    let o = at-expand .expand .result in
+    let E = subst (λ (v : Visit). Expanded s (now (at-start .args .work)) (now (at-start .args .moves)) trace (at-expand .expand .last .1 .0) (at-start .args .t) v (at-look .look .last .0)
+    (at-look .look .last .1 .0) o) (at-at-cursor .at-cursor .ensures) (at-expand .expand .ensures .0) in (
+      λ p R. let U = at-look .look .ensures .unknown p R (at-if1 .if1 .left) in deeper-reported R U trace (at-expand .expand .last .1 .0) o (E (deeper R U)),
+      at-expand .expand .ensures .1 .kept .len,
     )
 
 pub explore-spec : {M : Type 1} → statement M

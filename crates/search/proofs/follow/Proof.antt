@@ -34,16 +34,23 @@ add-t11 c = search needs
 add-t12 : tie.Need-add-t12
 add-t12 c = search needs
 
+-- Places: what stands before a need, by name. Written by `named`: run it again when the code changes.
+abbrev start-from-tie-made-after : tie.After-made-after → tie.Start
+start-from-tie-made-after c = c .before .before .before .before .before .before .before
+
 -- src/lib.rt:240:1
 returns : tie.Need-returns
 returns c =
+    let at-entries-of = c .before .before in
+    let at-made-after = at-entries-of .before in
+    let at-start = start-from-tie-made-after at-made-after in
     record {
       at-is = refl;
       left-is = refl;
-      made = c .before .before .before .made-after .ensures .0;
-      to-make = c .before .before .before .made-after .ensures .1;
-      moves-are = λ m k e. ap (λ (n : ℕ). c .before .before .before .before .before .before .before .before .before .before .args .q .n + n) (c .before .before .entries-of .ensures .1 m k e);
-      one-more = omega (arith, c .before .before .entries-of .ensures .0);
+      made = at-made-after .made-after .ensures .0;
+      to-make = at-made-after .made-after .ensures .1;
+      moves-are = λ m k e. ap (λ (n : ℕ). at-start .args .q .n + n) (at-entries-of .entries-of .ensures .1 m k e);
+      one-more = omega (arith, at-entries-of .entries-of .ensures .0);
       transitions-are = refl;
       cut-is = refl;
       state-is = refl;

@@ -34,16 +34,42 @@ same-length c = search needs
 same-length-2 : tie.Need-same-length-2
 same-length-2 c = search needs
 
+-- Places: what stands before a need, by name. Written by `named`: run it again when the code changes.
+abbrev start-from-then1 : tie.Then1 → tie.Start
+start-from-then1 c = c .before .before .before .before .before .before .before .before .before
+
+abbrev start-from-survey : tie.After-survey → tie.Start
+start-from-survey c = c .before .before .before .before .before .before .before .before .before .before .before .before
+
+abbrev survey-from-is-over2 : tie.After-is-over2 → tie.After-survey
+survey-from-is-over2 c = c .before .before .before .before .before .before
+
+abbrev is-final-from-last-outcome : tie.After-last-outcome → tie.After-is-final
+is-final-from-last-outcome c = c .before .before .before .before
+
+abbrev survey-from-then3 : tie.Then3 → tie.After-survey
+survey-from-then3 c = survey-from-is-over2 (c .before)
+
+abbrev if3-from-then5 : tie.Then5 → tie.Else3
+if3-from-then5 c = c .before .before .before .before
+
 returns : tie.Need-returns
 returns c =
-    let s = now (c .before .before .before .before .before .before .before .before .before .before .before .before .before .before .before .before .before .before .before .args .s) in
-    let q = c .before .before .before .before .before .before .before .before .before .before .before .before .before .before .before .before .before .before .before .args .q in
-    let free = c .before .before .before .before .before .before .before .before .before .before .before .before .before .before .before .before .before .before .before .args .t .free in
-    let moves = toMake (now (c .before .before .before .before .before .before .before .before .before .before .before .before .before .before .before .before .before .before .before .args .moves)) q in
+    let at-is-final = is-final-from-last-outcome (c .before) in
+    let at-if2 = at-is-final .before .before .before in
+    let at-if1 = at-if2 .before .before in
+    let at-start = start-from-then1 at-if1 in
+    let the-moves = now (at-start .args .moves) in
+    let s = now (at-start .args .s) in
+    let q = at-start .args .q in
+    let free = at-start .args .t .free in
+    let moves = toMake the-moves q in
     record {
-      prepared = c .before .before .before .before .before .is-final .ensures .1;
-      known = λ p R e h. subst (λ (o : Outcome). Reported (q .n) (q .d) h h o (verdictAt s (now (c .before .before .before .before .before .before .before .before .before .before .before .before .before .before .before .before .before .before .before .args .moves)) (c .before .before .before .before .before .before .before .before .before .before .before .before .before .before .before .before .before .before .before .args .t) q p)) (sym (c .known .ensures .1)) (subst (λ (o : Outcome). Reported (q .n) (q .d) h h o (verdictAt s (now (c .before .before .before .before .before .before .before .before .before .before .before .before .before .before .before .before .before .before .before .args .moves)) (c .before .before .before .before .before .before .before .before .before .before .before .before .before .before .before .before .before .before .before .args .t) q p)) (sym (c .before .last-outcome .ensures))
-          (at-last s free (visited q p) moves (q .n) (q .d) (q .cut) _ (c .before .before .is-over .ensures ∙ ap (λ (b : Bool). isNil moves && b) (c .before .before .before .before .before .is-final .ensures .0 _ p (R .frame))) q refl refl (c .before .before .before .before .before .before .before .before .before .before .if1 .taken) (q .left) (c .before .before .before .before .before .before .before .before .if2 .taken) h));
+      prepared = at-is-final .is-final .ensures .1;
+      known = λ p R e h. subst (λ (o : Outcome). Reported (q .n) (q .d) h h o (verdictAt s the-moves (at-start .args .t) q p)) (sym (c .known .ensures .1))
+          (subst (λ (o : Outcome). Reported (q .n) (q .d) h h o (verdictAt s the-moves (at-start .args .t) q p)) (sym (c .before .last-outcome .ensures))
+          (at-last s free (visited q p) moves (q .n) (q .d) (q .cut) _ (c .before .before .is-over .ensures ∙ ap (λ (b : Bool). isNil moves && b)
+          (at-is-final .is-final .ensures .0 _ p (R .frame))) q refl refl (at-if1 .if1 .taken) (q .left) (at-if2 .if2 .taken) h));
       unknown = λ p R e. absurd (false≢true (sym e ∙ c .known .ensures .0));
     }
 
@@ -64,13 +90,17 @@ same-length-4 c = search needs
 
 returns-2 : tie.Need-returns-2
 returns-2 c =
-    let s = now (c .before .before .before .before .before .before .before .before .before .before .before .before .before .before .before .before .before .before .before .before .args .s) in
-    let q = c .before .before .before .before .before .before .before .before .before .before .before .before .before .before .before .before .before .before .before .before .args .q in
-    let free = c .before .before .before .before .before .before .before .before .before .before .before .before .before .before .before .before .before .before .before .before .args .t .free in
-    let moves = toMake (now (c .before .before .before .before .before .before .before .before .before .before .before .before .before .before .before .before .before .before .before .before .args .moves)) q in
+    let at-survey = survey-from-then3 (c .before) in
+    let at-start = start-from-survey at-survey in
+    let s = now (at-start .args .s) in
+    let q = at-start .args .q in
+    let free = at-start .args .t .free in
+    let moves = toMake (now (at-start .args .moves)) q in
     record {
-      prepared = c .before .before .before .before .before .before .before .before .survey .ensures .1 .prepared;
-      known = λ p R e h. subst (λ (o : Outcome). Reported (q .n) (q .d) h h o (verdictAt s (now (c .before .before .before .before .before .before .before .before .before .before .before .before .before .before .before .before .before .before .before .before .args .moves)) (c .before .before .before .before .before .before .before .before .before .before .before .before .before .before .before .before .before .before .before .before .args .t) q p)) (sym (c .known2 .ensures .1)) (over s free (visited q p) moves (q .n) (q .d) (q .cut) _ (c .before .before .is-over2 .ensures ∙ ap (λ (b : Bool). isNil moves && b) (c .before .before .before .before .before .before .before .before .survey .ensures .0 _ p (R .frame) .final-is)) (q .left) h (c .before .if3 .taken));
+      prepared = at-survey .survey .ensures .1 .prepared;
+      known = λ p R e h. subst (λ (o : Outcome). Reported (q .n) (q .d) h h o (verdictAt s (now (at-start .args .moves)) (at-start .args .t) q p)) (sym (c .known2 .ensures .1))
+          (over s free (visited q p) moves (q .n) (q .d) (q .cut) _ (c .before .before .is-over2 .ensures ∙ ap (λ (b : Bool). isNil moves && b)
+          (at-survey .survey .ensures .0 _ p (R .frame) .final-is)) (q .left) h (c .before .if3 .taken));
       unknown = λ p R e. absurd (false≢true (sym e ∙ c .known2 .ensures .0));
     }
 
@@ -91,14 +121,24 @@ same-length-6 c = search needs
 
 returns-3 : tie.Need-returns-3
 returns-3 c =
-    let s = now (c .before .before .before .before .before .before .before .before .before .before .before .before .before .before .before .before .before .before .before .before .before .before .before .before .before .args .s) in
-    let q = c .before .before .before .before .before .before .before .before .before .before .before .before .before .before .before .before .before .before .before .before .before .before .before .before .before .args .q in
-    let free = c .before .before .before .before .before .before .before .before .before .before .before .before .before .before .before .before .before .before .before .before .before .before .before .before .before .args .t .free in
-    let moves = toMake (now (c .before .before .before .before .before .before .before .before .before .before .before .before .before .before .before .before .before .before .before .before .before .before .before .before .before .args .moves)) q in
+    let at-is-spent = c .before .before .before in
+    let at-if4 = at-is-spent .before in
+    let at-if3 = at-if4 .before .before in
+    let at-is-over2 = at-if3 .before in
+    let at-survey = survey-from-is-over2 at-is-over2 in
+    let at-start = start-from-survey at-survey in
+    let the-moves = now (at-start .args .moves) in
+    let s = now (at-start .args .s) in
+    let q = at-start .args .q in
+    let free = at-start .args .t .free in
+    let moves = toMake the-moves q in
     record {
-      prepared = c .before .before .before .before .before .before .before .before .before .before .before .before .before .survey .ensures .1 .prepared;
-      known = λ p R e h. subst (λ (o : Outcome). Reported (q .n) (q .d) h h o (verdictAt s (now (c .before .before .before .before .before .before .before .before .before .before .before .before .before .before .before .before .before .before .before .before .before .before .before .before .before .args .moves)) (c .before .before .before .before .before .before .before .before .before .before .before .before .before .before .before .before .before .before .before .before .before .before .before .before .before .args .t) q p)) (sym (c .known3 .ensures .1)) (subst (λ (o : Outcome). Reported (q .n) (q .d) h h o (verdictAt s (now (c .before .before .before .before .before .before .before .before .before .before .before .before .before .before .before .before .before .before .before .before .before .before .before .before .before .args .moves)) (c .before .before .before .before .before .before .before .before .before .before .before .before .before .before .before .before .before .before .before .before .before .before .before .before .before .args .t) q p)) (sym (c .before .unfound .ensures))
-          (at-bound s free (visited q p) moves (q .n) (q .d) (q .cut) _ (c .before .before .before .before .before .before .before .is-over2 .ensures ∙ ap (λ (b : Bool). isNil moves && b) (c .before .before .before .before .before .before .before .before .before .before .before .before .before .survey .ensures .0 _ p (R .frame) .final-is)) (q .left) _ h (c .before .before .before .before .before .before .if3 .left) (c .before .before .before .before .if4 .taken) (c .before .before .before .is-spent .ensures _ _ _ (c .before .before .before .before .before .before .before .before .before .before .before .before .before .survey .ensures .0 _ p (R .frame) .first))));
+      prepared = at-survey .survey .ensures .1 .prepared;
+      known = λ p R e h. subst (λ (o : Outcome). Reported (q .n) (q .d) h h o (verdictAt s the-moves (at-start .args .t) q p)) (sym (c .known3 .ensures .1))
+          (subst (λ (o : Outcome). Reported (q .n) (q .d) h h o (verdictAt s the-moves (at-start .args .t) q p)) (sym (c .before .unfound .ensures))
+          (at-bound s free (visited q p) moves (q .n) (q .d) (q .cut) _ (at-is-over2 .is-over2 .ensures ∙ ap (λ (b : Bool). isNil moves && b)
+          (at-survey .survey .ensures .0 _ p (R .frame) .final-is)) (q .left) _ h (at-if3 .if3 .left) (at-if4 .if4 .taken)
+          (at-is-spent .is-spent .ensures _ _ _ (at-survey .survey .ensures .0 _ p (R .frame) .first))));
       unknown = λ p R e. absurd (false≢true (sym e ∙ c .known3 .ensures .0));
     }
 
@@ -116,14 +156,20 @@ same-length-8 c = search needs
 
 returns-4 : tie.Need-returns-4
 returns-4 c =
-    let s = now (c .before .before .before .before .before .before .before .before .before .before .before .before .before .before .before .before .before .before .before .before .before .before .before .before .args .s) in
-    let q = c .before .before .before .before .before .before .before .before .before .before .before .before .before .before .before .before .before .before .before .before .before .before .before .before .args .q in
-    let free = c .before .before .before .before .before .before .before .before .before .before .before .before .before .before .before .before .before .before .before .before .before .before .before .before .args .t .free in
-    let moves = toMake (now (c .before .before .before .before .before .before .before .before .before .before .before .before .before .before .before .before .before .before .before .before .before .before .before .before .args .moves)) q in
+    let at-if3 = if3-from-then5 (c .before) in
+    let at-is-over2 = at-if3 .before in
+    let at-survey = survey-from-is-over2 at-is-over2 in
+    let at-start = start-from-survey at-survey in
+    let s = now (at-start .args .s) in
+    let q = at-start .args .q in
+    let free = at-start .args .t .free in
+    let moves = toMake (now (at-start .args .moves)) q in
     record {
-      prepared = c .before .before .before .before .before .before .before .before .before .before .before .before .survey .ensures .1 .prepared;
-      known = λ p R e h. subst (λ (o : Outcome). Reported (q .n) (q .d) h h o (verdictAt s (now (c .before .before .before .before .before .before .before .before .before .before .before .before .before .before .before .before .before .before .before .before .before .before .before .before .args .moves)) (c .before .before .before .before .before .before .before .before .before .before .before .before .before .before .before .before .before .before .before .before .before .before .before .before .args .t) q p)) (sym (c .known4 .ensures .1)) (let t = c .before .before .no-end-next .ensures (c .before .if5 .taken) in
-          ends-next s free (visited q p) moves (q .n) (q .d) (q .cut) _ (c .before .before .before .before .before .before .is-over2 .ensures ∙ ap (λ (b : Bool). isNil moves && b) (c .before .before .before .before .before .before .before .before .before .before .before .before .survey .ensures .0 _ p (R .frame) .final-is)) (q .left) h (c .before .before .before .before .before .if3 .left) (t .0) (t .1) (c .before .before .before .before .before .before .before .before .before .before .before .before .survey .ensures .0 _ p (R .frame) .none-ends (t .2)));
+      prepared = at-survey .survey .ensures .1 .prepared;
+      known = λ p R e h. subst (λ (o : Outcome). Reported (q .n) (q .d) h h o (verdictAt s (now (at-start .args .moves)) (at-start .args .t) q p)) (sym (c .known4 .ensures .1)) (let t =
+          c .before .before .no-end-next .ensures (c .before .if5 .taken) in
+          ends-next s free (visited q p) moves (q .n) (q .d) (q .cut) _ (at-is-over2 .is-over2 .ensures ∙ ap (λ (b : Bool). isNil moves && b)
+          (at-survey .survey .ensures .0 _ p (R .frame) .final-is)) (q .left) h (at-if3 .if3 .left) (t .0) (t .1) (at-survey .survey .ensures .0 _ p (R .frame) .none-ends (t .2)));
       unknown = λ p R e. absurd (false≢true (sym e ∙ c .known4 .ensures .0));
     }
 
@@ -135,19 +181,26 @@ same-length-10 c = search needs
 
 returns-5 : tie.Need-returns-5
 returns-5 c =
-    let s = now (c .before .before .before .before .before .before .before .before .before .before .before .before .before .before .before .before .before .before .before .before .before .before .before .args .s) in
-    let q = c .before .before .before .before .before .before .before .before .before .before .before .before .before .before .before .before .before .before .before .before .before .before .before .args .q in
-    let free = c .before .before .before .before .before .before .before .before .before .before .before .before .before .before .before .before .before .before .before .before .before .before .before .args .t .free in
-    let moves = toMake (now (c .before .before .before .before .before .before .before .before .before .before .before .before .before .before .before .before .before .before .before .before .before .before .before .args .moves)) q in
+    let at-if4 = c .before .before in
+    let at-if3 = at-if4 .before .before in
+    let at-is-over2 = at-if3 .before in
+    let at-survey = survey-from-is-over2 at-is-over2 in
+    let at-start = start-from-survey at-survey in
+    let s = now (at-start .args .s) in
+    let q = at-start .args .q in
+    let free = at-start .args .t .free in
+    let moves = toMake (now (at-start .args .moves)) q in
     record {
-      prepared = c .before .before .before .before .before .before .before .before .before .before .before .survey .ensures .1 .prepared;
+      prepared = at-survey .survey .ensures .1 .prepared;
       known = λ p R e. absurd (false≢true e);
       unknown = λ p R e.
           record {
-            some-left = omega (arith, c .before .before .if4 .left);
-            surveyed = c .before .before .before .before .before .before .before .before .before .before .before .survey .ensures .1;
-            first = c .before .before .before .before .before .before .before .before .before .before .before .survey .ensures .0 _ p (R .frame) .first;
-            same = ap (join (flagged (q .cut))) (on-ward s free (visited q p) moves (q .n) (q .d) (q .cut) _ (c .before .before .before .before .before .is-over2 .ensures ∙ ap (λ (b : Bool). isNil moves && b) (c .before .before .before .before .before .before .before .before .before .before .before .survey .ensures .0 _ p (R .frame) .final-is)) (q .left) (c .before .before .before .before .if3 .left) (omega (arith, c .before .before .if4 .left)));
+            some-left = omega (arith, at-if4 .if4 .left);
+            surveyed = at-survey .survey .ensures .1;
+            first = at-survey .survey .ensures .0 _ p (R .frame) .first;
+            same = ap (join (flagged (q .cut))) (on-ward s free (visited q p) moves (q .n) (q .d) (q .cut) _
+                (at-is-over2 .is-over2 .ensures ∙ ap (λ (b : Bool). isNil moves && b) (at-survey .survey .ensures .0 _ p (R .frame) .final-is)) (q .left) (at-if3 .if3 .left)
+                (omega (arith, at-if4 .if4 .left)));
           };
     }
 

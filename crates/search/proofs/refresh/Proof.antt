@@ -15,8 +15,12 @@ same-length-2 c = search needs
 returns : tie.Need-returns
 returns c = search needs
 
+-- Places: what stands before a need, by name. Written by `named`: run it again when the code changes.
+abbrev start-from-returns-2 : tie.Else1 → tie.Start
+start-from-returns-2 c = c .before .before .before .before .before
+
 returns-2 : tie.Need-returns-2
-returns-2 c = c .before .before .before .before .before .pre .0 .2 (c .if1 .left)
+returns-2 c = start-from-returns-2 c .pre .0 .2 (c .if1 .left)
 
 pub refresh-spec : {M : Type 1} → statement M
 refresh-spec = tie.close (tie.spec survey-requires same-length same-length-2 returns returns-2)

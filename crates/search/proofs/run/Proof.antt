@@ -48,25 +48,43 @@ slice-aggregate-explore-3 c = search needs
 slice-aggregate-explore-4 : tie.Need-slice-aggregate-explore-4
 slice-aggregate-explore-4 c = search needs
 
+-- Places: what stands before a need, by name. Written by `named`: run it again when the code changes.
+abbrev start-from-machine-of : tie.After-machine-of → tie.Start
+start-from-machine-of c = c .before .before .before .before .before
+
+abbrev prepare-from-explore-requires : tie.After-sparenumbers → tie.After-prepare
+prepare-from-explore-requires c = c .before .before .before .before .before .before .before .before
+
+abbrev initial-of-from-explore : tie.After-explore → tie.After-initial-of
+initial-of-from-explore c = (prepare-from-explore-requires (c .before)) .before .before .before
+
+abbrev explore-from-clear : tie.After-clear → tie.After-explore
+explore-from-clear c = c .before .before .before .before .before .before .before .before .before .before
+
 explore-requires : tie.Need-explore-requires
 explore-requires c κs =
-    let s = now (c .before .before .before .before .before .before .before .before .before .before .before .before .before .before .before .before .before .before .before .before .before .args .s) in
-    let l = c .before .before .before .before .before .before .before .before .before .before .before .before .before .before .before .before .before .before .before .before .before .args .l in
-    let e : boundOf s ≡ l .d = ap (λ (l : Layout). l .d) (sym (c .before .before .before .before .before .before .before .before .before .before .before .before .before .before .before .before .before .before .before .before .before .pre .0 .1)) in
-    let f = laid s (c .before .before .before .before .before .before .before .before .before .before .before .before .before .before .before .before .before .before .before .before .before .pre .0 .0) in
+    let at-prepare = prepare-from-explore-requires c in
+    let at-initial-of = at-prepare .before .before .before in
+    let at-put-first = at-initial-of .before .before .before in
+    let at-machine-of = at-put-first .before .before in
+    let at-start = start-from-machine-of at-machine-of in
+    let s = now (at-start .args .s) in
+    let l = at-start .args .l in
+    let e : boundOf s ≡ l .d = ap (λ (l : Layout). l .d) (sym (at-start .pre .0 .1)) in
+    let f = laid s (at-start .pre .0 .0) in
     let p = firstOf s .0 in
-    let t : Task = record { machine = c .before .before .before .before .before .before .before .before .before .before .before .before .before .before .before .before .machine-of .result; free = c .before .before .before .before .before .before .before .before .before .before .before .before .before .before .before .before .before .before .before .before .before .args .free } in
-    let q : Visit = record { at = 0; left = l .d; j = 0; n = 0; d = 0; cut = false; state = c .before .before .before .before .before .before .before .before .before .before .before .initial-of .result; cursor = record { next = 0; end = 0 } } in
-    let R : Ready s (c .before .before .before .before .before .before .before .before .before .before .before .before .before .before .put-first .last .0) (now (c .before .before .before .before .before .before .before .before .before .before .before .before .before .before .before .before .before .before .before .before .before .args .moves)) (length (now (c .before .before .before .before .before .before .before .before .before .before .before .before .before .before .before .before .before .before .before .before .before .args .trace))) t q p =
+    let t : Task = record { machine = at-machine-of .machine-of .result; free = at-start .args .free } in
+    let q : Visit = record { at = 0; left = l .d; j = 0; n = 0; d = 0; cut = false; state = at-initial-of .initial-of .result; cursor = record { next = 0; end = 0 } } in
+    let R : Ready s (at-put-first .put-first .last .0) (now (at-start .args .moves)) (length (now (at-start .args .trace))) t q p =
     record {
-      of = c .before .before .before .before .before .before .before .before .before .before .before .before .before .before .before .before .machine-of .ensures;
-      frame = subst (λ (n : ℕ). Frame s n (c .before .before .before .before .before .before .before .before .before .before .before .before .before .before .put-first .last .0) 0 p) e (c .before .before .before .before .before .before .before .before .before .before .before .before .before .before .put-first .ensures .0);
+      of = at-machine-of .machine-of .ensures;
+      frame = subst (λ (n : ℕ). Frame s n (at-put-first .put-first .last .0) 0 p) e (at-put-first .put-first .ensures .0);
       made = omega arith;
-      traced = omega (arith, e, c .before .before .before .before .before .before .before .before .before .before .before .before .before .before .before .before .before .before .before .before .before .pre .1 .1);
+      traced = omega (arith, e, at-start .pre .1 .1);
       few = omega arith;
       deep = omega (arith, e, f .d);
     } in
-    ((c .before .before .before .before .before .before .before .before .prepare .ensures, c .before .before .before .before .before .before .before .before .prepare .ensures), (p, R))
+    ((at-prepare .prepare .ensures, at-prepare .prepare .ensures), (p, R))
 
 clear-requires : tie.Need-clear-requires
 clear-requires c κs = search needs
@@ -79,28 +97,33 @@ same-length-2 c = search needs
 
 returns : tie.Need-returns
 returns c =
-    let s = now (c .before .before .before .before .before .before .before .before .before .before .before .before .before .before .before .before .before .before .before .before .before .before .before .before .before .before .before .before .before .before .before .before .before .before .args .s) in
-    let l = c .before .before .before .before .before .before .before .before .before .before .before .before .before .before .before .before .before .before .before .before .before .before .before .before .before .before .before .before .before .before .before .before .before .before .args .l in
-    let e : boundOf s ≡ l .d = ap (λ (l : Layout). l .d) (sym (c .before .before .before .before .before .before .before .before .before .before .before .before .before .before .before .before .before .before .before .before .before .before .before .before .before .before .before .before .before .before .before .before .before .before .pre .0 .1)) in
-    let f = laid s (c .before .before .before .before .before .before .before .before .before .before .before .before .before .before .before .before .before .before .before .before .before .before .before .before .before .before .before .before .before .before .before .before .before .before .pre .0 .0) in
+    let at-explore = explore-from-clear (c .before .before) in
+    let at-initial-of = initial-of-from-explore at-explore in
+    let at-put-first = at-initial-of .before .before .before in
+    let at-machine-of = at-put-first .before .before in
+    let at-start = start-from-machine-of at-machine-of in
+    let s = now (at-start .args .s) in
+    let l = at-start .args .l in
+    let e : boundOf s ≡ l .d = ap (λ (l : Layout). l .d) (sym (at-start .pre .0 .1)) in
+    let f = laid s (at-start .pre .0 .0) in
     let p = firstOf s .0 in
-    let t : Task = record { machine = c .before .before .before .before .before .before .before .before .before .before .before .before .before .before .before .before .before .before .before .before .before .before .before .before .before .before .before .before .before .machine-of .result; free = c .before .before .before .before .before .before .before .before .before .before .before .before .before .before .before .before .before .before .before .before .before .before .before .before .before .before .before .before .before .before .before .before .before .before .args .free } in
-    let q : Visit = record { at = 0; left = l .d; j = 0; n = 0; d = 0; cut = false; state = c .before .before .before .before .before .before .before .before .before .before .before .before .before .before .before .before .before .before .before .before .before .before .before .before .initial-of .result; cursor = record { next = 0; end = 0 } } in
-    let R : Ready s (c .before .before .before .before .before .before .before .before .before .before .before .before .before .before .before .before .before .before .before .before .before .before .before .before .before .before .before .put-first .last .0) (now (c .before .before .before .before .before .before .before .before .before .before .before .before .before .before .before .before .before .before .before .before .before .before .before .before .before .before .before .before .before .before .before .before .before .before .args .moves)) (length (now (c .before .before .before .before .before .before .before .before .before .before .before .before .before .before .before .before .before .before .before .before .before .before .before .before .before .before .before .before .before .before .before .before .before .before .args .trace))) t q p =
+    let t : Task = record { machine = at-machine-of .machine-of .result; free = at-start .args .free } in
+    let q : Visit = record { at = 0; left = l .d; j = 0; n = 0; d = 0; cut = false; state = at-initial-of .initial-of .result; cursor = record { next = 0; end = 0 } } in
+    let R : Ready s (at-put-first .put-first .last .0) (now (at-start .args .moves)) (length (now (at-start .args .trace))) t q p =
     record {
-      of = c .before .before .before .before .before .before .before .before .before .before .before .before .before .before .before .before .before .before .before .before .before .before .before .before .before .before .before .before .before .machine-of .ensures;
-      frame = subst (λ (n : ℕ). Frame s n (c .before .before .before .before .before .before .before .before .before .before .before .before .before .before .before .before .before .before .before .before .before .before .before .before .before .before .before .put-first .last .0) 0 p) e (c .before .before .before .before .before .before .before .before .before .before .before .before .before .before .before .before .before .before .before .before .before .before .before .before .before .before .before .put-first .ensures .0);
+      of = at-machine-of .machine-of .ensures;
+      frame = subst (λ (n : ℕ). Frame s n (at-put-first .put-first .last .0) 0 p) e (at-put-first .put-first .ensures .0);
       made = omega arith;
-      traced = omega (arith, e, c .before .before .before .before .before .before .before .before .before .before .before .before .before .before .before .before .before .before .before .before .before .before .before .before .before .before .before .before .before .before .before .before .before .before .pre .1 .1);
+      traced = omega (arith, e, at-start .pre .1 .1);
       few = omega arith;
       deep = omega (arith, e, f .d);
     } in
-    let Z = c .before .before .before .before .before .before .before .before .before .before .before .before .explore .ensures .0 p R in
-    let trace = now (c .before .before .before .before .before .before .before .before .before .before .before .before .before .before .before .before .before .before .before .before .before .before .before .before .before .before .before .before .before .before .before .before .before .before .args .trace) in
-    let moves = now (c .before .before .before .before .before .before .before .before .before .before .before .before .before .before .before .before .before .before .before .before .before .before .before .before .before .before .before .before .before .before .before .before .before .before .args .moves) in
-    let X : State → ℕ → Type 0 = λ st n. Reported 0 0 trace (c .before .before .before .before .before .before .before .before .before .before .before .before .explore .last .1 .0) (c .before .before .before .before .before .before .before .before .before .before .before .before .explore .result) (outcomeOf s (c .before .before .before .before .before .before .before .before .before .before .before .before .before .before .before .before .before .before .before .before .before .before .before .before .before .before .before .before .before .before .before .before .before .before .args .free) n ((p, st), moves)) in (
-      subst (λ (n : ℕ). X (firstOf s .1) n) (sym e) (subst (λ (st : State). X st (l .d)) (c .before .before .before .before .before .before .before .before .before .before .before .before .before .before .before .before .before .before .before .before .before .before .before .before .initial-of .ensures) Z),
-      c .before .before .clear .ensures ∙ ap (λ (n : ℕ). replicate n 0) (c .before .before .before .before .before .before .before .before .before .before .before .before .explore .ensures .1 ∙ c .before .before .before .before .before .before .before .before .before .before .before .before .before .before .before .before .before .before .before .before .before .before .before .before .before .before .before .put-first .ensures .1),
+    let Z = at-explore .explore .ensures .0 p R in
+    let trace = now (at-start .args .trace) in
+    let moves = now (at-start .args .moves) in
+    let X : State → ℕ → Type 0 = λ st n. Reported 0 0 trace (at-explore .explore .last .1 .0) (at-explore .explore .result) (outcomeOf s (at-start .args .free) n ((p, st), moves)) in (
+      subst (λ (n : ℕ). X (firstOf s .1) n) (sym e) (subst (λ (st : State). X st (l .d)) (at-initial-of .initial-of .ensures) Z),
+      c .before .before .clear .ensures ∙ ap (λ (n : ℕ). replicate n 0) (at-explore .explore .ensures .1 ∙ at-put-first .put-first .ensures .1),
     )
 
 pub run-spec : {M : Type 1} → statement M
