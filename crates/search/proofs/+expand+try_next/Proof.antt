@@ -115,8 +115,11 @@ try-next-claims t = (
 
 -- Places: what stands before a need, by name. Written by `named`: run it again when the code changes.
 module _ {k : expand-lts.Claims} {p : In 8 expand-kinds.ps} {q : Out 8 expand-kinds.ps expand-kinds.r} where
+  abbrev start-from-expand-slices : expand-lts.After-slice-known5 k p q expand-Inv-loop expand-μ-loop → expand-lts.Start k p q expand-Inv-loop expand-μ-loop
+  start-from-expand-slices c = c .before .before .before .before .before
+
   abbrev start-from-expand-loop-holds : expand-lts.After-k k p q expand-Inv-loop expand-μ-loop → expand-lts.Start k p q expand-Inv-loop expand-μ-loop
-  start-from-expand-loop-holds c = c .before .before .before .before .before .before .before .before .before .before
+  start-from-expand-loop-holds c = start-from-expand-slices (c .before .before .before .before .before)
 
   abbrev start-from-expand-loop : expand-lts.At-loop k p q expand-Inv-loop expand-μ-loop → expand-lts.Start k p q expand-Inv-loop expand-μ-loop
   start-from-expand-loop c = start-from-expand-loop-holds (c .before)
@@ -142,8 +145,11 @@ module _ {k : expand-lts.Claims} {p : In 8 expand-kinds.ps} {q : Out 8 expand-ki
   abbrev loop-from-expand-try-next : expand-lts.After-try-next k p q expand-Inv-loop expand-μ-loop → expand-lts.At-loop k p q expand-Inv-loop expand-μ-loop
   loop-from-expand-try-next c = loop-from-expand-refresh (refresh-from-expand-try-next c)
 
+  abbrev try-next-from-expand-numbers2 : expand-lts.After-numbers2 k p q expand-Inv-loop expand-μ-loop → expand-lts.After-try-next k p q expand-Inv-loop expand-μ-loop
+  try-next-from-expand-numbers2 c = c .before .before .before .before .before .before .before
+
   abbrev try-next-from-expand-found : expand-lts.After-found k p q expand-Inv-loop expand-μ-loop → expand-lts.After-try-next k p q expand-Inv-loop expand-μ-loop
-  try-next-from-expand-found c = c .before .before .before .before .before .before .before .before .before .before .before .before .before
+  try-next-from-expand-found c = try-next-from-expand-numbers2 (c .before .before .before .before .before .before)
 
   abbrev try-next-from-expand-is-more : expand-lts.After-is-more k p q expand-Inv-loop expand-μ-loop → expand-lts.After-try-next k p q expand-Inv-loop expand-μ-loop
   try-next-from-expand-is-more c = try-next-from-expand-found (c .before .before)
@@ -351,8 +357,11 @@ expand-returns-2 t c =
 
 -- Places: what stands before a need, by name. Written by `named`: run it again when the code changes.
 module _ {k : try-next-lts.Claims} {p : In 8 try-next-kinds.ps} {q : Out 8 try-next-kinds.ps try-next-kinds.r} where
+  abbrev start-from-try-next-slices : try-next-lts.After-slice-known6 k p q → try-next-lts.Start k p q
+  start-from-try-next-slices c = c .before .before .before .before .before .before
+
   abbrev start-from-try-next-next-requires : try-next-lts.After-next-arg3 k p q → try-next-lts.Start k p q
-  start-from-try-next-next-requires c = c .before .before .before .before .before .before .before .before .before .before .before .before
+  start-from-try-next-next-requires c = start-from-try-next-slices (c .before .before .before .before .before .before)
 
   abbrev start-from-try-next-next : try-next-lts.After-next k p q → try-next-lts.Start k p q
   start-from-try-next-next c = start-from-try-next-next-requires (c .before)
@@ -384,8 +393,11 @@ module _ {k : try-next-lts.Claims} {p : In 8 try-next-kinds.ps} {q : Out 8 try-n
   abbrev next-from-try-next-expand : try-next-lts.After-expand k p q → try-next-lts.After-next k p q
   next-from-try-next-expand c = next-from-try-next-follow ((look-from-try-next-else2 ((at-cursor-from-try-next-expand c) .before)) .before .before .before .before)
 
+  abbrev expand-from-try-next-spares : try-next-lts.After-sparenumbers2 k p q → try-next-lts.After-expand k p q
+  expand-from-try-next-spares c = c .before .before .before .before .before .before .before
+
   abbrev expand-from-try-next-note-requires-2 : try-next-lts.After-note-arg2 k p q → try-next-lts.After-expand k p q
-  expand-from-try-next-note-requires-2 c = c .before .before .before .before .before .before .before .before .before .before .before .before .before
+  expand-from-try-next-note-requires-2 c = expand-from-try-next-spares (c .before .before .before .before .before .before)
 
   abbrev expand-from-try-next-note2 : try-next-lts.After-note2 k p q → try-next-lts.After-expand k p q
   expand-from-try-next-note2 c = expand-from-try-next-note-requires-2 (c .before)

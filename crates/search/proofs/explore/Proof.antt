@@ -22,8 +22,11 @@ same-length-3 : tie.Need-same-length-3
 same-length-3 c = search needs
 
 -- Places: what stands before a need, by name. Written by `named`: run it again when the code changes.
+abbrev start-from-slices : tie.After-slice-known6 → tie.Start
+start-from-slices c = c .before .before .before .before .before .before
+
 abbrev start-from-look : tie.After-look → tie.Start
-start-from-look c = c .before .before .before .before .before .before .before .before .before .before .before .before
+start-from-look c = start-from-slices (c .before .before .before .before .before .before)
 
 abbrev look-from-else1 : tie.Else1 → tie.After-look
 look-from-else1 c = c .before .before .before .before .before
@@ -37,8 +40,11 @@ at-cursor-from-expand-requires c = c .before .before .before .before .before .be
 abbrev at-cursor-from-expand : tie.After-expand → tie.After-at-cursor
 at-cursor-from-expand c = at-cursor-from-expand-requires (c .before)
 
+abbrev expand-from-flags2 : tie.After-slice-known11 → tie.After-expand
+expand-from-flags2 c = c .before .before .before .before .before .before
+
 abbrev expand-from-returns-2 : tie.After-slice-known14 → tie.After-expand
-expand-from-returns-2 c = c .before .before .before .before .before .before .before .before .before .before .before .before
+expand-from-returns-2 c = expand-from-flags2 (c .before .before .before .before .before .before)
 
 returns : tie.Need-returns
 returns c =

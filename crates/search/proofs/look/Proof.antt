@@ -35,11 +35,14 @@ same-length-2 : tie.Need-same-length-2
 same-length-2 c = search needs
 
 -- Places: what stands before a need, by name. Written by `named`: run it again when the code changes.
+abbrev start-from-m : tie.After-m → tie.Start
+start-from-m c = c .before .before .before .before .before .before
+
 abbrev start-from-then1 : tie.Then1 → tie.Start
-start-from-then1 c = c .before .before .before .before .before .before .before .before .before
+start-from-then1 c = start-from-m (c .before .before .before)
 
 abbrev start-from-survey : tie.After-survey → tie.Start
-start-from-survey c = c .before .before .before .before .before .before .before .before .before .before .before .before
+start-from-survey c = start-from-m (c .before .before .before .before .before .before)
 
 abbrev survey-from-is-over2 : tie.After-is-over2 → tie.After-survey
 survey-from-is-over2 c = c .before .before .before .before .before .before

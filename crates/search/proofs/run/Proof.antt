@@ -52,14 +52,20 @@ slice-aggregate-explore-4 c = search needs
 abbrev start-from-machine-of : tie.After-machine-of → tie.Start
 start-from-machine-of c = c .before .before .before .before .before
 
+abbrev prepare-from-explore-arg2 : tie.After-explore-arg2 → tie.After-prepare
+prepare-from-explore-arg2 c = c .before .before .before .before
+
 abbrev prepare-from-explore-requires : tie.After-sparenumbers → tie.After-prepare
-prepare-from-explore-requires c = c .before .before .before .before .before .before .before .before
+prepare-from-explore-requires c = prepare-from-explore-arg2 (c .before .before .before .before)
 
 abbrev initial-of-from-explore : tie.After-explore → tie.After-initial-of
 initial-of-from-explore c = (prepare-from-explore-requires (c .before)) .before .before .before
 
+abbrev explore-from-flags4 : tie.After-flags4 → tie.After-explore
+explore-from-flags4 c = c .before .before .before .before .before
+
 abbrev explore-from-clear : tie.After-clear → tie.After-explore
-explore-from-clear c = c .before .before .before .before .before .before .before .before .before .before
+explore-from-clear c = explore-from-flags4 (c .before .before .before .before .before)
 
 explore-requires : tie.Need-explore-requires
 explore-requires c κs =
