@@ -1,9 +1,8 @@
--- Planning and replay over the program as it is held answer what they answer over the paper's trees: a held configuration has the
--- transitions of the one that it stands for, in the same order. And it stays small enough for document 01's figure. Assumes nothing.
-use mathlib.Core.Path.{_≡_, sym, _∙_, ap, subst}
-use mathlib.Core.Bool.{Bool, cond}
+-- A sheet's program as it is held stands for what runs, and what its transitions leave stays small enough for document 01's figure.
+-- Assumes nothing.
+use mathlib.Core.Path.{_≡_, subst}
 use mathlib.Core.List.{List}
-use Prim.Native.Nat.{ℕ, _+_, _-_, _*_, _≤_}
+use Prim.Native.Nat.{ℕ, _+_, _*_, _≤_}
 use native.Mathlib.Nat.{mul-le-mul}
 use native.Mathlib.Omega.{arith}
 use Rattle.records.specs.declared.Program.{Program}
@@ -15,16 +14,11 @@ use Rattle.sheet.proofs.Accepted.{laid}
 use Rattle.sheet.proofs.Lower.{lower}
 use Rattle.golog.specs.Steps.{Config}
 use Rattle.held.specs.Rest.{leaf, full, nodes, AllLower}
-use Rattle.held.specs.Leaves.{Held, movesHeld, finalHeld}
+use Rattle.held.specs.Leaves.{Held}
 use Rattle.held.specs.Extended.{table, top}
-use Rattle.held.proofs.Same.{moves-same, final-same}
 use Rattle.held.proofs.Started.{table-lower, top-started, top-rise}
 use Rattle.held.proofs.Nodes.{Reaches, reached-nodes}
-use Rattle.runs.specs.Search.{search}
-use Rattle.runs.specs.Guide.{movesG, finG, accepts}
-use Rattle.runs.proofs.Same.{search-same, guided-same, accepts-same}
 use Rattle.demands.specs.Decoded.{worldOf, recordsOf, interruptsIn, initialOf, firstOf, boundOf}
-use Rattle.demands.specs.Planning.{movesIn, finalIn, verdictOf, acceptsOf}
 use Rattle.demands.specs.Held.{heldRecords, heldFirst, levelsOf}
 
 -- the configuration that a held one stands for
@@ -40,36 +34,6 @@ module _ (s : List ℕ) (accepted : Accepts s) where
 
   pub starts : fullOf (heldRecords s) (heldFirst s) ≡ firstOf s
   starts = λ i. (top-started (recordsOf s) (layoutOf s .p) (lower s accepted) some-record (interruptsIn s) i, initialOf s)
-
-  -- the search with no guide, and under any
-  pub verdict-held :
-      search (movesHeld (worldOf s) (heldRecords s)) (finalHeld (worldOf s) (heldRecords s)) (boundOf s) (heldFirst s) ≡ verdictOf s
-  unfolding verdictOf
-  verdict-held =
-      let W = worldOf s in
-      let p = heldRecords s in
-      search-same (fullOf p) (movesHeld W p) (finalHeld W p) (movesIn W) (finalIn W) (moves-same W p all-lower) (final-same W p all-lower) (boundOf s) (heldFirst s)
-      ∙ ap (search (movesIn W) (finalIn W) (boundOf s)) starts
-
-  pub guided-held :
-      (free : Bool) (g : List ℕ)
-      → search (movesG free (movesHeld (worldOf s) (heldRecords s))) (finG (finalHeld (worldOf s) (heldRecords s))) (boundOf s) (heldFirst s, g)
-      ≡ search (movesG free (movesIn (worldOf s))) (finG (finalIn (worldOf s))) (boundOf s) (firstOf s, g)
-  guided-held free g =
-      let W = worldOf s in
-      let p = heldRecords s in
-      guided-same (fullOf p) (movesHeld W p) (finalHeld W p) (movesIn W) (finalIn W) (moves-same W p all-lower) (final-same W p all-lower) free (boundOf s) (heldFirst s) g
-      ∙ ap (λ (c : Config). search (movesG free (movesIn W)) (finG (finalIn W)) (boundOf s) (c, g)) starts
-
-  pub accepts-held :
-      (h : List ℕ)
-      → accepts (movesHeld (worldOf s) (heldRecords s)) (finalHeld (worldOf s) (heldRecords s)) (boundOf s) (heldFirst s) h ≡ acceptsOf s h
-  unfolding acceptsOf
-  accepts-held h =
-      let W = worldOf s in
-      let p = heldRecords s in
-      accepts-same (fullOf p) (movesHeld W p) (finalHeld W p) (movesIn W) (finalIn W) (moves-same W p all-lower) (final-same W p all-lower) (boundOf s) (heldFirst s) h
-      ∙ ap (λ (c : Config). accepts (movesIn W) (finalIn W) (boundOf s) c h) starts
 
   -- document 01's h is the height of the record that runs
   pub top-levels : rise (heldRecords s) (top (interruptsIn s) (layoutOf s .p)) ≡ levelsOf s

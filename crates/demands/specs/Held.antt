@@ -1,5 +1,5 @@
--- A sheet's program as a planner holds it: one record, of the sheet's table or of the four above it. That planning and replay over
--- it answer the same is proved in proofs/Held.antt. Assumes nothing.
+-- A sheet's program as the engine holds it: one record, of the sheet's table or of the four above it. That it stands for what runs is
+-- proved in proofs/Held.antt. Assumes nothing.
 use Prim.Native.Nat.{ℕ}
 use mathlib.Core.List.{List}
 use Rattle.records.specs.declared.Program.{Program}

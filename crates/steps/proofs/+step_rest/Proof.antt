@@ -80,14 +80,17 @@ module _ {k : step-rest-lts.Claims} {p : In 5 step-rest-kinds.ps} {q : Out 5 ste
   abbrev step-rest-from-t : step-rest-lts.After-t k p q → step-rest-lts.After-step-rest k p q
   step-rest-from-t c = c .before .before .before .before
 
+  abbrev step-rest-from-else3 : step-rest-lts.Else3 k p q → step-rest-lts.After-step-rest k p q
+  step-rest-from-else3 c = c .before .before .before .before .before .before .before
+
   abbrev size-at-from-else3 : step-rest-lts.Else3 k p q → step-rest-lts.After-size-at k p q
-  size-at-from-else3 c = c .before .before .before .before .before .before .before .before .before
+  size-at-from-else3 c = step-rest-from-else3 c .before .before
 
   abbrev step-rest-from-then3 : step-rest-lts.Then3 k p q → step-rest-lts.After-step-rest k p q
   step-rest-from-then3 c = c .before .before .before .before .before .before .before
 
   abbrev step-rest-from-past-words : step-rest-lts.After-past-words k p q → step-rest-lts.After-step-rest k p q
-  step-rest-from-past-words c = c .before .before .before .before .before .before .before .before
+  step-rest-from-past-words c = step-rest-from-else3 (c .before)
 
   abbrev size-at-from-past-words : step-rest-lts.After-past-words k p q → step-rest-lts.After-size-at k p q
   size-at-from-past-words c = size-at-from-else3 (c .before)
