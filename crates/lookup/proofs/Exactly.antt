@@ -8,7 +8,7 @@ use Prim.Native.Nat.{ℕ, _≤_}
 use native.Mathlib.Omega.{arith}
 use borrow.Author.Tests.{ltb-false, le-ltb}
 use lib.Dec.{ltb}
-use Rattle.sheet.specs.Layout.{layoutOf, fluentsIn}
+use Rattle.sheet.specs.Layout.{layoutOf}
 use Rattle.sheet.specs.Check.{checkOf, numberOf, placeOf}
 use Rattle.sheet.specs.Causes.{Cause, First}
 use Rattle.sheet.proofs.Rising.{By, wider, sooner}
@@ -42,15 +42,12 @@ module _ (s : List ℕ) (x : ℕ) where
   abbrev Twelve : (number place : ℕ) → Type 0
   Twelve k p = (k ≡ 12) × (p ≡ 0) × (layoutOf s .f ≤ x)
 
-  abbrev found : Looked
-  found = lookedIn (fluentsIn s (layoutOf s)) (layoutOf s .f) x
-
-  -- 12, where the check accepts
-  own-answered : By Twelve (seen found)
+  -- 12, where the check accepts, whatever table the fluent is looked up in
+  own-answered : (figure : ℕ) → By Twelve (seen (lookedUp s x (checked.Accepted figure)))
   unfolding lookedIn
-  own-answered = go (ltb x (layoutOf s .f)) refl
+  own-answered figure = go (ltb x (layoutOf s .f)) refl
     where
-      go : (b : Bool) → ltb x (layoutOf s .f) ≡ b → By Twelve (seen found)
+      go : (b : Bool) → ltb x (layoutOf s .f) ≡ b → By Twelve (seen (lookedUp s x (checked.Accepted figure)))
       go true e = rw (e, lookedIn) (λ k p (a, b, l). false≢true (sym (beyond .1 l) ∙ e))
       go false e = rw (e, lookedIn) ((refl, refl, beyond .0 e), λ j q l c. omega (arith, c .0), λ q c. c .1)
 
@@ -59,7 +56,7 @@ module _ (s : List ℕ) (x : ℕ) where
   look-answered = go (checkOf s) (answered-by s) (numbered s)
     where
       go : (c : Checked) → By (Cause s) c → Numbered c → By (LookCause s x) (seen (lookedUp s x c))
-      go (checked.Accepted w) none n = wider (Cause s) Twelve none (seen found) own-answered
+      go (checked.Accepted w) none n = wider (Cause s) Twelve none (seen (lookedUp s x (checked.Accepted w))) (own-answered w)
       go (checked.Refused k p) by n = sooner (Cause s) Twelve 9 k p (n .1) (λ j q c. omega (arith, c .0)) by
 
   some : (k p : ℕ) → LookCause s x k p → 1 ≤ k
