@@ -13,35 +13,35 @@ use native.Mathlib.Omega.{arith}
 use lib.Dec.{T}
 use Rattle.height.specs.Work.{workWords}
 use Rattle.runs.specs.Runs.{ExactlyOne}
-use Rattle.runs.specs.Search.{Verdict, plan, nothing, more, search, Lists, Decides, Means}
+use Rattle.runs.specs.Search.{Verdict, plan, nothing, more, search, Lists, DecidesFinal, Means}
 use Rattle.runs.proofs.Searched.{search-means}
 use Rattle.runs.proofs.Verdicts.{plan-iff, nothing-iff, more-iff, exactly-one, says}
 use Rattle.runs.proofs.Raised.{none-of-any-length, plan-stays, nothing-stays}
 use Rattle.runs.proofs.Guided.{accepts-iff, plan-accepted}
 use Rattle.golog.specs.World.{World}
-use Rattle.golog.specs.Steps.{Config}
+use Rattle.golog.specs.Transitions.{Configuration}
 use Rattle.golog.proofs.Exact.{steps-exact, final-exact}
 use Rattle.sheet.specs.Check.{Accepts, checkOf}
 use Rattle.sheet.specs.declared.Checked.{Checked}
 use Rattle.sheet.specs.declared.Checked.the-variants.{Accepted, Refused}
 use Rattle.sheet.proofs.Accepted.{trailed}
 use Rattle.demands.specs.Decoded.{worldOf, firstOf, boundOf}
-use Rattle.demands.specs.Planning.{Goes, Ends, movesIn, finalIn, RunEndsFinal, HistoryOfRun, NoPlanAtAll, NoPlanWithinBound, NoRunEndsFinal, RunOf}
-use Rattle.demands.specs.Planning.{verdictOf, acceptsOf, Planned, found, answer, plannedFrom, planOf, Replayed, replied, replayedFrom, replayOf}
-use Rattle.demands.specs.Held.{levelsOf}
+use Rattle.demands.specs.Planning.{Goes, Ends, transitionsIn, isFinalIn, RunEndsFinal, HistoryOfRun, NoPlanAtAll, NoPlanWithinBound, NoRunEndsFinal, RunOf}
+use Rattle.demands.specs.Planning.{verdictOf, acceptsOf, PlanAnswer, found, answer, plannedFrom, planOf, ReplayAnswer, replied, replayedFrom, replayOf}
+use Rattle.demands.specs.Compact.{levelsOf}
 use Rattle.demands.specs.Raised.{SameButBound, withBound}
 use Rattle.demands.proofs.Tables.{world-same, first-same}
 use Rattle.demands.proofs.Raised.{tables-same, accepted-too, bound-alone, bound-put}
 
 -- the lists of transitions are the paper's Trans, the test for final configurations its Final
-pub listed : (W : World) → Lists (movesIn W) (Goes W)
+pub listed : (W : World) → Lists (transitionsIn W) (Goes W)
 listed W c m d = steps-exact W (c .0) (c .1) m (d .0) (d .1)
 
-pub decided : (W : World) → Decides (finalIn W) (Ends W)
+pub decided : (W : World) → DecidesFinal (isFinalIn W) (Ends W)
 decided W c = final-exact W (c .0) (c .1)
 
-pub means : (W : World) (k : ℕ) (c : Config) → Means (Goes W) (Ends W) k c (search (movesIn W) (finalIn W) k c)
-means W = search-means (Goes W) (Ends W) (movesIn W) (finalIn W) (listed W) (decided W)
+pub means : (W : World) (k : ℕ) (c : Configuration) → Means (Goes W) (Ends W) k c (search (transitionsIn W) (isFinalIn W) k c)
+means W = search-means (Goes W) (Ends W) (transitionsIn W) (isFinalIn W) (listed W) (decided W)
 
 -- an answer and the verdict that it comes from
 found-plan : (v : Verdict) (h : List ℕ) (t : ℕ) → (answer v ≡ found h t) ↔ (v ≡ plan h t)
@@ -49,12 +49,12 @@ found-plan (plan g u) h t = (λ e. cc, λ e. cc)
 found-plan nothing h t = (λ e. cc, λ e. cc)
 found-plan more h t = (λ e. cc, λ e. cc)
 
-answer-nothing : (v : Verdict) → (answer v ≡ Planned.refused 13 0) ↔ (v ≡ nothing)
+answer-nothing : (v : Verdict) → (answer v ≡ PlanAnswer.refused 13 0) ↔ (v ≡ nothing)
 answer-nothing (plan g u) = (λ e. cc, λ e. cc)
 answer-nothing nothing = (λ e. refl, λ e. refl)
 answer-nothing more = (λ e. cc, λ e. cc)
 
-answer-more : (v : Verdict) → (answer v ≡ Planned.refused 14 0) ↔ (v ≡ more)
+answer-more : (v : Verdict) → (answer v ≡ PlanAnswer.refused 14 0) ↔ (v ≡ more)
 answer-more (plan g u) = (λ e. cc, λ e. cc)
 answer-more nothing = (λ e. cc, λ e. cc)
 answer-more more = (λ e. refl, λ e. refl)
@@ -76,17 +76,17 @@ module _ (s : List ℕ) (accepted : Accepts s) where
   unfolding replayOf
   replay-is h = ap (replayedFrom s h) (accepted .1)
 
-  same-answer : (a : Planned) → (planOf s ≡ a) ↔ (answer (verdictOf s) ≡ a)
+  same-answer : (a : PlanAnswer) → (planOf s ≡ a) ↔ (answer (verdictOf s) ≡ a)
   same-answer a = (λ e. sym plan-is ∙ e, λ e. plan-is ∙ e)
 
-  same-reply : (h : List ℕ) (a : Replayed) → (replayOf s h ≡ a) ↔ (replied (acceptsOf s h) ≡ a)
+  same-reply : (h : List ℕ) (a : ReplayAnswer) → (replayOf s h ≡ a) ↔ (replied (acceptsOf s h) ≡ a)
   same-reply h a = (λ e. sym (replay-is h) ∙ e, λ e. replay-is h ∙ e)
 
   accepts-exactly : (h : List ℕ) → T (acceptsOf s h) ↔ HistoryOfRun s h
   unfolding acceptsOf
   accepts-exactly h =
       let W = worldOf s in
-      accepts-iff (Goes W) (Ends W) (movesIn W) (finalIn W) (listed W) (decided W) (boundOf s) (firstOf s) h
+      accepts-iff (Goes W) (Ends W) (transitionsIn W) (isFinalIn W) (listed W) (decided W) (boundOf s) (firstOf s) h
 
   -- "A history is accepted exactly when some run of at most D transitions makes exactly those moves and ends final"
   pub history-accepted : (h : List ℕ) → (replayOf s h ≡ replied true) ↔ HistoryOfRun s h
@@ -102,7 +102,7 @@ module _ (s : List ℕ) (accepted : Accepts s) where
   plan-accepted-history h t e =
       replay-is h
       ∙ yes-true (acceptsOf s h) .1
-      (plan-accepted (movesIn (worldOf s)) (finalIn (worldOf s)) (boundOf s) (firstOf s) h t
+      (plan-accepted (transitionsIn (worldOf s)) (isFinalIn (worldOf s)) (boundOf s) (firstOf s) h t
       (found-plan (verdictOf s) h t .0 (same-answer (found h t) .0 e)))
 
   -- "A plan returns n moves and t, the transitions of one run of at most D that ends final with that history"
@@ -110,7 +110,7 @@ module _ (s : List ℕ) (accepted : Accepts s) where
   unfolding verdictOf
   plan-transitions h t e =
       let W = worldOf s in
-      let m = says (Goes W) (Ends W) (search (movesIn W) (finalIn W)) (means W) (boundOf s) (firstOf s) (plan h t)
+      let m = says (Goes W) (Ends W) (search (transitionsIn W) (isFinalIn W)) (means W) (boundOf s) (firstOf s) (plan h t)
       (found-plan (verdictOf s) h t .0 (same-answer (found h t) .0 e)) in
       (m .1, (m .0, m .2, m .3))
 
@@ -123,60 +123,60 @@ module _ (s : List ℕ) (accepted : Accepts s) where
         λ (h, t, e). (h, t, found-plan (verdictOf s) h t .0 (same-answer (found h t) .0 e)),
         λ (h, t, e). (h, t, same-answer (found h t) .1 (found-plan (verdictOf s) h t .1 e)),
       )
-      (plan-iff (Goes W) (Ends W) (search (movesIn W) (finalIn W)) (means W) (boundOf s) (firstOf s))
+      (plan-iff (Goes W) (Ends W) (search (transitionsIn W) (isFinalIn W)) (means W) (boundOf s) (firstOf s))
 
   -- "13 exactly when none does and no run has D + 1"
-  pub thirteen-exactly : (planOf s ≡ Planned.refused 13 0) ↔ NoPlanAtAll s
+  pub thirteen-exactly : (planOf s ≡ PlanAnswer.refused 13 0) ↔ NoPlanAtAll s
   unfolding verdictOf
   thirteen-exactly =
       let W = worldOf s in
-      Iff·trans (same-answer (Planned.refused 13 0))
+      Iff·trans (same-answer (PlanAnswer.refused 13 0))
       (Iff·trans (answer-nothing (verdictOf s))
-      (nothing-iff (Goes W) (Ends W) (search (movesIn W) (finalIn W)) (means W) (boundOf s) (firstOf s)))
+      (nothing-iff (Goes W) (Ends W) (search (transitionsIn W) (isFinalIn W)) (means W) (boundOf s) (firstOf s)))
 
   -- 13 at every length: it is no matter of the bound
-  pub thirteen-none-ends : planOf s ≡ Planned.refused 13 0 → NoRunEndsFinal s
+  pub thirteen-none-ends : planOf s ≡ PlanAnswer.refused 13 0 → NoRunEndsFinal s
   thirteen-none-ends e = let W = worldOf s in none-of-any-length (Goes W) (Ends W) (boundOf s) (firstOf s) (thirteen-exactly .0 e)
 
   -- "14 exactly when none does and some run has D + 1"
-  pub fourteen-exactly : (planOf s ≡ Planned.refused 14 0) ↔ NoPlanWithinBound s
+  pub fourteen-exactly : (planOf s ≡ PlanAnswer.refused 14 0) ↔ NoPlanWithinBound s
   unfolding verdictOf
   fourteen-exactly =
       let W = worldOf s in
-      Iff·trans (same-answer (Planned.refused 14 0))
+      Iff·trans (same-answer (PlanAnswer.refused 14 0))
       (Iff·trans (answer-more (verdictOf s))
-      (more-iff (Goes W) (Ends W) (search (movesIn W) (finalIn W)) (means W) (boundOf s) (firstOf s)))
+      (more-iff (Goes W) (Ends W) (search (transitionsIn W) (isFinalIn W)) (means W) (boundOf s) (firstOf s)))
 
   -- the three verdicts exclude each other, and one always holds
   pub one-verdict : ExactlyOne (RunEndsFinal s) (NoPlanAtAll s) (NoPlanWithinBound s)
   one-verdict =
       let W = worldOf s in
-      exactly-one (Goes W) (Ends W) (search (movesIn W) (finalIn W)) (means W) (boundOf s) (firstOf s)
+      exactly-one (Goes W) (Ends W) (search (transitionsIn W) (isFinalIn W)) (means W) (boundOf s) (firstOf s)
 
 -- "Raising D alone keeps a plan a plan and 13 a 13": two sheets that differ in D alone
 module _ (s s′ : List ℕ) (accepted : Accepts s) (accepted′ : Accepts s′) (but : SameButBound s s′) (raised : boundOf s ≤ boundOf s′) where
   -- the verdict within any bound is that of the first sheet
-  verdict-same : verdictOf s′ ≡ search (movesIn (worldOf s)) (finalIn (worldOf s)) (boundOf s′) (firstOf s)
+  verdict-same : verdictOf s′ ≡ search (transitionsIn (worldOf s)) (isFinalIn (worldOf s)) (boundOf s′) (firstOf s)
   unfolding verdictOf
   verdict-same =
       let same = tables-same s s′ accepted but in
-      ap₂ (λ (W : World) (c : Config). search (movesIn W) (finalIn W) (boundOf s′) c) (world-same same) (first-same same)
+      ap₂ (λ (W : World) (c : Configuration). search (transitionsIn W) (isFinalIn W) (boundOf s′) c) (world-same same) (first-same same)
 
   pub plan-stays-plan : (h : List ℕ) (t : ℕ) → planOf s ≡ found h t → (g : List ℕ) × (u : ℕ) × (planOf s′ ≡ found g u)
   unfolding verdictOf
   plan-stays-plan h t e =
       let W = worldOf s in
-      let r = plan-stays (Goes W) (Ends W) (search (movesIn W) (finalIn W)) (means W) (boundOf s′) (boundOf s) (firstOf s) h t raised
+      let r = plan-stays (Goes W) (Ends W) (search (transitionsIn W) (isFinalIn W)) (means W) (boundOf s′) (boundOf s) (firstOf s) h t raised
       (found-plan (verdictOf s) h t .0 (same-answer s accepted (found h t) .0 e)) in
       (r .0, r .1, same-answer s′ accepted′ (found (r .0) (r .1)) .1 (found-plan (verdictOf s′) (r .0) (r .1) .1 (verdict-same ∙ r .2)))
 
-  pub thirteen-stays-thirteen : planOf s ≡ Planned.refused 13 0 → planOf s′ ≡ Planned.refused 13 0
+  pub thirteen-stays-thirteen : planOf s ≡ PlanAnswer.refused 13 0 → planOf s′ ≡ PlanAnswer.refused 13 0
   unfolding verdictOf
   thirteen-stays-thirteen e =
       let W = worldOf s in
-      let r = nothing-stays (Goes W) (Ends W) (search (movesIn W) (finalIn W)) (means W) (boundOf s′) (boundOf s) (firstOf s) raised
-      (answer-nothing (verdictOf s) .0 (same-answer s accepted (Planned.refused 13 0) .0 e)) in
-      same-answer s′ accepted′ (Planned.refused 13 0) .1 (answer-nothing (verdictOf s′) .1 (verdict-same ∙ r))
+      let r = nothing-stays (Goes W) (Ends W) (search (transitionsIn W) (isFinalIn W)) (means W) (boundOf s′) (boundOf s) (firstOf s) raised
+      (answer-nothing (verdictOf s) .0 (same-answer s accepted (PlanAnswer.refused 13 0) .0 e)) in
+      same-answer s′ accepted′ (PlanAnswer.refused 13 0) .1 (answer-nothing (verdictOf s′) .1 (verdict-same ∙ r))
 
 -- the same of one accepted sheet whose D is raised: "puts a higher D, at most 64, into the trailer"
 module _ (s : List ℕ) (accepted : Accepts s) (d : ℕ) where
@@ -199,5 +199,5 @@ module _ (s : List ℕ) (accepted : Accepts s) (d : ℕ) where
     raised-plan-stays = plan-stays-plan s (withBound s d) accepted (_, raised-accepted small) (raised-alone .0) higher
 
     -- "and 13 a 13"
-    pub raised-thirteen-stays : planOf s ≡ Planned.refused 13 0 → planOf (withBound s d) ≡ Planned.refused 13 0
+    pub raised-thirteen-stays : planOf s ≡ PlanAnswer.refused 13 0 → planOf (withBound s d) ≡ PlanAnswer.refused 13 0
     raised-thirteen-stays = thirteen-stays-thirteen s (withBound s d) accepted (_, raised-accepted small) (raised-alone .0) higher

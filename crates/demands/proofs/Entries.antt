@@ -20,10 +20,10 @@ use Rattle.sheet.proofs.Accepted.{laid}
 use Rattle.sheet.proofs.Lower.{program-of, lower}
 use Rattle.golog.specs.World.{start, stop}
 use Rattle.golog.specs.Prog.{Prog, nil, construct, progAt, programOf, started}
-use Rattle.golog.specs.Steps.{Config}
+use Rattle.golog.specs.Transitions.{Configuration}
 use Rattle.golog.proofs.Acts.{Acts, acts-kept}
-use Rattle.held.proofs.Columns.{by-kind}
-use Rattle.held.proofs.Entries.{entry-rule, hasA, link-a, link-b, fields}
+use Rattle.remaining.proofs.Columns.{by-kind}
+use Rattle.remaining.proofs.Entries.{entry-rule, hasA, link-a, link-b, fields}
 use Rattle.runs.specs.Runs.{Run}
 use Rattle.runs.proofs.Histories.{history-has}
 use Rattle.demands.specs.Decoded.{worldOf, recordsOf, interruptsIn, firstOf}
@@ -78,10 +78,10 @@ module _ (s : List ℕ) (accepted : Accepts s) where
 
   -- every entry of the history of a run, final or not, is known
   pub entries-known :
-      (n : ℕ) (h : List ℕ) (d : Config) → Run (Goes (worldOf s)) n (firstOf s) h d → (e : ℕ) → List·Memᴰ e h → KnownEntry s e
+      (n : ℕ) (h : List ℕ) (d : Configuration) → Run (Goes (worldOf s)) n (firstOf s) h d → (e : ℕ) → List·Memᴰ e h → KnownEntry s e
   entries-known n h d =
       let W = worldOf s in
-      history-has (KnownEntry s) (Goes W) (λ (c : Config). Acts (KnownEntry s) (c .0))
+      history-has (KnownEntry s) (Goes W) (λ (c : Configuration). Acts (KnownEntry s) (c .0))
       (λ c m d k t. acts-kept (KnownEntry s) W (c .0) (c .1) m (d .0) (d .1) k t) n (firstOf s) h d first-acts
 
   -- "an unknown entry means no"

@@ -1,7 +1,7 @@
 pub mod Formulas
 pub mod Demands
 pub mod Entries
-pub mod Held
+pub mod Compact
 pub mod Notes
 pub mod Raised
 pub mod Tables

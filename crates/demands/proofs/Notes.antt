@@ -10,7 +10,7 @@ use Rattle.sheet.specs.declared.Checked.{Checked}
 use Rattle.sheet.specs.declared.Checked.the-variants.{Accepted, Refused}
 use Rattle.sheet.proofs.OtherNotes as notes
 use Rattle.demands.specs.Decoded.{worldOf, firstOf, boundOf}
-use Rattle.demands.specs.Planning.{movesIn, finalIn, verdictOf, acceptsOf, answer, plannedFrom, planOf, replied, replayedFrom, replayOf}
+use Rattle.demands.specs.Planning.{transitionsIn, isFinalIn, verdictOf, acceptsOf, answer, plannedFrom, planOf, replied, replayedFrom, replayOf}
 use Rattle.demands.proofs.Tables as tables
 
 -- "Bytes before that point are notes, never interpreted"
@@ -28,11 +28,11 @@ module _ (s other : List ℕ) (first : FirstRecord s) where
   -- so the same verdict, and the same histories accepted
   verdict-same : verdictOf (withNotes s other) ≡ verdictOf s
   unfolding verdictOf
-  verdict-same = λ i. search (movesIn (world-same i)) (finalIn (world-same i)) (bound-same i) (first-same i)
+  verdict-same = λ i. search (transitionsIn (world-same i)) (isFinalIn (world-same i)) (bound-same i) (first-same i)
 
   accepts-same : (h : List ℕ) → acceptsOf (withNotes s other) h ≡ acceptsOf s h
   unfolding acceptsOf
-  accepts-same h = λ i. accepts (movesIn (world-same i)) (finalIn (world-same i)) (bound-same i) (first-same i) h
+  accepts-same h = λ i. accepts (transitionsIn (world-same i)) (isFinalIn (world-same i)) (bound-same i) (first-same i) h
 
   planned-same : (c : Checked) → plannedFrom (withNotes s other) c ≡ plannedFrom s c
   planned-same (Accepted w) = ap answer verdict-same

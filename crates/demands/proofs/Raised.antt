@@ -8,7 +8,7 @@ use lib.ListN.{length, getD, drop, set, length-drop, length-set}
 use lib.Seq.{ext-getD, getD-take, getD-drop, getD-set-same, getD-set-other, length-take-le, lt-length-set}
 use Rattle.records.specs.Bytes.{part, le16}
 use Rattle.height.specs.Work.{workWords}
-use Rattle.sheet.specs.Trailer.{trailerIn, trailerOf, Within, recordBytes}
+use Rattle.sheet.specs.Trailer.{trailerIn, trailerOf, WithinLimits, recordBytes}
 use Rattle.sheet.specs.Layout.{layoutIn, layoutOf, fluentsIn, formulasIn, effectsIn, actionsIn, programsIn}
 use Rattle.sheet.specs.Check.{Accepts, checkOf}
 use Rattle.sheet.specs.declared.Trailer.{Trailer}
@@ -17,7 +17,7 @@ use Rattle.sheet.specs.declared.Checked.the-variants.{Accepted}
 use Rattle.sheet.proofs.Accepted.{Trailed, trailed, trailed-checked, laid}
 use Rattle.sheet.proofs.Tables.{SameTables, figured, figureOf, checked-alike}
 use Rattle.demands.specs.Decoded.{boundOf}
-use Rattle.demands.specs.Held.{levelsOf}
+use Rattle.demands.specs.Compact.{levelsOf}
 use Rattle.demands.specs.Raised.{SameButBound, withBound}
 
 -- equal bytes up to n give equal parts up to n
@@ -131,7 +131,7 @@ module _ (s s′ : List ℕ) (accepted : Accepts s) (but : SameButBound s s′) 
       record {
         long = omega arith;
         magic = ap (λ (t : Trailer). t .magic) e ∙ old .magic;
-        within = subst Within (sym e) record {
+        within = subst WithinLimits (sym e) record {
           some-fluent = w .some-fluent;
           f = w .f;
           q = w .q;

@@ -9,7 +9,7 @@ use Rattle.sheet.specs.Check.{checkOf}
 use Rattle.sheet.specs.declared.Checked.the-variants.{Accepted, Refused}
 use Rattle.golog.specs.World.{perform}
 use Rattle.demands.specs.Decoded.{worldOf, initialOf}
-use Rattle.demands.specs.Planning.{Planned, found, replied, planOf, replayOf}
+use Rattle.demands.specs.Planning.{PlanAnswer, found, replied, planOf, replayOf}
 
 -- each proposition of a list holds
 abbrev pub All : List (Type 0) → Type 0
@@ -78,32 +78,32 @@ act a = line 1 a 0 0
 abbrev test : (a : ℕ) → List ℕ
 test a = line 2 a 0 0
 
-abbrev seq : (a b : ℕ) → List ℕ
-seq a b = line 3 a b 0
+abbrev sequence : (a b : ℕ) → List ℕ
+sequence a b = line 3 a b 0
 
-abbrev alt : (a b : ℕ) → List ℕ
-alt a b = line 4 a b 0
+abbrev choice : (a b : ℕ) → List ℕ
+choice a b = line 4 a b 0
 
 abbrev star : (a : ℕ) → List ℕ
 star a = line 5 a 0 0
 
-abbrev ite : (c a b : ℕ) → List ℕ
-ite c a b = line 6 a b c
+abbrev ifThenElse : (c a b : ℕ) → List ℕ
+ifThenElse c a b = line 6 a b c
 
 abbrev while : (c a : ℕ) → List ℕ
 while c a = line 7 a 0 c
 
-abbrev conc : (a b : ℕ) → List ℕ
-conc a b = line 8 a b 0
+abbrev together : (a b : ℕ) → List ℕ
+together a b = line 8 a b 0
 
-abbrev prio : (a b : ℕ) → List ℕ
-prio a b = line 9 a b 0
+abbrev over : (a b : ℕ) → List ℕ
+over a b = line 9 a b 0
 
-abbrev iter : (a : ℕ) → List ℕ
-iter a = line 10 a 0 0
+abbrev iteration : (a : ℕ) → List ℕ
+iteration a = line 10 a 0 0
 
-abbrev intr : (c a : ℕ) → List ℕ
-intr c a = line 11 a 0 c
+abbrev interrupt : (c a : ℕ) → List ℕ
+interrupt c a = line 11 a 0 c
 
 -- document 01's sheet with the bound d and these program records, the last one the root
 abbrev sheetOf : (d : ℕ) → (programs : Table) → List ℕ
@@ -120,11 +120,11 @@ sheetTwice d programs =
 
 -- star(act 0); act 1
 abbrev starThenAct : Table
-starThenAct = act 0 ∷ star 0 ∷ act 1 ∷ seq 1 2 ∷ []
+starThenAct = act 0 ∷ star 0 ∷ act 1 ∷ sequence 1 2 ∷ []
 
 -- star(act 0) over act 1
 abbrev starOverAct : Table
-starOverAct = act 0 ∷ star 0 ∷ act 1 ∷ prio 1 2 ∷ []
+starOverAct = act 0 ∷ star 0 ∷ act 1 ∷ over 1 2 ∷ []
 
 -- case 3 with the trailer as document 01 prints it
 abbrev case3 : List ℕ
@@ -142,28 +142,28 @@ rows =
     -- 1 "nil, D 0: found 0 0"
     (planOf (sheetOf 0 (nil ∷ [])) ≡ found [] 0)
     -- 2 "act 1, D 5: 13"
-    ∷ (planOf (sheetOf 5 (act 1 ∷ [])) ≡ Planned.refused 13 0)
+    ∷ (planOf (sheetOf 5 (act 1 ∷ [])) ≡ PlanAnswer.refused 13 0)
     -- 3 "star(act 0); act 1, D 2: found 2 2, history 0 1"; "work 273"
     ∷ ((planOf case3 ≡ found (0 ∷ 1 ∷ []) 2) × (checkOf case3 ≡ Accepted 273))
     -- 4 "The same, D 1: 14"
-    ∷ (planOf (sheetOf 1 starThenAct) ≡ Planned.refused 14 0)
+    ∷ (planOf (sheetOf 1 starThenAct) ≡ PlanAnswer.refused 14 0)
     -- 5 "test 3, D 0: 14; D 1: found 0 1"
-    ∷ ((planOf (sheetOf 0 (test 3 ∷ [])) ≡ Planned.refused 14 0) × (planOf (sheetOf 1 (test 3 ∷ [])) ≡ found [] 1))
+    ∷ ((planOf (sheetOf 0 (test 3 ∷ [])) ≡ PlanAnswer.refused 14 0) × (planOf (sheetOf 1 (test 3 ∷ [])) ≡ found [] 1))
     -- 6 "not-holding test 1, D 0: 13"
-    ∷ (planOf (sheetOf 0 (test 1 ∷ [])) ≡ Planned.refused 13 0)
+    ∷ (planOf (sheetOf 0 (test 1 ∷ [])) ≡ PlanAnswer.refused 13 0)
     -- 7 "act 0 over act 1, D 2: history 0 1 yes, 1 0 no; star(act 0) over act 1, D 2: history 0 1 no, plan 14"
-    ∷ ((replayOf (sheetOf 2 (act 0 ∷ act 1 ∷ prio 0 1 ∷ [])) (0 ∷ 1 ∷ []) ≡ replied true)
-    × (replayOf (sheetOf 2 (act 0 ∷ act 1 ∷ prio 0 1 ∷ [])) (1 ∷ 0 ∷ []) ≡ replied false)
+    ∷ ((replayOf (sheetOf 2 (act 0 ∷ act 1 ∷ over 0 1 ∷ [])) (0 ∷ 1 ∷ []) ≡ replied true)
+    × (replayOf (sheetOf 2 (act 0 ∷ act 1 ∷ over 0 1 ∷ [])) (1 ∷ 0 ∷ []) ≡ replied false)
     × (replayOf (sheetOf 2 starOverAct) (0 ∷ 1 ∷ []) ≡ replied false)
-    × (planOf (sheetOf 2 starOverAct) ≡ Planned.refused 14 0))
+    × (planOf (sheetOf 2 starOverAct) ≡ PlanAnswer.refused 14 0))
     -- 8 "act 1 over act 0, D 2: found 2 2, 0 1"
-    ∷ (planOf (sheetOf 2 (act 1 ∷ act 0 ∷ prio 0 1 ∷ [])) ≡ found (0 ∷ 1 ∷ []) 2)
+    ∷ (planOf (sheetOf 2 (act 1 ∷ act 0 ∷ over 0 1 ∷ [])) ≡ found (0 ∷ 1 ∷ []) 2)
     -- 9 "interrupt (not formula 1), act 0, D 3: found 3 3, 65534 0 65535"
-    ∷ (planOf (sheetNot 3 (act 0 ∷ intr 4 0 ∷ [])) ≡ found (65534 ∷ 0 ∷ 65535 ∷ []) 3)
+    ∷ (planOf (sheetNot 3 (act 0 ∷ interrupt 4 0 ∷ [])) ≡ found (65534 ∷ 0 ∷ 65535 ∷ []) 3)
     -- 10 "interrupt true, nil, D 2: found 2 2, 65534 65535"
-    ∷ (planOf (sheetOf 2 (nil ∷ intr 3 0 ∷ [])) ≡ found (65534 ∷ 65535 ∷ []) 2)
+    ∷ (planOf (sheetOf 2 (nil ∷ interrupt 3 0 ∷ [])) ≡ found (65534 ∷ 65535 ∷ []) 2)
     -- 11 "interrupt true, act 0, D 4: 14"
-    ∷ (planOf (sheetOf 4 (act 0 ∷ intr 3 0 ∷ [])) ≡ Planned.refused 14 0)
+    ∷ (planOf (sheetOf 4 (act 0 ∷ interrupt 3 0 ∷ [])) ≡ PlanAnswer.refused 14 0)
     -- 12 "while formula 0 do nil, D 0: found 0 0"
     ∷ (planOf (sheetOf 0 (nil ∷ while 0 0 ∷ [])) ≡ found [] 0)
     -- 13 "An action with two holding effects on fluent 0, values 1 then 2: gives 1"
@@ -175,44 +175,44 @@ abbrev pub further : List (Type 0)
 further =
     -- 4 "steps of either; final if either is"
     -- act 1 | act 0, D 1: the second where the first is not possible
-    ((planOf (sheetOf 1 (act 1 ∷ act 0 ∷ alt 0 1 ∷ [])) ≡ found (0 ∷ []) 1)
+    ((planOf (sheetOf 1 (act 1 ∷ act 0 ∷ choice 0 1 ∷ [])) ≡ found (0 ∷ []) 1)
     -- act 0 | nil, D 2: no move or one, where act 0 together with nil takes one and star(act 0) also two
-    × (replayOf (sheetOf 2 (act 0 ∷ nil ∷ alt 0 1 ∷ [])) [] ≡ replied true)
-    × (replayOf (sheetOf 2 (act 0 ∷ nil ∷ alt 0 1 ∷ [])) (0 ∷ []) ≡ replied true)
-    × (replayOf (sheetOf 2 (act 0 ∷ nil ∷ alt 0 1 ∷ [])) (0 ∷ 0 ∷ []) ≡ replied false)
-    × (replayOf (sheetOf 2 (act 0 ∷ nil ∷ conc 0 1 ∷ [])) [] ≡ replied false)
+    × (replayOf (sheetOf 2 (act 0 ∷ nil ∷ choice 0 1 ∷ [])) [] ≡ replied true)
+    × (replayOf (sheetOf 2 (act 0 ∷ nil ∷ choice 0 1 ∷ [])) (0 ∷ []) ≡ replied true)
+    × (replayOf (sheetOf 2 (act 0 ∷ nil ∷ choice 0 1 ∷ [])) (0 ∷ 0 ∷ []) ≡ replied false)
+    × (replayOf (sheetOf 2 (act 0 ∷ nil ∷ together 0 1 ∷ [])) [] ≡ replied false)
     × (replayOf (sheetOf 2 (act 0 ∷ star 0 ∷ [])) (0 ∷ 0 ∷ []) ≡ replied true)
     -- (nil | act 0); test 1, D 2: the test does not hold before act 0 and holds after it
-    × (planOf (sheetOf 2 (nil ∷ act 0 ∷ alt 0 1 ∷ test 1 ∷ seq 2 3 ∷ [])) ≡ found (0 ∷ []) 2))
+    × (planOf (sheetOf 2 (nil ∷ act 0 ∷ choice 0 1 ∷ test 1 ∷ sequence 2 3 ∷ [])) ≡ found (0 ∷ []) 2))
     -- 6 "steps and finality of the branch that c picks now"
     -- if formula 0 then act 0 else nil, D 1: the condition takes no transition, and the end of the branch not picked does not count
-    ∷ ((planOf (sheetOf 1 (act 0 ∷ nil ∷ ite 0 0 1 ∷ [])) ≡ found (0 ∷ []) 1)
-    × (replayOf (sheetOf 1 (act 0 ∷ nil ∷ ite 0 0 1 ∷ [])) [] ≡ replied false)
+    ∷ ((planOf (sheetOf 1 (act 0 ∷ nil ∷ ifThenElse 0 0 1 ∷ [])) ≡ found (0 ∷ []) 1)
+    × (replayOf (sheetOf 1 (act 0 ∷ nil ∷ ifThenElse 0 0 1 ∷ [])) [] ≡ replied false)
     -- if formula 1 then act 0 else nil, D 1
-    × (planOf (sheetOf 1 (act 0 ∷ nil ∷ ite 1 0 1 ∷ [])) ≡ found [] 0)
-    × (replayOf (sheetOf 1 (act 0 ∷ nil ∷ ite 1 0 1 ∷ [])) (0 ∷ []) ≡ replied false)
+    × (planOf (sheetOf 1 (act 0 ∷ nil ∷ ifThenElse 1 0 1 ∷ [])) ≡ found [] 0)
+    × (replayOf (sheetOf 1 (act 0 ∷ nil ∷ ifThenElse 1 0 1 ∷ [])) (0 ∷ []) ≡ replied false)
     -- act 0; (if formula 1 then act 1 else nil), D 2: the condition does not hold before act 0 and holds after it
-    × (planOf (sheetOf 2 (act 0 ∷ act 1 ∷ nil ∷ ite 1 1 2 ∷ seq 0 3 ∷ [])) ≡ found (0 ∷ 1 ∷ []) 2)
-    × (replayOf (sheetOf 2 (act 0 ∷ act 1 ∷ nil ∷ ite 1 1 2 ∷ seq 0 3 ∷ [])) (0 ∷ []) ≡ replied false))
+    × (planOf (sheetOf 2 (act 0 ∷ act 1 ∷ nil ∷ ifThenElse 1 1 2 ∷ sequence 0 3 ∷ [])) ≡ found (0 ∷ 1 ∷ []) 2)
+    × (replayOf (sheetOf 2 (act 0 ∷ act 1 ∷ nil ∷ ifThenElse 1 1 2 ∷ sequence 0 3 ∷ [])) (0 ∷ []) ≡ replied false))
     -- 8 "either steps, the other stays. Final if both are"
     -- act 0 together with act 2, D 2: both orders, where act 0; act 2 and act 0 over act 2 have only one; not act 0 alone
-    ∷ ((replayOf (sheetTwice 2 (act 0 ∷ act 2 ∷ conc 0 1 ∷ [])) (0 ∷ 2 ∷ []) ≡ replied true)
-    × (replayOf (sheetTwice 2 (act 0 ∷ act 2 ∷ conc 0 1 ∷ [])) (2 ∷ 0 ∷ []) ≡ replied true)
-    × (replayOf (sheetTwice 2 (act 0 ∷ act 2 ∷ seq 0 1 ∷ [])) (2 ∷ 0 ∷ []) ≡ replied false)
-    × (replayOf (sheetTwice 2 (act 0 ∷ act 2 ∷ prio 0 1 ∷ [])) (2 ∷ 0 ∷ []) ≡ replied false)
-    × (replayOf (sheetTwice 2 (act 0 ∷ act 2 ∷ conc 0 1 ∷ [])) (0 ∷ []) ≡ replied false)
+    ∷ ((replayOf (sheetTwice 2 (act 0 ∷ act 2 ∷ together 0 1 ∷ [])) (0 ∷ 2 ∷ []) ≡ replied true)
+    × (replayOf (sheetTwice 2 (act 0 ∷ act 2 ∷ together 0 1 ∷ [])) (2 ∷ 0 ∷ []) ≡ replied true)
+    × (replayOf (sheetTwice 2 (act 0 ∷ act 2 ∷ sequence 0 1 ∷ [])) (2 ∷ 0 ∷ []) ≡ replied false)
+    × (replayOf (sheetTwice 2 (act 0 ∷ act 2 ∷ over 0 1 ∷ [])) (2 ∷ 0 ∷ []) ≡ replied false)
+    × (replayOf (sheetTwice 2 (act 0 ∷ act 2 ∷ together 0 1 ∷ [])) (0 ∷ []) ≡ replied false)
     -- (act 0 together with act 2); test 1, D 3: the test holds after act 0 and does not after act 2
-    × (planOf (sheetTwice 3 (act 0 ∷ act 2 ∷ conc 0 1 ∷ test 1 ∷ seq 2 3 ∷ [])) ≡ found (2 ∷ 0 ∷ []) 3))
+    × (planOf (sheetTwice 3 (act 0 ∷ act 2 ∷ together 0 1 ∷ test 1 ∷ sequence 2 3 ∷ [])) ≡ found (2 ∷ 0 ∷ []) 3))
     -- 10 "a step of a leaves (rest together with the iteration). Always final"
     -- (iteration of act 0); act 1, D 2: final after a round
-    ∷ ((planOf (sheetOf 2 (act 0 ∷ iter 0 ∷ act 1 ∷ seq 1 2 ∷ [])) ≡ found (0 ∷ 1 ∷ []) 2)
+    ∷ ((planOf (sheetOf 2 (act 0 ∷ iteration 0 ∷ act 1 ∷ sequence 1 2 ∷ [])) ≡ found (0 ∷ 1 ∷ []) 2)
     -- iteration of (act 0; act 2), D 4: rounds interleave, where those of star do not; each round ends
-    × (replayOf (sheetTwice 4 (act 0 ∷ act 2 ∷ seq 0 1 ∷ iter 2 ∷ [])) (0 ∷ 0 ∷ 2 ∷ 2 ∷ []) ≡ replied true)
-    × (replayOf (sheetTwice 4 (act 0 ∷ act 2 ∷ seq 0 1 ∷ star 2 ∷ [])) (0 ∷ 0 ∷ 2 ∷ 2 ∷ []) ≡ replied false)
-    × (replayOf (sheetTwice 4 (act 0 ∷ act 2 ∷ seq 0 1 ∷ iter 2 ∷ [])) (0 ∷ 0 ∷ 2 ∷ []) ≡ replied false)
+    × (replayOf (sheetTwice 4 (act 0 ∷ act 2 ∷ sequence 0 1 ∷ iteration 2 ∷ [])) (0 ∷ 0 ∷ 2 ∷ 2 ∷ []) ≡ replied true)
+    × (replayOf (sheetTwice 4 (act 0 ∷ act 2 ∷ sequence 0 1 ∷ star 2 ∷ [])) (0 ∷ 0 ∷ 2 ∷ 2 ∷ []) ≡ replied false)
+    × (replayOf (sheetTwice 4 (act 0 ∷ act 2 ∷ sequence 0 1 ∷ iteration 2 ∷ [])) (0 ∷ 0 ∷ 2 ∷ []) ≡ replied false)
     -- iteration of (act 0 | (act 2; test 1)), D 3: the test does not hold after act 2 and holds after another round's act 0
-    × (replayOf (sheetTwice 3 (act 0 ∷ act 2 ∷ test 1 ∷ seq 1 2 ∷ alt 0 3 ∷ iter 4 ∷ [])) (2 ∷ 0 ∷ []) ≡ replied true)
-    × (replayOf (sheetTwice 3 (act 0 ∷ act 2 ∷ test 1 ∷ seq 1 2 ∷ alt 0 3 ∷ star 4 ∷ [])) (2 ∷ 0 ∷ []) ≡ replied false))
+    × (replayOf (sheetTwice 3 (act 0 ∷ act 2 ∷ test 1 ∷ sequence 1 2 ∷ choice 0 3 ∷ iteration 4 ∷ [])) (2 ∷ 0 ∷ []) ≡ replied true)
+    × (replayOf (sheetTwice 3 (act 0 ∷ act 2 ∷ test 1 ∷ sequence 1 2 ∷ choice 0 3 ∷ star 4 ∷ [])) (2 ∷ 0 ∷ []) ≡ replied false))
     ∷ []
 
 -- n fluents that are always 0, and the root nil

@@ -13,7 +13,7 @@ use Rattle.golog.specs.declared.State.{State}
 use Rattle.golog.specs.World.{World}
 use Rattle.golog.specs.Decoded.{world}
 use Rattle.golog.specs.Prog.{programOf, started}
-use Rattle.golog.specs.Steps.{Config}
+use Rattle.golog.specs.Transitions.{Configuration}
 
 -- the formulas, effects and actions
 abbrev pub worldOf : List ℕ → World
@@ -39,7 +39,7 @@ abbrev pub interruptsIn : List ℕ → Bool
 interruptsIn s = interrupts (recordsOf s) (layoutOf s .p)
 
 -- the first configuration: what runs, and the initial values. "The last program record is the root"
-abbrev pub firstOf : List ℕ → Config
+abbrev pub firstOf : List ℕ → Configuration
 firstOf s = (started (interruptsIn s) (programOf (recordsOf s) (layoutOf s .p - 1)), initialOf s)
 
 -- the bound D

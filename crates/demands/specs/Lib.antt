@@ -1,6 +1,6 @@
 pub mod Decoded
 pub mod Planning
 pub mod Entries
-pub mod Held
+pub mod Compact
 pub mod Raised
 pub mod Cases

@@ -5,7 +5,7 @@ use mathlib.Core.Bool.{Bool}
 use mathlib.Core.List.{List}
 use mathlib.Core.Option.{Option}
 use Rattle.golog.specs.World.{World}
-use Rattle.golog.specs.Steps.{Config, final, steps}
+use Rattle.golog.specs.Transitions.{Configuration, final, transitions}
 use Rattle.golog.specs.Trans.{Trans, Final}
 use Rattle.runs.specs.Runs.{Run, LongRun, Legal, FinalRun, NoneAtAll, NoneWithin}
 use Rattle.runs.specs.Search.{Verdict, plan, nothing, more, search}
@@ -16,18 +16,18 @@ use Rattle.sheet.specs.declared.Checked.the-variants.{Accepted, Refused}
 use Rattle.demands.specs.Decoded.{worldOf, firstOf, boundOf}
 
 -- the paper's relation between configurations, and which are final
-abbrev pub Goes : World → Config → Option ℕ → Config → Type 0
+abbrev pub Goes : World → Configuration → Option ℕ → Configuration → Type 0
 Goes W c m d = Trans W (c .0) (c .1) m (d .0) (d .1)
 
-abbrev pub Ends : World → Config → Type 0
+abbrev pub Ends : World → Configuration → Type 0
 Ends W c = Final W (c .0) (c .1)
 
 -- the same, computed
-abbrev pub movesIn : World → Config → List (Option ℕ × Config)
-movesIn W c = steps W (c .0) (c .1)
+abbrev pub transitionsIn : World → Configuration → List (Option ℕ × Configuration)
+transitionsIn W c = transitions W (c .0) (c .1)
 
-abbrev pub finalIn : World → Config → Bool
-finalIn W c = final W (c .0) (c .1)
+abbrev pub isFinalIn : World → Configuration → Bool
+isFinalIn W c = final W (c .0) (c .1)
 
 -- what the mission says of a sheet's runs: "some run of at most D transitions ends final", "makes exactly those moves and ends
 -- final", "no run has D + 1", "some run has D + 1"
@@ -47,46 +47,46 @@ NoPlanWithinBound s = NoneWithin (Goes (worldOf s)) (Ends (worldOf s)) (boundOf 
 
 -- no run of any length ends final
 abbrev pub NoRunEndsFinal : List ℕ → Type 0
-NoRunEndsFinal s = (n : ℕ) (h : List ℕ) (d : Config) → Run (Goes (worldOf s)) n (firstOf s) h d → ¬ Ends (worldOf s) d
+NoRunEndsFinal s = (n : ℕ) (h : List ℕ) (d : Configuration) → Run (Goes (worldOf s)) n (firstOf s) h d → ¬ Ends (worldOf s) d
 
 -- some run of exactly t transitions has history h and ends final
 abbrev pub RunOf : List ℕ → List ℕ → ℕ → Type 0
-RunOf s h t = (d : Config) × Run (Goes (worldOf s)) t (firstOf s) h d × Ends (worldOf s) d
+RunOf s h t = (d : Configuration) × Run (Goes (worldOf s)) t (firstOf s) h d × Ends (worldOf s) d
 
 -- the verdict on an accepted sheet: a plan, 13 or 14
 unfoldable pub verdictOf : List ℕ → Verdict
-verdictOf s = search (movesIn (worldOf s)) (finalIn (worldOf s)) (boundOf s) (firstOf s)
+verdictOf s = search (transitionsIn (worldOf s)) (isFinalIn (worldOf s)) (boundOf s) (firstOf s)
 
 -- whether a history is accepted on an accepted sheet
 unfoldable pub acceptsOf : List ℕ → List ℕ → Bool
-acceptsOf s h = accepts (movesIn (worldOf s)) (finalIn (worldOf s)) (boundOf s) (firstOf s) h
+acceptsOf s h = accepts (transitionsIn (worldOf s)) (isFinalIn (worldOf s)) (boundOf s) (firstOf s) h
 
 -- what planning answers, the lent areas being long enough: a history with its transitions, or a number and a place
-pub data Planned : Type 0 where
-  found : (history : List ℕ) → (t : ℕ) → Planned
-  refused : (number place : ℕ) → Planned
+pub data PlanAnswer : Type 0 where
+  found : (history : List ℕ) → (t : ℕ) → PlanAnswer
+  refused : (number place : ℕ) → PlanAnswer
 
 -- 13, "none at all"; 14, "none within the bound"
-abbrev pub answer : Verdict → Planned
+abbrev pub answer : Verdict → PlanAnswer
 answer (plan h t) = found h t
 answer nothing = refused 13 0
 answer more = refused 14 0
 
-abbrev pub plannedFrom : List ℕ → Checked → Planned
+abbrev pub plannedFrom : List ℕ → Checked → PlanAnswer
 plannedFrom s (Accepted w) = answer (verdictOf s)
 plannedFrom s (Refused n p) = refused n p
 
-unfoldable pub planOf : List ℕ → Planned
+unfoldable pub planOf : List ℕ → PlanAnswer
 planOf s = plannedFrom s (checkOf s)
 
 -- what replay answers, work being long enough: yes or no, or a number and a place
-pub data Replayed : Type 0 where
-  replied : (yes : Bool) → Replayed
-  refused : (number place : ℕ) → Replayed
+pub data ReplayAnswer : Type 0 where
+  replied : (yes : Bool) → ReplayAnswer
+  refused : (number place : ℕ) → ReplayAnswer
 
-abbrev pub replayedFrom : List ℕ → List ℕ → Checked → Replayed
+abbrev pub replayedFrom : List ℕ → List ℕ → Checked → ReplayAnswer
 replayedFrom s h (Accepted w) = replied (acceptsOf s h)
 replayedFrom s h (Refused n p) = refused n p
 
-unfoldable pub replayOf : List ℕ → List ℕ → Replayed
+unfoldable pub replayOf : List ℕ → List ℕ → ReplayAnswer
 replayOf s h = replayedFrom s h (checkOf s)

@@ -8,9 +8,9 @@ use native.Mathlib.Omega.{arith}
 use lib.Dec.{eqb}
 use lib.ListN.{getD}
 use borrow.Author.Tests.{eq-eqb, ne-eqb}
-use Rattle.held.specs.Rest.{Rest, gone, leaf, node, nodes}
-use Rattle.held.specs.Leaves.{goesRight}
-use Rattle.ends.specs.Ends.{finalIn, countIn, soonIn, joined, Totalled}
+use Rattle.remaining.specs.Rest.{Rest, gone, leaf, node, nodes}
+use Rattle.remaining.specs.Leaves.{goesRight}
+use Rattle.ends.specs.Ends.{finalByTable, countByTable, soonByTable, joined, Totalled}
 use Rattle.ends.specs.declared.Totals.{Totals}
 
 -- the right part goes by the construct
@@ -24,24 +24,24 @@ pub goes-idle : (tag : ℕ) (final idle : Bool) → (tag ≡ 3 → ⊥) → (tag
 goes-idle tag final idle n n8 = rw (ne-eqb tag 3 n, ne-eqb tag 8 n8)
 
 module _ (finals : List Bool) where
-  pub final-gone : {g : Rest} → g ≡ gone → true ≡ finalIn finals g
-  unfolding finalIn
-  final-gone e = ap (finalIn finals) (sym e)
+  pub final-gone : {g : Rest} → g ≡ gone → true ≡ finalByTable finals g
+  unfolding finalByTable
+  final-gone e = ap (finalByTable finals) (sym e)
 
-  pub final-leaf : {g : Rest} {x : Bool} {i j : ℕ} → g ≡ leaf j → i ≡ j → x ≡ getD finals i true → x ≡ finalIn finals g
-  unfolding finalIn
-  final-leaf e ei ex = ex ∙ ap (λ (n : ℕ). getD finals n true) ei ∙ ap (finalIn finals) (sym e)
+  pub final-leaf : {g : Rest} {x : Bool} {i j : ℕ} → g ≡ leaf j → i ≡ j → x ≡ getD finals i true → x ≡ finalByTable finals g
+  unfolding finalByTable
+  final-leaf e ei ex = ex ∙ ap (λ (n : ℕ). getD finals n true) ei ∙ ap (finalByTable finals) (sym e)
 
-  module _ {g l r : Rest} {tag : ℕ} (e : g ≡ node tag l r) {x : Bool} (ex : x ≡ finalIn finals l) where
-    pub final-both : {y : Bool} → y ≡ finalIn finals r → (x && y) ≡ finalIn finals g
-    unfolding finalIn
-    final-both ey = ap₂ _&&_ ex ey ∙ ap (finalIn finals) (sym e)
+  module _ {g l r : Rest} {tag : ℕ} (e : g ≡ node tag l r) {x : Bool} (ex : x ≡ finalByTable finals l) where
+    pub final-both : {y : Bool} → y ≡ finalByTable finals r → (x && y) ≡ finalByTable finals g
+    unfolding finalByTable
+    final-both ey = ap₂ _&&_ ex ey ∙ ap (finalByTable finals) (sym e)
 
-    pub final-second : {y : Bool} → x ≡ true → y ≡ finalIn finals r → y ≡ finalIn finals g
+    pub final-second : {y : Bool} → x ≡ true → y ≡ finalByTable finals r → y ≡ finalByTable finals g
     final-second {y} z ey = ap (λ (b : Bool). b && y) (sym z) ∙ final-both ey
 
-    pub final-first : x ≡ false → false ≡ finalIn finals g
-    final-first z = ap (λ (b : Bool). b && finalIn finals r) (sym z) ∙ final-both refl
+    pub final-first : x ≡ false → false ≡ finalByTable finals g
+    final-first z = ap (λ (b : Bool). b && finalByTable finals r) (sym z) ∙ final-both refl
 
 -- what is added is no more than there is
 pub part-few : (b : Bool) (n : ℕ) → cond b n 0 ≤ n
@@ -50,25 +50,25 @@ part-few false n = omega arith
 
 module _ (finals endable : List Bool) (counts : List ℕ) where
   pub total-gone : {g : Rest} → g ≡ gone → Totalled finals endable counts g (record { done = true; endable = true; count = 0; soon = false })
-  unfolding countIn soonIn
+  unfolding countByTable soonByTable
   total-gone e = record {
     done-is = final-gone finals e;
     endable-is = final-gone endable e;
-    count-is = ap (countIn finals counts) (sym e);
-    soon-is = ap (soonIn finals endable counts) (sym e);
+    count-is = ap (countByTable finals counts) (sym e);
+    soon-is = ap (soonByTable finals endable counts) (sym e);
     few = omega arith;
   }
 
   pub total-leaf : {g : Rest} {n i j : ℕ} {x y : Bool} → g ≡ leaf j → i ≡ j → n ≡ getD counts i 0 → n ≤ 4294967295 → x ≡ getD finals i true → y ≡ getD endable i true
       → Totalled finals endable counts g (record { done = x; endable = y; count = n; soon = not (eqb n 0) })
-  unfolding countIn soonIn nodes
+  unfolding countByTable soonByTable nodes
   total-leaf {n = n} {j = j} e ei en small ex ey =
       let k : n ≡ getD counts j 0 = en ∙ ap (λ (i : ℕ). getD counts i 0) ei in
       record {
         done-is = final-leaf finals e ei ex;
         endable-is = final-leaf endable e ei ey;
-        count-is = k ∙ ap (countIn finals counts) (sym e);
-        soon-is = ap (λ (n : ℕ). not (eqb n 0)) k ∙ ap (soonIn finals endable counts) (sym e);
+        count-is = k ∙ ap (countByTable finals counts) (sym e);
+        soon-is = ap (λ (n : ℕ). not (eqb n 0)) k ∙ ap (soonByTable finals endable counts) (sym e);
         few = omega (arith, ap nodes e);
       }
 
@@ -77,20 +77,20 @@ module _ (finals endable : List Bool) (counts : List ℕ) where
     unfolding nodes
     total-few = omega (arith, ap nodes e, F .few, G .few)
 
-    goes-is : goesRight tag (x .done) (eqb (x .count) 0) ≡ goesRight tag (finalIn finals l) (eqb (countIn finals counts l) 0)
+    goes-is : goesRight tag (x .done) (eqb (x .count) 0) ≡ goesRight tag (finalByTable finals l) (eqb (countByTable finals counts l) 0)
     goes-is = ap₂ (λ (d : Bool) (n : ℕ). goesRight tag d (eqb n 0)) (F .done-is) (F .count-is)
 
     pub total-node : Totalled finals endable counts g (joined tag x y)
-    unfolding countIn soonIn
+    unfolding countByTable soonByTable
     total-node = record {
       done-is = final-both finals e (F .done-is) (G .done-is);
       endable-is = final-both endable e (F .endable-is) (G .endable-is);
       count-is =
           ap₂ (λ (b : Bool) (m : ℕ). x .count + cond b m 0) goes-is (G .count-is)
-          ∙ ap (λ (n : ℕ). n + cond (goesRight tag (finalIn finals l) (eqb (countIn finals counts l) 0)) (countIn finals counts r) 0) (F .count-is)
-          ∙ ap (countIn finals counts) (sym e);
+          ∙ ap (λ (n : ℕ). n + cond (goesRight tag (finalByTable finals l) (eqb (countByTable finals counts l) 0)) (countByTable finals counts r) 0) (F .count-is)
+          ∙ ap (countByTable finals counts) (sym e);
       soon-is =
           ap₂ _||_ (ap₂ _&&_ (F .soon-is) (G .endable-is)) (ap₂ _&&_ (ap₂ _&&_ goes-is (F .endable-is)) (G .soon-is))
-          ∙ ap (soonIn finals endable counts) (sym e);
+          ∙ ap (soonByTable finals endable counts) (sym e);
       few = omega (arith, total-few, part-few (goesRight tag (x .done) (eqb (x .count) 0)) (y .count));
     }

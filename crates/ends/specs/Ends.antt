@@ -8,30 +8,30 @@ use mathlib.Core.List.{List}
 use lib.Dec.{eqb}
 use lib.ListN.{getD}
 use Rattle.records.specs.declared.Program.{Program}
-use Rattle.held.specs.Rest.{Rest, gone, leaf, node, nodes, largest, high}
-use Rattle.held.specs.Leaves.{goesRight}
+use Rattle.remaining.specs.Rest.{Rest, gone, leaf, node, nodes, largest, high}
+use Rattle.remaining.specs.Leaves.{goesRight}
 use Rattle.ends.specs.declared.Totals.{Totals}
 
 -- final: a construct, where both parts are
-unfoldable pub finalIn : (finals : List Bool) → Rest → Bool
-finalIn finals gone = true
-finalIn finals (leaf i) = getD finals i true
-finalIn finals (node tag l r) = finalIn finals l && finalIn finals r
+unfoldable pub finalByTable : (finals : List Bool) → Rest → Bool
+finalByTable finals gone = true
+finalByTable finals (leaf i) = getD finals i true
+finalByTable finals (node tag l r) = finalByTable finals l && finalByTable finals r
 
 -- how many transitions: those of the left part, and of the right one where it goes
-unfoldable pub countIn : (finals : List Bool) (counts : List ℕ) → Rest → ℕ
-countIn finals counts gone = 0
-countIn finals counts (leaf i) = getD counts i 0
-countIn finals counts (node tag l r) =
-    countIn finals counts l + cond (goesRight tag (finalIn finals l) (eqb (countIn finals counts l) 0)) (countIn finals counts r) 0
+unfoldable pub countByTable : (finals : List Bool) (counts : List ℕ) → Rest → ℕ
+countByTable finals counts gone = 0
+countByTable finals counts (leaf i) = getD counts i 0
+countByTable finals counts (node tag l r) =
+    countByTable finals counts l + cond (goesRight tag (finalByTable finals l) (eqb (countByTable finals counts l) 0)) (countByTable finals counts r) 0
 
 -- a transition may leave what is final in some state: one of a part, beside the other part as it is
-unfoldable pub soonIn : (finals endable : List Bool) (counts : List ℕ) → Rest → Bool
-soonIn finals endable counts gone = false
-soonIn finals endable counts (leaf i) = not (eqb (getD counts i 0) 0)
-soonIn finals endable counts (node tag l r) =
-    (soonIn finals endable counts l && finalIn endable r)
-    || (goesRight tag (finalIn finals l) (eqb (countIn finals counts l) 0) && finalIn endable l && soonIn finals endable counts r)
+unfoldable pub soonByTable : (finals endable : List Bool) (counts : List ℕ) → Rest → Bool
+soonByTable finals endable counts gone = false
+soonByTable finals endable counts (leaf i) = not (eqb (getD counts i 0) 0)
+soonByTable finals endable counts (node tag l r) =
+    (soonByTable finals endable counts l && finalByTable endable r)
+    || (goesRight tag (finalByTable finals l) (eqb (countByTable finals counts l) 0) && finalByTable endable l && soonByTable finals endable counts r)
 
 -- the totals of a construct, from those of its parts
 abbrev pub joined : (tag : ℕ) → Totals → Totals → Totals
@@ -44,13 +44,13 @@ joined tag l r = record {
 
 -- the totals are those of g; a count fits a word, so they are few enough to add
 pub record Totalled (finals endable : List Bool) (counts : List ℕ) (g : Rest) (t : Totals) : Type 0 where
-  pub done-is : t .done ≡ finalIn finals g
-  pub endable-is : t .endable ≡ finalIn endable g
-  pub count-is : t .count ≡ countIn finals counts g
-  pub soon-is : t .soon ≡ soonIn finals endable counts g
+  pub done-is : t .done ≡ finalByTable finals g
+  pub endable-is : t .endable ≡ finalByTable endable g
+  pub count-is : t .count ≡ countByTable finals counts g
+  pub soon-is : t .soon ≡ soonByTable finals endable counts g
   pub few : t .count ≤ 4294967295 * nodes g
 
 -- its records are among the first m of the table p, and low enough for their counts to be exact
-pub record Within (p : ℕ → Program) (m : ℕ) (g : Rest) : Type 0 where
+pub record InTable (p : ℕ → Program) (m : ℕ) (g : Rest) : Type 0 where
   pub number : largest (λ (i : ℕ). i) g < m
   pub height : high p g ≤ 18

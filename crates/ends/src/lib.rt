@@ -3,15 +3,15 @@ ghost use mathlib.Core.Path.{_≡_};
 ghost use mathlib.Core.Bool.{cond};
 ghost use Prim.Native.Nat.{_+_, _^_, _≤_, _<_};
 ghost use lib.ListN.{length};
-ghost use Rattle.held.specs.Rest.{Rest};
-ghost use Rattle.held.specs.Leaves.{goesRight};
-ghost use Rattle.words.specs.Words.{At, Holds};
-ghost use Rattle.ends.specs.Ends.{finalIn, joined, Totalled};
+ghost use Rattle.remaining.specs.Rest.{Rest};
+ghost use Rattle.remaining.specs.Leaves.{goesRight};
+ghost use Rattle.words.specs.Words.{At, Stands};
+ghost use Rattle.ends.specs.Ends.{finalByTable, joined, Totalled};
 
 // Whether the remaining program at `at` is final.
 pub fn final_rest(finals: &[bool], work: &[u32], at: usize) -> bool
-    requires { ⌜ Holds (now work) at ⌝ }
-    ensures { λ r. ⌜ ((g : Rest) → At g (now (work .entry)) at → r ≡ finalIn (now (finals .entry)) g) ⌝ }
+    requires { ⌜ Stands (now work) at ⌝ }
+    ensures { λ r. ⌜ ((g : Rest) → At g (now (work .entry)) at → r ≡ finalByTable (now (finals .entry)) g) ⌝ }
 {
     let tag = words::tag_at(work, at);
     if tag == 0 {
@@ -84,7 +84,7 @@ pub fn total_rest(
     work: &[u32],
     at: usize,
 ) -> Totals
-    requires { ⌜ Holds (now work) at ⌝ }
+    requires { ⌜ Stands (now work) at ⌝ }
     requires { ⌜ length (now work) < 2 ^ 32 ⌝ }
     ensures { λ r. ⌜ ((g : Rest) → At g (now (work .entry)) at → Totalled (now (finals .entry)) (now (endable .entry)) (now (counts .entry)) g r) ⌝ }
 {

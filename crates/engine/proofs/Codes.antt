@@ -4,7 +4,7 @@ use native.Mathlib.Omega.{arith}
 use mathlib.Core.List.{List}
 use mathlib.Core.Option.{Option, none, some}
 use mathlib.Core.Path.{_≡_, refl, sym, ap, subst}
-use Rattle.engine.specs.Going.{Known, Action, Coded}
+use Rattle.engine.specs.Going.{Known, IsAction, Coded}
 
 module _ {s : List ℕ} {e : ℕ} where
   pub test-of : (m : Option ℕ) → Coded s e m → e ≡ 65536 → m ≡ none
@@ -15,5 +15,5 @@ module _ {s : List ℕ} {e : ℕ} where
   move-of none c z = absurd (z (c .entry-is))
   move-of (some a) c z = ap some (sym (c .entry-is))
 
-  pub action-of-code : (m : Option ℕ) → Coded s e m → ¬ (e ≡ 65536) → Action s e
-  action-of-code m c z = subst (Known (Action s)) (move-of m c z) (c .known)
+  pub action-of-code : (m : Option ℕ) → Coded s e m → ¬ (e ≡ 65536) → IsAction s e
+  action-of-code m c z = subst (Known (IsAction s)) (move-of m c z) (c .known)

@@ -14,17 +14,17 @@ use Rattle.sheet.specs.Check.{Accepts}
 use Rattle.sheet.proofs.Accepted.{ruled, laid}
 use Rattle.golog.specs.declared.State.{State}
 use Rattle.golog.specs.World.{World}
-use Rattle.golog.specs.Steps.{Config}
+use Rattle.golog.specs.Transitions.{Configuration}
 use Rattle.golog.specs.Prog.{Prog}
-use Rattle.held.specs.Rest.{full, nodes, high, largest}
-use Rattle.held.specs.Leaves.{Move, restSteps}
-use Rattle.held.specs.Extended.{top}
-use Rattle.held.proofs.Nodes.{step-nodes, step-high, step-number}
+use Rattle.remaining.specs.Rest.{unfolded, nodes, high, largest}
+use Rattle.remaining.specs.Leaves.{RestTransition, restTransitions}
+use Rattle.remaining.specs.Extended.{top}
+use Rattle.remaining.proofs.Nodes.{step-nodes, step-high, step-number}
 use Rattle.demands.specs.Decoded.{interruptsIn, firstOf, boundOf}
-use Rattle.demands.specs.Held.{heldRecords, heldFirst, levelsOf}
-use Rattle.demands.proofs.Held.{all-lower, starts, top-levels}
-use Rattle.leaves.specs.Tallies.{places}
-use Rattle.words.specs.Words.{At, Holds, Kept, Room}
+use Rattle.demands.specs.Compact.{extendedRecords, compactFirst, levelsOf}
+use Rattle.demands.proofs.Compact.{all-lower, starts, top-levels}
+use Rattle.leaves.specs.Tallies.{extendedSize}
+use Rattle.words.specs.Words.{At, Stands, Kept, Room}
 use Rattle.words.proofs.Standing.{at-unique}
 use Rattle.words.proofs.Moved.{at-kept}
 use Rattle.engine.specs.Frames.{frameOf, Frame}
@@ -34,7 +34,7 @@ module _ {s w : List ℕ} {left at : ℕ} {p : Prog} (F : Frame s left w at p) w
   pub in-frame : (at + 64 + 3 * nodes (F .rest) ≤ at + frameOf s) × (at + frameOf s ≤ length w)
   in-frame = let r = F .roomy in (omega (arith, r .large), omega (arith, r .inside))
 
-  pub frame-holds : Holds w (at + 64)
+  pub frame-holds : Stands w (at + 64)
   frame-holds = record { rest = F .rest; at = F .words-are }
 
   -- words of later frames do not matter
@@ -58,7 +58,7 @@ module _ {s w : List ℕ} {left at : ℕ} {p : Prog} (F : Frame s left w at p) w
   -- one program stands in a frame
   pub frame-same : {left′ : ℕ} {q : Prog} → Frame s left′ w at q → p ≡ q
   frame-same G =
-      sym (F .stands-for) ∙ ap (full (heldRecords s)) (at-unique (F .rest) (G .rest) w (at + 64) (F .words-are) (G .words-are)) ∙ G .stands-for
+      sym (F .stands-for) ∙ ap (unfolded (extendedRecords s)) (at-unique (F .rest) (G .rest) w (at + 64) (F .words-are) (G .words-are)) ∙ G .stands-for
 
 module _ {s w : List ℕ} {left at : ℕ} {p : Prog} (F : Frame s (suc left) w at p) where
   -- the next frame lies in the words
@@ -68,21 +68,21 @@ module _ {s w : List ℕ} {left at : ℕ} {p : Prog} (F : Frame s (suc left) w a
   one-step : 64 + 3 * (nodes (F .rest) + 2 * levelsOf s) ≤ frameOf s
   one-step = omega (arith, F .roomy .large, mul-suc (2 * levelsOf s) left)
 
-  pub step-room : Room w (at + frameOf s + 64) (nodes (F .rest) + 2 * high (heldRecords s) (F .rest))
+  pub step-room : Room w (at + frameOf s + 64) (nodes (F .rest) + 2 * high (extendedRecords s) (F .rest))
   step-room =
       let r = F .roomy in
       record { inside = omega (arith, one-step, next-inside, r .high-is); small = r .small }
 
   -- what a transition leaves stands in the next frame
   pub next-frame :
-      (accepted : Accepts s) (W : World) (st : State) (x : Move) (w′ : List ℕ)
-      → List·Memᴰ x (restSteps W st (heldRecords s) (F .rest))
+      (accepted : Accepts s) (W : World) (st : State) (x : RestTransition) (w′ : List ℕ)
+      → List·Memᴰ x (restTransitions W st (extendedRecords s) (F .rest))
       → length w′ ≡ length w
       → At (x .1) w′ (at + frameOf s + 64)
-      → Frame s left w′ (at + frameOf s) (full (heldRecords s) (x .1))
+      → Frame s left w′ (at + frameOf s) (unfolded (extendedRecords s) (x .1))
   next-frame accepted W st x w′ mem len a =
       let r = F .roomy in
-      let records = heldRecords s in
+      let records = extendedRecords s in
       let low = all-lower s accepted in
       let few = step-nodes W st records low (F .rest) x mem in
       let lower = step-high W st records low (F .rest) x mem in
@@ -109,13 +109,13 @@ levels-low : (s : List ℕ) → Accepts s → levelsOf s ≤ 18
 unfolding levels
 levels-low s accepted = omega (arith, ruled s accepted .height, at-most-two (interruptsIn s))
 
-top-inside : (b : Bool) (n : ℕ) → 1 ≤ n → top b n < places b n
+top-inside : (b : Bool) (n : ℕ) → 1 ≤ n → top b n < extendedSize b n
 top-inside true n l = omega arith
 top-inside false n l = omega arith
 
 -- the first frame has room for as many transitions as the bound, by document 01's figure
 pub first-frame :
-    {s w : List ℕ} → Accepts s → length w ≡ workWords (levelsOf s) (boundOf s) → At (heldFirst s .0) w 64 → Frame s (boundOf s) w 0 (firstOf s .0)
+    {s w : List ℕ} → Accepts s → length w ≡ workWords (levelsOf s) (boundOf s) → At (compactFirst s .0) w 64 → Frame s (boundOf s) w 0 (firstOf s .0)
 unfolding nodes largest
 first-frame {s} {w} accepted len a =
     let f = laid s accepted in
@@ -127,8 +127,8 @@ first-frame {s} {w} accepted len a =
     let top-high = top-levels s accepted in
     let all : (d + 1) * frameOf s ≡ frameOf s + frameOf s * d = add-mul d 1 (frameOf s) ∙ omega (arith, mul-comm d (frameOf s), one-mul (frameOf s)) in
     record {
-      rest = heldFirst s .0;
-      stands-for = ap (λ (c : Config). c .0) (starts s accepted);
+      rest = compactFirst s .0;
+      stands-for = ap (λ (c : Configuration). c .0) (starts s accepted);
       words-are = a;
       roomy =
           record {

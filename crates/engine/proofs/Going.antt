@@ -13,13 +13,13 @@ use Rattle.sheet.specs.Check.{Accepts}
 use Rattle.golog.specs.declared.State.{State}
 use Rattle.golog.specs.World.{after}
 use Rattle.golog.specs.Prog.{Prog}
-use Rattle.golog.specs.Steps.{Config, Step, isNone, steps}
-use Rattle.held.specs.Rest.{Rest, full}
-use Rattle.held.specs.Leaves.{Move, restSteps}
-use Rattle.held.proofs.Same.{rest-steps}
+use Rattle.golog.specs.Transitions.{Configuration, Transition, isNone, transitions}
+use Rattle.remaining.specs.Rest.{Rest, unfolded}
+use Rattle.remaining.specs.Leaves.{RestTransition, restTransitions}
+use Rattle.remaining.proofs.Same.{rest-steps}
 use Rattle.demands.specs.Decoded.{worldOf}
-use Rattle.demands.specs.Held.{heldRecords}
-use Rattle.demands.proofs.Held.{all-lower}
+use Rattle.demands.specs.Compact.{extendedRecords}
+use Rattle.demands.proofs.Compact.{all-lower}
 use Rattle.steps.proofs.Nth.{nth-map}
 use Rattle.engine.specs.Frames.{Frame}
 use Rattle.engine.specs.Going.{transitionsOf, Ahead}
@@ -32,36 +32,36 @@ drop-nth (a ∷ xs) zero {x} h = let e : a ≡ x = cc in ap (λ (y : _). y ∷ x
 drop-nth (a ∷ xs) (suc k) h = drop-nth xs k h
 
 -- the transitions of a remaining program as it is held
-abbrev pub heldMoves : List ℕ → State → Rest → List Move
-heldMoves s st g = restSteps (worldOf s) st (heldRecords s) g
+abbrev pub heldMoves : List ℕ → State → Rest → List RestTransition
+heldMoves s st g = restTransitions (worldOf s) st (extendedRecords s) g
 
 -- the transition that one of them stands for
-abbrev pub stepOf : List ℕ → State → Move → Step
-stepOf s st x = (x .0, (full (heldRecords s) (x .1), after (worldOf s) (x .0) st))
+abbrev pub stepOf : List ℕ → State → RestTransition → Transition
+stepOf s st x = (x .0, (unfolded (extendedRecords s) (x .1), after (worldOf s) (x .0) st))
 
 module _ {s w : List ℕ} {left at : ℕ} {p : Prog} (accepted : Accepts s) (F : Frame s left w at p) (st : State) where
   pub listed : map (stepOf s st) (heldMoves s st (F .rest)) ≡ transitionsOf s (p, st)
-  listed = rest-steps (worldOf s) st (heldRecords s) (all-lower s accepted) (F .rest) ∙ ap (λ (q : Prog). steps (worldOf s) q st) (F .stands-for)
+  listed = rest-steps (worldOf s) st (extendedRecords s) (all-lower s accepted) (F .rest) ∙ ap (λ (q : Prog). transitions (worldOf s) q st) (F .stands-for)
 
   pub listed-length : length (heldMoves s st (F .rest)) ≡ length (transitionsOf s (p, st))
   listed-length = sym (length-map (heldMoves s st (F .rest)) (stepOf s st)) ∙ ap length listed
 
-  pub listed-nth : (k : ℕ) (x : Move) → getElem? (heldMoves s st (F .rest)) k ≡ some x → getElem? (transitionsOf s (p, st)) k ≡ some (stepOf s st x)
-  listed-nth k x h = subst (λ (xs : List Step). getElem? xs k ≡ some (stepOf s st x)) listed (nth-map (stepOf s st) (heldMoves s st (F .rest)) k h)
+  pub listed-nth : (k : ℕ) (x : RestTransition) → getElem? (heldMoves s st (F .rest)) k ≡ some x → getElem? (transitionsOf s (p, st)) k ≡ some (stepOf s st x)
+  listed-nth k x h = subst (λ (xs : List Transition). getElem? xs k ≡ some (stepOf s st x)) listed (nth-map (stepOf s st) (heldMoves s st (F .rest)) k h)
 
-module _ {s : List ℕ} {c : Config} {k : Cursor} where
-  ahead-length : {xs : List Step} → Ahead s c k xs → length xs ≡ k .end - k .next
+module _ {s : List ℕ} {c : Configuration} {k : Cursor} where
+  ahead-length : {xs : List Transition} → Ahead s c k xs → length xs ≡ k .end - k .next
   ahead-length A = ap length (A .ahead-are) ∙ length-drop (k .next) (transitionsOf s c) ∙ ap (λ (n : ℕ). n - k .next) (sym (A .end-is))
 
-  pub spent-is : (xs : List Step) → Ahead s c k xs → leb (k .end) (k .next) ≡ isNone xs
+  pub spent-is : (xs : List Transition) → Ahead s c k xs → leb (k .end) (k .next) ≡ isNone xs
   spent-is [] A = le-leb (k .end) (k .next) (omega (arith, ahead-length A))
   spent-is (x ∷ xs) A = lt-leb (k .end) (k .next) (omega (arith, ahead-length A))
 
-  module _ {xs : List Step} (A : Ahead s c k xs) where
+  module _ {xs : List Transition} (A : Ahead s c k xs) where
     pub ahead-none : k .end ≤ k .next → xs ≡ []
     ahead-none h = A .ahead-are ∙ drop-of-length-le (transitionsOf s c) {i = k .next} (omega (arith, A .end-is))
 
     -- the transition at the cursor comes first
-    pub ahead-next : (x : Step) → getElem? (transitionsOf s c) (k .next) ≡ some x → xs ≡ x ∷ drop (k .next + 1) (transitionsOf s c)
+    pub ahead-next : (x : Transition) → getElem? (transitionsOf s c) (k .next) ≡ some x → xs ≡ x ∷ drop (k .next + 1) (transitionsOf s c)
     ahead-next x h =
         A .ahead-are ∙ drop-nth (transitionsOf s c) (k .next) h ∙ ap (λ (n : ℕ). x ∷ drop n (transitionsOf s c)) (sym (add-one (k .next)))

@@ -14,21 +14,21 @@ use Rattle.sheet.specs.Layout.{layoutOf, formulasIn, effectsIn, actionsIn, prog
 use Rattle.sheet.specs.declared.Layout.{Layout}
 use Rattle.sheet.proofs.Accepted.{laid}
 use Rattle.golog.specs.declared.State.{State}
-use Rattle.held.specs.Extended.{table}
-use Rattle.held.specs.Leaves.{leafAt}
-use Rattle.held.specs.Rest.{AllLower}
+use Rattle.remaining.specs.Extended.{extended}
+use Rattle.remaining.specs.Leaves.{leafAt}
+use Rattle.remaining.specs.Rest.{AllLower}
 use Rattle.demands.specs.Decoded.{worldOf, interruptsIn}
-use Rattle.demands.specs.Held.{heldRecords}
-use Rattle.demands.proofs.Held.{all-lower}
+use Rattle.demands.specs.Compact.{extendedRecords}
+use Rattle.demands.proofs.Compact.{all-lower}
 use Rattle.state.specs.Truths as truths
 use Rattle.state.specs.Truths.{truthsOf}
 use Rattle.state.proofs.Held.{truths-held}
-use Rattle.leaves.specs.Tallies.{places, counted, countsOf, possibleIn, Tallied}
-use Rattle.leaves.specs.Endable.{Endable, boundsOf, skipsOf, Skips, Decides}
+use Rattle.leaves.specs.Tallies.{extendedSize, cappedCount, countsOf, possibleIn, Tallied}
+use Rattle.leaves.specs.Endable.{Endable, finalBoundsOf, skipsOf, Skips, FinalsKnown}
 use Rattle.leaves.proofs.Marking.{bounds-above, bounds-after, places-few}
 use Rattle.leaves.proofs.Skipping.{skips-settled}
 use Rattle.leaves.proofs.Entries.{finals-whole, counts-whole}
-use Rattle.engine.specs.Tables.{truthsIn, finalsIn, endableIn, countsIn, skipsIn, placesOf, Prepared, Judged, Surveyed}
+use Rattle.engine.specs.Tables.{truthsIn, finalsIn, endableIn, countsIn, skipsIn, extendedSizeOf, Prepared, Judged, Surveyed}
 use Rattle.engine.specs.Frames.{Of}
 use Rattle.engine.specs.declared.Machine.{Machine}
 use Rattle.engine.proofs.Parts.{by-machine, of-machine}
@@ -37,12 +37,12 @@ use Rattle.engine.proofs.Tables.{finals-long, counts-long}
 
 -- the table that runs and its number of records, by the names of a layout
 abbrev pub runs : List ℕ → Layout → (interrupts : Bool) → ℕ → Program
-runs s l b = table b (programAt (programsIn s l)) (l .p)
+runs s l b = extended b (programAt (programsIn s l)) (l .p)
 
 abbrev pub many : Layout → (interrupts : Bool) → ℕ
-many l b = places b (l .p)
+many l b = extendedSize b (l .p)
 
-few-places : {s : List ℕ} {m : Machine} → Of s m → placesOf s ≤ 260
+few-places : {s : List ℕ} {m : Machine} → Of s m → extendedSizeOf s ≤ 260
 few-places {s} O = places-few (interruptsIn s) _ (laid s (O .accepted) .p)
 
 module _ {s : List ℕ} {m : Machine} (O : Of s m) where
@@ -51,35 +51,35 @@ module _ {s : List ℕ} {m : Machine} (O : Of s m) where
 
   -- what the formulas say in a state
   pub truths-told :
-      (st : State) (old : List Bool) {held : List Bool} → held ≡ truthsOf (formulasIn s (m .layout)) (st .values) (m .layout .q) old → truths.Held (worldOf s) st (layoutOf s .q) held
+      (st : State) (old : List Bool) {held : List Bool} → held ≡ truthsOf (formulasIn s (m .layout)) (st .values) (m .layout .q) old → truths.AreTruths (worldOf s) st (layoutOf s .q) held
   truths-told st old {held} e =
       let l = layoutOf s in
       let e₂ = e ∙ ap (λ (l : Layout). truthsOf (formulasIn s l) (st .values) (l .q) old) (O .layout-is) in
-      subst (truths.Held (worldOf s) st (l .q)) (sym e₂) (truths-held (formulasIn s l) (effectsIn s l) (actionsIn s l) st (l .q) old)
+      subst (truths.AreTruths (worldOf s) st (l .q)) (sym e₂) (truths-held (formulasIn s l) (effectsIn s l) (actionsIn s l) st (l .q) old)
 
   -- once told of a sheet
   pub prepared :
       {flags : List Bool} {numbers : List ℕ} (marks : List Bool)
       → length flags ≡ 1032 → length numbers ≡ 521
       → endableIn flags ≡ marks
-      → marks ≡ boundsOf true (runs s (m .layout) (m .interrupts)) (many (m .layout) (m .interrupts))
+      → marks ≡ finalBoundsOf true (runs s (m .layout) (m .interrupts)) (many (m .layout) (m .interrupts))
       → countsIn numbers ≡ replicate 260 0
       → skipsIn numbers ≡ skipsOf (runs s (m .layout) (m .interrupts)) (many (m .layout) (m .interrupts)) marks
       → Prepared s flags numbers
   prepared {flags} {numbers} marks n k e eb ec es =
       let low = all-lower s (O .accepted) in
-      let e₂ = e ∙ of-machine O (λ (l : Layout) (b : Bool) (f : ℕ). marks ≡ boundsOf true (runs s l b) (many l b)) eb in
-      let E : Endable (heldRecords s) (placesOf s) (endableIn flags) = subst (Endable (heldRecords s) (placesOf s)) (sym e₂) (bounds-above (heldRecords s) low (placesOf s)) in
-      let S = skips-settled (heldRecords s) (placesOf s) (endableIn flags) low E in
+      let e₂ = e ∙ of-machine O (λ (l : Layout) (b : Bool) (f : ℕ). marks ≡ finalBoundsOf true (runs s l b) (many l b)) eb in
+      let E : Endable (extendedRecords s) (extendedSizeOf s) (endableIn flags) = subst (Endable (extendedRecords s) (extendedSizeOf s)) (sym e₂) (bounds-above (extendedRecords s) low (extendedSizeOf s)) in
+      let S = skips-settled (extendedRecords s) (extendedSizeOf s) (endableIn flags) low E in
       let e₃ = of-machine O (λ (l : Layout) (b : Bool) (f : ℕ). skipsIn numbers ≡ skipsOf (runs s l b) (many l b) marks) es in
-      let e₄ = e₃ ∙ ap (skipsOf (heldRecords s) (placesOf s)) (sym e) in
+      let e₄ = e₃ ∙ ap (skipsOf (extendedRecords s) (extendedSizeOf s)) (sym e) in
       record {
         flags-long = n;
         numbers-long = k;
         endable = E;
-        none-final = λ i l. ap (λ (x : List Bool). getD x i true) e₂ ∙ bounds-after true (heldRecords s) (placesOf s) i l;
+        none-final = λ i l. ap (λ (x : List Bool). getD x i true) e₂ ∙ bounds-after true (extendedRecords s) (extendedSizeOf s) i l;
         none-counted = λ i l. ap (λ (x : List ℕ). getD x i 0) ec ∙ getD-same 0 260 i;
-        skipping = subst (Skips (heldRecords s) (placesOf s) (endableIn flags)) (sym e₄) S;
+        skipping = subst (Skips (extendedRecords s) (extendedSizeOf s) (endableIn flags)) (sym e₄) S;
       }
 
   module _ {flags : List Bool} {numbers : List ℕ} (P : Prepared s flags numbers) where
@@ -89,60 +89,60 @@ module _ {s : List ℕ} {m : Machine} (O : Of s m) where
         → Skips (runs s (m .layout) (m .interrupts)) (many (m .layout) (m .interrupts)) finals skips
     skips-by finals skips e k =
         by-machine O (λ (l : Layout) (b : Bool) (f : ℕ). Skips (runs s l b) (many l b) finals skips)
-        (subst (λ (x : List Bool). Skips (heldRecords s) (placesOf s) x skips) (sym e)
-        (subst (Skips (heldRecords s) (placesOf s) (endableIn flags)) (sym k) (P .skipping)))
+        (subst (λ (x : List Bool). Skips (extendedRecords s) (extendedSizeOf s) x skips) (sym e)
+        (subst (Skips (extendedRecords s) (extendedSizeOf s) (endableIn flags)) (sym k) (P .skipping)))
 
     prepared-kept : (flags′ : List Bool) → length flags′ ≡ 1032 → endableIn flags′ ≡ endableIn flags → Prepared s flags′ numbers
     prepared-kept flags′ n e = record {
       flags-long = n;
       numbers-long = P .numbers-long;
-      endable = subst (Endable (heldRecords s) (placesOf s)) (sym e) (P .endable);
+      endable = subst (Endable (extendedRecords s) (extendedSizeOf s)) (sym e) (P .endable);
       none-final = λ i l. ap (λ (x : List Bool). getD x i true) e ∙ P .none-final i l;
       none-counted = P .none-counted;
-      skipping = subst (λ (x : List Bool). Skips (heldRecords s) (placesOf s) x (skipsIn numbers)) (sym e) (P .skipping);
+      skipping = subst (λ (x : List Bool). Skips (extendedRecords s) (extendedSizeOf s) x (skipsIn numbers)) (sym e) (P .skipping);
     }
 
     -- told of a state
     pub judged :
         (st : State) (flags′ : List Bool) → length flags′ ≡ 1032 → endableIn flags′ ≡ endableIn flags
-        → truths.Held (worldOf s) st (layoutOf s .q) (truthsIn flags′)
-        → Decides (runs s (m .layout) (m .interrupts)) (many (m .layout) (m .interrupts)) (truthsIn flags′) (st .running) (finalsIn flags′)
+        → truths.AreTruths (worldOf s) st (layoutOf s .q) (truthsIn flags′)
+        → FinalsKnown (runs s (m .layout) (m .interrupts)) (many (m .layout) (m .interrupts)) (truthsIn flags′) (st .running) (finalsIn flags′)
         → ((i : ℕ) → many (m .layout) (m .interrupts) ≤ i → getD (finalsIn flags′) i true ≡ getD (endableIn flags) i true)
         → Judged s st flags′ numbers
     judged st flags′ n e H D A =
         let W = worldOf s in
-        let D₂ = of-machine O (λ (l : Layout) (b : Bool) (f : ℕ). Decides (runs s l b) (many l b) (truthsIn flags′) (st .running) (finalsIn flags′)) D in
+        let D₂ = of-machine O (λ (l : Layout) (b : Bool) (f : ℕ). FinalsKnown (runs s l b) (many l b) (truthsIn flags′) (st .running) (finalsIn flags′)) D in
         let A₂ = of-machine O (λ (l : Layout) (b : Bool) (f : ℕ). (i : ℕ) → many l b ≤ i → getD (finalsIn flags′) i true ≡ getD (endableIn flags) i true) A in
         let F = D₂ W st _ (sees s (O .accepted) st (truthsIn flags′) H) in
         record {
           prepared = prepared-kept flags′ n e;
           truths-are = H;
           decides = D₂;
-          finals-are = finals-whole W st (heldRecords s) (placesOf s) (few-places O) (finalsIn flags′) (finals-long flags′ n) F (λ i l. A₂ i l ∙ P .none-final i l);
+          finals-are = finals-whole W st (extendedRecords s) (extendedSizeOf s) (few-places O) (finalsIn flags′) (finals-long flags′ n) F (λ i l. A₂ i l ∙ P .none-final i l);
         }
 
   module _ {st : State} {flags : List Bool} {numbers : List ℕ} (J : Judged s st flags numbers) where
     abbrev pub seenBy : Layout → ℕ → Bool
     seenBy l = possibleIn (actionsIn s l) (l .a) (truthsIn flags)
 
-    pub decides-by : Decides (runs s (m .layout) (m .interrupts)) (many (m .layout) (m .interrupts)) (truthsIn flags) (st .running) (finalsIn flags)
-    decides-by = by-machine O (λ (l : Layout) (b : Bool) (f : ℕ). Decides (runs s l b) (many l b) (truthsIn flags) (st .running) (finalsIn flags)) (J .decides)
+    pub decides-by : FinalsKnown (runs s (m .layout) (m .interrupts)) (many (m .layout) (m .interrupts)) (truthsIn flags) (st .running) (finalsIn flags)
+    decides-by = by-machine O (λ (l : Layout) (b : Bool) (f : ℕ). FinalsKnown (runs s l b) (many l b) (truthsIn flags) (st .running) (finalsIn flags)) (J .decides)
 
     -- behind the records no transition is counted
-    nil-counts : drop (placesOf s) (countsIn numbers) ≡ replicate (260 - placesOf s) 0
+    nil-counts : drop (extendedSizeOf s) (countsIn numbers) ≡ replicate (260 - extendedSizeOf s) 0
     nil-counts =
-        let m = placesOf s in
+        let m = extendedSizeOf s in
         let n = length-drop m (countsIn numbers) in
         let k = counts-long (J .prepared) in
         ext-getD 0 (drop m (countsIn numbers)) (replicate (260 - m) 0) (omega (arith, n, k, length-replicate {A = ℕ} (260 - m) 0))
         (λ i l. getD-drop m (countsIn numbers) i 0 ∙ J .prepared .none-counted _ (omega arith) ∙ sym (getD-same 0 (260 - m) i))
 
-    counts-after : (i : ℕ) → placesOf s ≤ i → getD (countsOf (worldOf s) st (heldRecords s) (placesOf s)) i 0 ≡ 0
+    counts-after : (i : ℕ) → extendedSizeOf s ≤ i → getD (countsOf (worldOf s) st (extendedRecords s) (extendedSizeOf s)) i 0 ≡ 0
     unfolding countsOf
     counts-after i l =
-        let made = map counted (upTo (leafAt (worldOf s) st (heldRecords s)) (placesOf s)) in
+        let made = map cappedCount (upTo (leafAt (worldOf s) st (extendedRecords s)) (extendedSizeOf s)) in
         let few : length made ≤ i = simp (length-map, length-up) l in
-        default-at 0 made (260 - placesOf s) i ∙ List·getD-eq-default made 0 few
+        default-at 0 made (260 - extendedSizeOf s) i ∙ List·getD-eq-default made 0 few
 
     -- counted in a state
     pub surveyed :
@@ -154,7 +154,7 @@ module _ {s : List ℕ} {m : Machine} (O : Of s m) where
         let P = J .prepared in
         let T₂ = of-machine O (λ (l : Layout) (b : Bool) (f : ℕ). Tallied (runs s l b) (many l b) (truthsIn flags) (seenBy l) (st .running) (countsIn numbers) (countsIn numbers′)) T in
         let S = sees s (O .accepted) st (truthsIn flags) (J .truths-are) in
-        let c = T₂ W st S ∙ counts-whole W st (heldRecords s) (placesOf s) (countsIn numbers) nil-counts in
+        let c = T₂ W st S ∙ counts-whole W st (extendedRecords s) (extendedSizeOf s) (countsIn numbers) nil-counts in
         record {
           prepared =
               record {
@@ -163,7 +163,7 @@ module _ {s : List ℕ} {m : Machine} (O : Of s m) where
                 endable = P .endable;
                 none-final = P .none-final;
                 none-counted = λ i l. ap (λ (x : List ℕ). getD x i 0) c ∙ counts-after i l;
-                skipping = subst (Skips (heldRecords s) (placesOf s) (endableIn flags)) (sym e) (P .skipping);
+                skipping = subst (Skips (extendedRecords s) (extendedSizeOf s) (endableIn flags)) (sym e) (P .skipping);
               };
           truths-are = J .truths-are;
           tabled =

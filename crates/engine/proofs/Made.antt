@@ -11,24 +11,24 @@ use Rattle.sheet.specs.Check.{Accepts}
 use Rattle.sheet.specs.declared.Layout.{Layout}
 use Rattle.golog.specs.declared.State.{State}
 use Rattle.golog.specs.World.{after}
-use Rattle.held.specs.Leaves.{Move, restSteps}
+use Rattle.remaining.specs.Leaves.{RestTransition, restTransitions}
 use Rattle.demands.specs.Decoded.{worldOf}
-use Rattle.demands.specs.Held.{heldRecords}
-use Rattle.demands.proofs.Held.{all-lower}
+use Rattle.demands.specs.Compact.{extendedRecords}
+use Rattle.demands.proofs.Compact.{all-lower}
 use Rattle.words.specs.Words.{Kept}
 use Rattle.words.proofs.Written.{kept-less}
-use Rattle.steps.specs.Laid.{View, view, Built}
+use Rattle.steps.specs.Laid.{Sources, sourcesOf, Built}
 use Rattle.steps.specs.Stepped.{CanStep, Stepped, StepsRest}
 use Rattle.steps.specs.declared.Turn.{Turn}
 use Rattle.steps.specs.declared.Turn.the-variants as turn
 use Rattle.steps.proofs.Nth.{nth-member}
 use Rattle.engine.specs.Tables.{truthsIn, finalsIn, countsIn, Surveyed}
 use Rattle.engine.specs.Frames.{Of, frameOf}
-use Rattle.engine.specs.Going.{Action, Coded, Makes, CanGoOn}
+use Rattle.engine.specs.Going.{IsAction, Coded, MakesNext, CanGoOn}
 use Rattle.engine.specs.declared.Machine.{Machine}
 use Rattle.engine.specs.Turns.{Turns}
 use Rattle.engine.specs.declared.Cursor.{Cursor}
-use Rattle.engine.specs.declared.Transition.{Transition}
+use Rattle.engine.specs.declared.Taken.{Taken}
 use Rattle.engine.proofs.Parts.{by-machine, of-machine}
 use Rattle.engine.proofs.Actions.{acts-known}
 use Rattle.engine.proofs.Moves.{rest-known}
@@ -36,11 +36,11 @@ use Rattle.engine.proofs.Frames.{in-frame, step-room, next-frame}
 use Rattle.engine.proofs.Going.{stepOf, listed-length, listed-nth, ahead-next}
 
 -- what a step sees, by the names of a layout
-abbrev pub viewBy : List ℕ → State → (flags : List Bool) (numbers : List ℕ) → Layout → (interrupts : Bool) → View
-viewBy s st flags numbers l interrupts = view (programsIn s l) (l .p) interrupts (truthsIn flags) (st .running) (countsIn numbers)
+abbrev pub viewBy : List ℕ → State → (flags : List Bool) (numbers : List ℕ) → Layout → (interrupts : Bool) → Sources
+viewBy s st flags numbers l interrupts = sourcesOf (programsIn s l) (l .p) interrupts (truthsIn flags) (st .running) (countsIn numbers)
 
 -- the transition made, with the code e and the state st, at the cursor k
-abbrev pub madeAt : Cursor → (e : ℕ) → State → Transition
+abbrev pub madeAt : Cursor → (e : ℕ) → State → Taken
 madeAt k e st = record { made = true; entry = e; state = st; cursor = record { next = k .next + 1; end = k .end } }
 
 module _
@@ -75,19 +75,19 @@ module _
   step-kept = kept-less (at + frameOf s) (at + frameOf s + 64) w w′ (A g .kept) (omega arith)
 
   -- below the number of transitions there is one
-  pub none-left : (j : ℕ) (d : Bool) → t ≡ turn.Left j d → k .next < k .end → ⊥
+  pub none-left : (j : ℕ) (d : Bool) → t ≡ turn.Passed j d → k .next < k .end → ⊥
   none-left j d y l =
-      let B = subst (Stepped (worldOf s) st (heldRecords s) (g .frame .rest) (k .next) (at + frameOf s + 64) w w′) y (A g) in
+      let B = subst (Stepped (worldOf s) st (extendedRecords s) (g .frame .rest) (k .next) (at + frameOf s + 64) w w′) y (A g) in
       omega (arith, B .turned .0, listed-length accepted (g .frame) st, g .listed .end-is)
 
   module _ {e z : ℕ} (y : t ≡ turn.Made e z) where
-    built : Built (restSteps (worldOf s) st (heldRecords s) (g .frame .rest)) (k .next) (at + frameOf s + 64) e z w′
-    built = subst (Stepped (worldOf s) st (heldRecords s) (g .frame .rest) (k .next) (at + frameOf s + 64) w w′) y (A g) .turned
+    built : Built (restTransitions (worldOf s) st (extendedRecords s) (g .frame .rest)) (k .next) (at + frameOf s + 64) e z w′
+    built = subst (Stepped (worldOf s) st (extendedRecords s) (g .frame .rest) (k .next) (at + frameOf s + 64) w w′) y (A g) .turned
 
     coded : Coded s e (built .move)
     coded = record {
       known =
-          rest-known (Action s) (worldOf s) st (heldRecords s) (all-lower s accepted) (acts-known s accepted) (g .frame .rest) (built .move, built .rest)
+          rest-known (IsAction s) (worldOf s) st (extendedRecords s) (all-lower s accepted) (acts-known s accepted) (g .frame .rest) (built .move, built .rest)
           (nth-member _ (k .next) (built .nth));
       entry-is = built .entry-is;
     }
@@ -99,11 +99,11 @@ module _
     pub made-next :
         {st′ : State}
         → ((x : Option ℕ) → Coded s e x → st′ ≡ after (worldOf s) x st)
-        → Makes s (g .program, st) (g .left) w′ (at + frameOf s) (madeAt k e st′) (g .ahead)
+        → MakesNext s (g .program, st) (g .left) w′ (at + frameOf s) (madeAt k e st′) (g .ahead)
     made-next {st′} after-it =
-        let x : Move = (built .move, built .rest) in
+        let x : RestTransition = (built .move, built .rest) in
         let first = ahead-next (g .listed) (stepOf s st x) (listed-nth accepted (g .frame) st (k .next) x (built .nth)) in
-        subst (Makes s (g .program, st) (g .left) w′ (at + frameOf s) (madeAt k e st′)) (sym first)
+        subst (MakesNext s (g .program, st) (g .left) w′ (at + frameOf s) (madeAt k e st′)) (sym first)
         record {
           made-is = refl;
           coded = coded;

@@ -9,10 +9,10 @@ use lib.Dec.{T, eqb, eqb→eq}
 use Rattle.records.specs.declared.Program.{Program}
 use Rattle.golog.specs.declared.State.{State}
 use Rattle.golog.specs.World.{World}
-use Rattle.golog.specs.Steps.{isNone}
-use Rattle.held.specs.Rest.{Rest, gone, leaf, node, AllLower}
-use Rattle.held.specs.Leaves.{Move, ownMove, restFinal, goesRight, wrapRight, restSteps}
-use Rattle.held.proofs.Every.{Every, nobody, every-append, every-map, every-part, every-at, leaf-every}
+use Rattle.golog.specs.Transitions.{isNone}
+use Rattle.remaining.specs.Rest.{Rest, gone, leaf, node, AllLower}
+use Rattle.remaining.specs.Leaves.{RestTransition, ownMove, restFinal, goesRight, wrapRight, restTransitions}
+use Rattle.remaining.proofs.Every.{Every, nobody, every-append, every-map, every-part, every-at, leaf-every}
 use Rattle.engine.specs.Going.{Known}
 
 module _ (K : ℕ → Type 0) where
@@ -24,13 +24,13 @@ module _ (K : ℕ → Type 0) where
       go false e = tt
 
   module _ (W : World) (s : State) (p : ℕ → Program) (low : AllLower p) (acts : (i : ℕ) → p i .kind ≡ 1 → K (p i .a)) where
-    all-known : (g : Rest) → Every (λ (x : Move). Known K (x .0)) (restSteps W s p g)
-    unfolding restSteps
+    all-known : (g : Rest) → Every (λ (x : RestTransition). Known K (x .0)) (restTransitions W s p g)
+    unfolding restTransitions
     all-known gone = nobody
-    all-known (leaf i) = leaf-every W s p low (λ (i : ℕ) (x : Move). Known K (x .0)) (λ i. known-own (p i) (acts i)) (λ i x t h. h) (λ i x t h. h) i
+    all-known (leaf i) = leaf-every W s p low (λ (i : ℕ) (x : RestTransition). Known K (x .0)) (λ i. known-own (p i) (acts i)) (λ i x t h. h) (λ i x t h. h) i
     all-known (node tag l r) =
         every-append (every-map (λ (g : Rest). node tag g r) (λ x h. h) (all-known l))
-        (every-part (goesRight tag (restFinal W s p l) (isNone (restSteps W s p l))) (wrapRight tag l) (λ t x h. h) (λ t. all-known r))
+        (every-part (goesRight tag (restFinal W s p l) (isNone (restTransitions W s p l))) (wrapRight tag l) (λ t x h. h) (λ t. all-known r))
 
-    pub rest-known : (g : Rest) (x : Move) → List·Memᴰ x (restSteps W s p g) → Known K (x .0)
+    pub rest-known : (g : Rest) (x : RestTransition) → List·Memᴰ x (restTransitions W s p g) → Known K (x .0)
     rest-known g x k = every-at (all-known g) k

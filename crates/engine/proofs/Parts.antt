@@ -8,7 +8,7 @@ use native.Mathlib.Omega.{arith}
 use lib.ListN.{length, length-drop}
 use lib.Seq.{length-take-le}
 use Rattle.records.specs.Bytes.{part}
-use Rattle.sheet.specs.Layout.{layoutOf, Fits, fluentsIn, formulasIn, actionsIn, programsIn}
+use Rattle.sheet.specs.Layout.{layoutOf, LaidOut, fluentsIn, formulasIn, actionsIn, programsIn}
 use Rattle.sheet.specs.Check.{Accepts}
 use Rattle.sheet.specs.declared.Layout.{Layout}
 use Rattle.sheet.proofs.Accepted.{laid}
@@ -29,7 +29,7 @@ pub record InOrder (l : Layout) (n : ℕ) : Type 0 where
   pub programs : l .programs ≤ l .end
   pub end : l .end ≤ n
 
-pub in-order : {l : Layout} {n : ℕ} → Fits l n → InOrder l n
+pub in-order : {l : Layout} {n : ℕ} → LaidOut l n → InOrder l n
 in-order f = record {
   fluents = omega (arith, f .at-formulas);
   formulas = omega (arith, f .at-effects);
@@ -39,8 +39,8 @@ in-order f = record {
   end = omega (arith, f .inside);
 }
 
-pub fits-of : (s : List ℕ) (l : Layout) → Accepts s × (l ≡ layoutOf s) → Fits l (length s)
-fits-of s l (accepted, e) = subst (λ (x : Layout). Fits x (length s)) (sym e) (laid s accepted)
+pub fits-of : (s : List ℕ) (l : Layout) → Accepts s × (l ≡ layoutOf s) → LaidOut l (length s)
+fits-of s l (accepted, e) = subst (λ (x : Layout). LaidOut x (length s)) (sym e) (laid s accepted)
 
 -- what holds of a sheet's layout, interrupts and frames holds of those that its machine names, and the other way
 module _ {s : List ℕ} {m : Machine} (O : Of s m) where
@@ -54,10 +54,10 @@ module _ {s : List ℕ} {m : Machine} (O : Of s m) where
       subst (X (layoutOf s) (interruptsIn s)) (O .frame-is)
       (subst (λ (b : Bool). X (layoutOf s) b (m .frame)) (O .interrupts-are) (subst (λ (l : Layout). X l (m .interrupts) (m .frame)) (O .layout-is) x))
 
-  pub fits-in : Fits (m .layout) (length s)
+  pub fits-in : LaidOut (m .layout) (length s)
   fits-in = fits-of s (m .layout) (O .accepted, O .layout-is)
 
-module _ (s : List ℕ) (l : Layout) (f : Fits l (length s)) where
+module _ (s : List ℕ) (l : Layout) (f : LaidOut l (length s)) where
   pub fluents-long : (2 * l .f ≤ length (fluentsIn s l)) × (l .f ≤ 32)
   fluents-long =
       let o = in-order f in

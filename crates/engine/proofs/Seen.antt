@@ -13,13 +13,13 @@ use Rattle.sheet.specs.Check.{Accepts}
 use Rattle.sheet.proofs.Lower.{program-of, action-of}
 use Rattle.golog.specs.declared.State.{State}
 use Rattle.demands.specs.Decoded.{worldOf, recordsOf, interruptsIn}
-use Rattle.demands.specs.Held.{heldRecords}
-use Rattle.state.specs.Truths.{Held}
+use Rattle.demands.specs.Compact.{extendedRecords}
+use Rattle.state.specs.Truths.{AreTruths}
 use Rattle.leaves.specs.Tallies.{possibleIn, hasCondition, SeesRecord, Sees}
 use Rattle.leaves.proofs.Seen.{possible-seen, table-seen}
-use Rattle.engine.specs.Tables.{placesOf}
+use Rattle.engine.specs.Tables.{extendedSizeOf}
 
-module _ (s : List ℕ) (accepted : Accepts s) (st : State) (held : List Bool) (H : Held (worldOf s) st (layoutOf s .q) held) where
+module _ (s : List ℕ) (accepted : Accepts s) (st : State) (held : List Bool) (H : AreTruths (worldOf s) st (layoutOf s .q) held) where
   abbrev can : ℕ → Bool
   can = possibleIn (actionsIn s (layoutOf s)) (layoutOf s .a) held
 
@@ -53,7 +53,7 @@ module _ (s : List ℕ) (accepted : Accepts s) (st : State) (held : List Bool) (
   seen i r (guarded (inl e) l c) = by-kind r 7 e (λ h. c) (λ h. absurd (omega arith)) (λ h. absurd (omega arith))
   seen i r (guarded (inr e) l c) = by-kind r 11 e (λ h. c) (λ h. absurd (omega arith)) (λ h. absurd (omega arith))
 
-  pub sees : Sees (worldOf s) st (heldRecords s) (placesOf s) held can (st .running)
+  pub sees : Sees (worldOf s) st (extendedRecords s) (extendedSizeOf s) held can (st .running)
   sees =
       table-seen (worldOf s) st (actionsIn s (layoutOf s)) (layoutOf s .a) held (interruptsIn s) (recordsOf s) (layoutOf s .p) _
       (λ i l. seen i (recordsOf s i) (program-of s accepted i l))

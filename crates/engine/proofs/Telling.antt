@@ -8,50 +8,50 @@ use Rattle.records.proofs.Truth.{is-false}
 use Rattle.sheet.specs.Check.{Accepts}
 use Rattle.golog.specs.declared.State.{State}
 use Rattle.golog.specs.Prog.{Prog}
-use Rattle.golog.specs.Steps.{Step, final}
+use Rattle.golog.specs.Transitions.{Transition, final}
 use Rattle.golog.specs.World.{after}
-use Rattle.held.proofs.Same.{rest-final}
+use Rattle.remaining.proofs.Same.{rest-final}
 use Rattle.demands.specs.Decoded.{worldOf}
-use Rattle.demands.specs.Held.{heldRecords}
-use Rattle.demands.proofs.Held.{all-lower}
+use Rattle.demands.specs.Compact.{extendedRecords}
+use Rattle.demands.proofs.Compact.{all-lower}
 use Rattle.leaves.specs.Tallies.{finalsOf}
-use Rattle.ends.specs.Ends.{finalIn, countIn, soonIn, Totalled}
+use Rattle.ends.specs.Ends.{finalByTable, countByTable, soonByTable, Totalled}
 use Rattle.ends.specs.declared.Totals.{Totals}
 use Rattle.ends.proofs.Tabled.{final-in, count-in}
 use Rattle.ends.proofs.Endings.{soon-in}
-use Rattle.engine.specs.Tables.{finalsIn, endableIn, countsIn, placesOf, Surveyed}
+use Rattle.engine.specs.Tables.{finalsIn, endableIn, countsIn, extendedSizeOf, Surveyed}
 use Rattle.engine.specs.Frames.{Frame}
 use Rattle.engine.specs.Going.{transitionsOf, isFinal, NoneEnds, Tells}
 use Rattle.engine.proofs.Going.{heldMoves, stepOf, listed, listed-length}
 
 module _ {s w : List ℕ} {left at : ℕ} {p : Prog} (accepted : Accepts s) (F : Frame s left w at p) (st : State) where
   pub final-told :
-      {finals : List Bool} → finals ≡ finalsOf (worldOf s) st (heldRecords s) (placesOf s) → finalIn finals (F .rest) ≡ isFinal s (p, st)
+      {finals : List Bool} → finals ≡ finalsOf (worldOf s) st (extendedRecords s) (extendedSizeOf s) → finalByTable finals (F .rest) ≡ isFinal s (p, st)
   final-told e =
-      ap (λ (l : List Bool). finalIn l (F .rest)) e
-      ∙ final-in (worldOf s) st (heldRecords s) (placesOf s) (F .rest) (F .roomy .within)
-      ∙ rest-final (worldOf s) st (heldRecords s) (all-lower s accepted) (F .rest)
+      ap (λ (l : List Bool). finalByTable l (F .rest)) e
+      ∙ final-in (worldOf s) st (extendedRecords s) (extendedSizeOf s) (F .rest) (F .roomy .within)
+      ∙ rest-final (worldOf s) st (extendedRecords s) (all-lower s accepted) (F .rest)
       ∙ ap (λ (q : Prog). final (worldOf s) q st) (F .stands-for)
 
   module _ {flags : List Bool} {numbers : List ℕ} (S : Surveyed s st flags numbers) where
-    count-told : countIn (finalsIn flags) (countsIn numbers) (F .rest) ≡ length (transitionsOf s (p, st))
+    count-told : countByTable (finalsIn flags) (countsIn numbers) (F .rest) ≡ length (transitionsOf s (p, st))
     count-told =
         let c = S .tabled .counted in
-        ap₂ (λ (l : List Bool) (k : List ℕ). countIn l k (F .rest)) (S .tabled .finals-are) (c .counts-are)
-        ∙ count-in (worldOf s) st (heldRecords s) (placesOf s) (c .lower) (F .rest) (F .roomy .within)
+        ap₂ (λ (l : List Bool) (k : List ℕ). countByTable l k (F .rest)) (S .tabled .finals-are) (c .counts-are)
+        ∙ count-in (worldOf s) st (extendedRecords s) (extendedSizeOf s) (c .lower) (F .rest) (F .roomy .within)
         ∙ listed-length accepted F st
 
     -- what the table of what may be final tells of the transitions
-    none-told : soonIn (finalsIn flags) (endableIn flags) (countsIn numbers) (F .rest) ≡ false → NoneEnds s (p, st)
+    none-told : soonByTable (finalsIn flags) (endableIn flags) (countsIn numbers) (F .rest) ≡ false → NoneEnds s (p, st)
     none-told z x k =
         let W = worldOf s in
         let c = S .tabled .counted in
         let y = Memᴰ·of-map (stepOf s st) (heldMoves s st (F .rest)) (subst (List·Memᴰ x) (sym (listed accepted F st)) k) in
         let t = after W (y .0 .0) st in
-        let e = ap₂ (λ (l : List Bool) (k : List ℕ). soonIn l (endableIn flags) k (F .rest)) (S .tabled .finals-are) (c .counts-are) in
-        let soon = soon-in W (heldRecords s) (placesOf s) (endableIn flags) (S .prepared .endable) (c .lower) st (F .rest) (F .roomy .within) in
-        ap (λ (q : Step). isFinal s (q .1)) (sym (y .2))
-        ∙ sym (rest-final W t (heldRecords s) (c .lower) (y .0 .1))
+        let e = ap₂ (λ (l : List Bool) (k : List ℕ). soonByTable l (endableIn flags) k (F .rest)) (S .tabled .finals-are) (c .counts-are) in
+        let soon = soon-in W (extendedRecords s) (extendedSizeOf s) (endableIn flags) (S .prepared .endable) (c .lower) st (F .rest) (F .roomy .within) in
+        ap (λ (q : Transition). isFinal s (q .1)) (sym (y .2))
+        ∙ sym (rest-final W t (extendedRecords s) (c .lower) (y .0 .1))
         ∙ is-false _ (λ f. true≢false (sym (soon (y .0) (y .1) t f) ∙ sym e ∙ z))
 
     pub tells :

@@ -8,12 +8,12 @@ use Rattle.height.specs.Work.{frameWords}
 use Rattle.sheet.specs.Layout.{layoutOf}
 use Rattle.sheet.specs.Check.{Accepts}
 use Rattle.golog.specs.Prog.{Prog}
-use Rattle.held.specs.Rest.{Rest, full, nodes, high}
+use Rattle.remaining.specs.Rest.{Rest, unfolded, nodes, high}
 use Rattle.demands.specs.Decoded.{interruptsIn, boundOf}
-use Rattle.demands.specs.Held.{heldRecords, levelsOf}
+use Rattle.demands.specs.Compact.{extendedRecords, levelsOf}
 use Rattle.words.specs.Words.{At}
-use Rattle.ends.specs.Ends.{Within}
-use Rattle.engine.specs.Tables.{placesOf}
+use Rattle.ends.specs.Ends.{InTable}
+use Rattle.engine.specs.Tables.{extendedSizeOf}
 use Rattle.engine.specs.declared.Machine.{Machine}
 
 -- the words of a frame of a sheet
@@ -32,12 +32,12 @@ pub record Roomy (s : List ℕ) (left : ℕ) (w : List ℕ) (at : ℕ) (g : Rest
   pub large : 64 + 3 * (nodes g + 2 * levelsOf s * left) ≤ frameOf s
   pub inside : at + frameOf s + frameOf s * left ≤ length w
   pub small : length w < 2 ^ 32
-  pub high-is : high (heldRecords s) g ≤ levelsOf s
-  pub within : Within (heldRecords s) (placesOf s) g
+  pub high-is : high (extendedRecords s) g ≤ levelsOf s
+  pub within : InTable (extendedRecords s) (extendedSizeOf s) g
 
 -- the remaining program p stands in the frame at `at`, with room for `left` transitions more
 pub record Frame (s : List ℕ) (left : ℕ) (w : List ℕ) (at : ℕ) (p : Prog) : Type 0 where
   pub rest : Rest
-  pub stands-for : full (heldRecords s) rest ≡ p
+  pub stands-for : unfolded (extendedRecords s) rest ≡ p
   pub words-are : At rest w (at + 64)
   pub roomy : Roomy s left w at rest

@@ -8,36 +8,36 @@ use lib.ListN.{length, drop}
 use Rattle.golog.specs.declared.State.{State}
 use Rattle.sheet.specs.Layout.{layoutOf}
 use Rattle.golog.specs.World.{start}
-use Rattle.golog.specs.Steps.{Config, Step}
+use Rattle.golog.specs.Transitions.{Configuration, Transition}
 use Rattle.golog.specs.Prog.{Prog}
 use Rattle.demands.specs.Decoded.{worldOf}
-use Rattle.demands.specs.Planning.{movesIn, finalIn}
+use Rattle.demands.specs.Planning.{transitionsIn, isFinalIn}
 use Rattle.words.specs.Words.{Kept}
 use Rattle.steps.specs.Laid.{codeOf}
 use Rattle.engine.specs.Frames.{Frame, frameOf}
 use Rattle.engine.specs.declared.Cursor.{Cursor}
 use Rattle.engine.specs.declared.Findings.{Findings}
-use Rattle.engine.specs.declared.Transition.{Transition}
+use Rattle.engine.specs.declared.Taken.{Taken}
 
 -- document 01, "Steps and endings": the transitions of a configuration of the sheet s, in listed order
-abbrev pub transitionsOf : List ℕ → Config → List Step
-transitionsOf s c = movesIn (worldOf s) c
+abbrev pub transitionsOf : List ℕ → Configuration → List Transition
+transitionsOf s c = transitionsIn (worldOf s) c
 
 -- and whether it is final
-abbrev pub isFinal : List ℕ → Config → Bool
-isFinal s c = finalIn (worldOf s) c
+abbrev pub isFinal : List ℕ → Configuration → Bool
+isFinal s c = isFinalIn (worldOf s) c
 
 -- from the cursor on, the transitions of c are xs
-pub record Ahead (s : List ℕ) (c : Config) (k : Cursor) (xs : List Step) : Type 0 where
+pub record Ahead (s : List ℕ) (c : Configuration) (k : Cursor) (xs : List Transition) : Type 0 where
   pub ahead-are : xs ≡ drop (k .next) (transitionsOf s c)
   pub end-is : k .end ≡ length (transitionsOf s c)
 
 -- no transition of c leads to a configuration that is final
-abbrev pub NoneEnds : List ℕ → Config → Type 0
-NoneEnds s c = (x : Step) → List·Memᴰ x (transitionsOf s c) → isFinal s (x .1) ≡ false
+abbrev pub NoneEnds : List ℕ → Configuration → Type 0
+NoneEnds s c = (x : Transition) → List·Memᴰ x (transitionsOf s c) → isFinal s (x .1) ≡ false
 
 -- what a survey tells of c: whether it is final, the first cursor, and perhaps that no transition leads to a final configuration
-pub record Tells (s : List ℕ) (c : Config) (r : Findings) : Type 0 where
+pub record Tells (s : List ℕ) (c : Configuration) (r : Findings) : Type 0 where
   pub final-is : r .done ≡ isFinal s c
   pub first : Ahead s c (r .first) (transitionsOf s c)
   pub none-ends : r .soon ≡ false → NoneEnds s c
@@ -48,16 +48,16 @@ Known K none = Unit {0}
 Known K (some a) = K a
 
 -- an action of the sheet, start or stop
-abbrev pub Action : List ℕ → ℕ → Type 0
-Action s a = (a < 65536) × (a < start → a < layoutOf s .a)
+abbrev pub IsAction : List ℕ → ℕ → Type 0
+IsAction s a = (a < 65536) × (a < start → a < layoutOf s .a)
 
 -- `entry` is the code of m, a test or such an action
 pub record Coded (s : List ℕ) (entry : ℕ) (m : Option ℕ) : Type 0 where
-  pub known : Known (Action s) m
+  pub known : Known (IsAction s) m
   pub entry-is : entry ≡ codeOf m
 
 -- the transition x was made into the frame at `at`, and from the cursor after it the transitions are ys
-pub record Made (s : List ℕ) (c : Config) (left : ℕ) (w : List ℕ) (at : ℕ) (r : Transition) (x : Step) (ys : List Step) : Type 0 where
+pub record MadeNext (s : List ℕ) (c : Configuration) (left : ℕ) (w : List ℕ) (at : ℕ) (r : Taken) (x : Transition) (ys : List Transition) : Type 0 where
   pub made-is : r .made ≡ true
   pub coded : Coded s (r .entry) (x .0)
   pub state-is : r .state ≡ x .1 .1
@@ -65,15 +65,15 @@ pub record Made (s : List ℕ) (c : Config) (left : ℕ) (w : List ℕ) (at : �
   pub ahead : Ahead s c (r .cursor) ys
 
 -- the next of the transitions xs, or that there is none
-abbrev pub Makes : List ℕ → Config → (left : ℕ) → (w : List ℕ) → (at : ℕ) → Transition → List Step → Type 0
-Makes s c left w at r [] = r .made ≡ false
-Makes s c left w at r (x ∷ ys) = Made s c left w at r x ys
+abbrev pub MakesNext : List ℕ → Configuration → (left : ℕ) → (w : List ℕ) → (at : ℕ) → Taken → List Transition → Type 0
+MakesNext s c left w at r [] = r .made ≡ false
+MakesNext s c left w at r (x ∷ ys) = MadeNext s c left w at r x ys
 
 -- a remaining program in the frame at `at`, with room for a transition, and in the state st its transitions from the cursor on
 pub record CanGoOn (s : List ℕ) (st : State) (w : List ℕ) (at : ℕ) (k : Cursor) : Type 0 where
   pub left : ℕ
   pub program : Prog
-  pub ahead : List Step
+  pub ahead : List Transition
   pub frame : Frame s (suc left) w at program
   pub listed : Ahead s (program, st) k ahead
 
@@ -82,7 +82,7 @@ abbrev pub aheadOf : Cursor → ℕ
 aheadOf k = k .end - k .next
 
 -- the next transition from the cursor on was made into the frame after that at `at`, if there is one; frames up to that are kept
-pub record GoesOn (s : List ℕ) (st : State) (at : ℕ) (k : Cursor) (w w′ : List ℕ) (r : Transition) : Type 0 where
-  pub makes : (g : CanGoOn s st w at k) → Makes s (g .program, st) (g .left) w′ (at + frameOf s) r (g .ahead)
+pub record GoesOn (s : List ℕ) (st : State) (at : ℕ) (k : Cursor) (w w′ : List ℕ) (r : Taken) : Type 0 where
+  pub makes : (g : CanGoOn s st w at k) → MakesNext s (g .program, st) (g .left) w′ (at + frameOf s) r (g .ahead)
   pub kept : Kept (at + frameOf s) w w′
   pub falls : r .made ≡ true → aheadOf (r .cursor) < aheadOf k

@@ -8,11 +8,11 @@ use lib.ListN.{length, getD, take, drop}
 use Rattle.sheet.specs.Layout.{layoutOf, programsIn}
 use Rattle.golog.specs.declared.State.{State}
 use Rattle.demands.specs.Decoded.{worldOf, interruptsIn}
-use Rattle.demands.specs.Held.{heldRecords}
+use Rattle.demands.specs.Compact.{extendedRecords}
 use Rattle.state.specs.Truths as truths
-use Rattle.leaves.specs.Tallies.{places, finalsOf}
-use Rattle.leaves.specs.Endable.{Endable, Skips, Decides}
-use Rattle.steps.specs.Laid.{view}
+use Rattle.leaves.specs.Tallies.{extendedSize, finalsOf}
+use Rattle.leaves.specs.Endable.{Endable, Skips, FinalsKnown}
+use Rattle.steps.specs.Laid.{sourcesOf}
 use Rattle.steps.specs.Stepped.{Tabled}
 
 -- flags: what the 512 formulas say; whether each of 260 records is final; whether it may be in some state
@@ -38,28 +38,28 @@ pub record OnlyFinals (flags flags′ : List Bool) : Type 0 where
   pub endable-kept : endableIn flags′ ≡ endableIn flags
 
 -- the records of a sheet that run
-abbrev pub placesOf : List ℕ → ℕ
-placesOf s = places (interruptsIn s) (layoutOf s .p)
+abbrev pub extendedSizeOf : List ℕ → ℕ
+extendedSizeOf s = extendedSize (interruptsIn s) (layoutOf s .p)
 
 -- what is told once of a sheet stands in the tables, and behind the records nil
 pub record Prepared (s : List ℕ) (flags : List Bool) (numbers : List ℕ) : Type 0 where
   pub flags-long : length flags ≡ 1032
   pub numbers-long : length numbers ≡ 521
-  pub endable : Endable (heldRecords s) (placesOf s) (endableIn flags)
-  pub none-final : (i : ℕ) → placesOf s ≤ i → getD (endableIn flags) i true ≡ true
-  pub none-counted : (i : ℕ) → placesOf s ≤ i → getD (countsIn numbers) i 0 ≡ 0
-  pub skipping : Skips (heldRecords s) (placesOf s) (endableIn flags) (skipsIn numbers)
+  pub endable : Endable (extendedRecords s) (extendedSizeOf s) (endableIn flags)
+  pub none-final : (i : ℕ) → extendedSizeOf s ≤ i → getD (endableIn flags) i true ≡ true
+  pub none-counted : (i : ℕ) → extendedSizeOf s ≤ i → getD (countsIn numbers) i 0 ≡ 0
+  pub skipping : Skips (extendedRecords s) (extendedSizeOf s) (endableIn flags) (skipsIn numbers)
 
 -- what the formulas say in the state st, and which records are final in it, stands there too
 pub record Judged (s : List ℕ) (st : State) (flags : List Bool) (numbers : List ℕ) : Type 0 where
   pub prepared : Prepared s flags numbers
-  pub truths-are : truths.Held (worldOf s) st (layoutOf s .q) (truthsIn flags)
-  pub decides : Decides (heldRecords s) (placesOf s) (truthsIn flags) (st .running) (finalsIn flags)
-  pub finals-are : finalsIn flags ≡ finalsOf (worldOf s) st (heldRecords s) (placesOf s)
+  pub truths-are : truths.AreTruths (worldOf s) st (layoutOf s .q) (truthsIn flags)
+  pub decides : FinalsKnown (extendedRecords s) (extendedSizeOf s) (truthsIn flags) (st .running) (finalsIn flags)
+  pub finals-are : finalsIn flags ≡ finalsOf (worldOf s) st (extendedRecords s) (extendedSizeOf s)
 
 -- and how many transitions each has: the tables are those of the state st
 pub record Surveyed (s : List ℕ) (st : State) (flags : List Bool) (numbers : List ℕ) : Type 0 where
   pub prepared : Prepared s flags numbers
-  pub truths-are : truths.Held (worldOf s) st (layoutOf s .q) (truthsIn flags)
+  pub truths-are : truths.AreTruths (worldOf s) st (layoutOf s .q) (truthsIn flags)
   pub tabled :
-      Tabled (worldOf s) st (view (programsIn s (layoutOf s)) (layoutOf s .p) (interruptsIn s) (truthsIn flags) (st .running) (countsIn numbers)) (finalsIn flags)
+      Tabled (worldOf s) st (sourcesOf (programsIn s (layoutOf s)) (layoutOf s .p) (interruptsIn s) (truthsIn flags) (st .running) (countsIn numbers)) (finalsIn flags)

@@ -3,7 +3,7 @@ use Prim.Native.Nat.{ℕ, _+_}
 use mathlib.Core.List.{List}
 use Rattle.golog.specs.declared.State.{State}
 use Rattle.demands.specs.Decoded.{worldOf}
-use Rattle.demands.specs.Held.{heldRecords}
+use Rattle.demands.specs.Compact.{extendedRecords}
 use Rattle.steps.specs.Stepped.{Stepped}
 use Rattle.steps.specs.declared.Turn.{Turn}
 use Rattle.engine.specs.Frames.{frameOf}
@@ -12,4 +12,4 @@ use Rattle.engine.specs.declared.Cursor.{Cursor}
 
 -- what it leaves stands in the frame after that at `at`, or it has none
 abbrev pub Turns : (s : List ℕ) (st : State) (at : ℕ) (k : Cursor) (w w′ : List ℕ) → Turn → Type 0
-Turns s st at k w w′ t = (g : CanGoOn s st w at k) → Stepped (worldOf s) st (heldRecords s) (g .frame .rest) (k .next) (at + frameOf s + 64) w w′ t
+Turns s st at k w w′ t = (g : CanGoOn s st w at k) → Stepped (worldOf s) st (extendedRecords s) (g .frame .rest) (k .next) (at + frameOf s + 64) w w′ t

@@ -13,17 +13,17 @@ ghost use Rattle.sheet.specs.Layout.{layoutOf};
 ghost use Rattle.records.specs.Records.{programAt};
 ghost use Rattle.golog.specs.World.{after};
 ghost use Rattle.golog.specs.Prog.{Prog};
-ghost use Rattle.golog.specs.Steps.{Config, Step, isNone};
+ghost use Rattle.golog.specs.Transitions.{Configuration, Transition, isNone};
 ghost use Rattle.golog.specs.declared.State.{State};
 ghost use Rattle.demands.specs.Decoded.{worldOf, startingWith, initialOf, firstOf, boundOf};
-ghost use Rattle.demands.specs.Held.{levelsOf};
-ghost use Rattle.held.specs.Rest.{Rest, AllLower};
-ghost use Rattle.held.specs.Extended.{table, top};
-ghost use Rattle.leaves.specs.Tallies.{places, finalBy};
-ghost use Rattle.leaves.specs.Endable.{Skips, Decides};
-ghost use Rattle.words.specs.Words.{At, Holds};
+ghost use Rattle.demands.specs.Compact.{levelsOf};
+ghost use Rattle.remaining.specs.Rest.{Rest, AllLower};
+ghost use Rattle.remaining.specs.Extended.{extended, top};
+ghost use Rattle.leaves.specs.Tallies.{extendedSize, finalBy};
+ghost use Rattle.leaves.specs.Endable.{Skips, FinalsKnown};
+ghost use Rattle.words.specs.Words.{At, Stands};
 ghost use Rattle.ends.specs.Ends.{Totalled};
-ghost use Rattle.state.specs.Truths.{Held};
+ghost use Rattle.state.specs.Truths.{AreTruths};
 ghost use Rattle.engine.specs.Tables.{truthsIn, finalsIn, endableIn, countsIn, OnlyFinals, Prepared, Judged, Surveyed};
 ghost use Rattle.engine.specs.Frames.{Of, Frame};
 ghost use Rattle.engine.specs.Going.{isFinal, Ahead, Tells, Coded, CanGoOn, GoesOn};
@@ -56,7 +56,7 @@ pub struct Findings {
 }
 
 // The next transition, where one was made: the code of its move, the state after it, and the cursor after it.
-pub struct Transition {
+pub struct Taken {
     pub made: bool,
     pub entry: u32,
     pub state: State,
@@ -204,11 +204,11 @@ fn mark_finals(
     running: bool,
 )
     requires { ⌜ (8 * n ≤ length (now programs)) × (1 ≤ n) × (n ≤ 256) × (length (now flags) ≡ 1032) ⌝ }
-    requires { ⌜ AllLower (table interrupts (programAt (now programs)) n)
-        × Skips (table interrupts (programAt (now programs)) n) (places interrupts n) (finalsIn (now flags)) (now skips) ⌝ }
-    ensures { λ _. ⌜ Decides (table interrupts (programAt (now (programs .entry))) n) (places interrupts n) (truthsIn (now (flags .exit))) running (finalsIn (now (flags .exit))) ⌝ }
+    requires { ⌜ AllLower (extended interrupts (programAt (now programs)) n)
+        × Skips (extended interrupts (programAt (now programs)) n) (extendedSize interrupts n) (finalsIn (now flags)) (now skips) ⌝ }
+    ensures { λ _. ⌜ FinalsKnown (extended interrupts (programAt (now (programs .entry))) n) (extendedSize interrupts n) (truthsIn (now (flags .exit))) running (finalsIn (now (flags .exit))) ⌝ }
     ensures { λ _. ⌜ OnlyFinals (now (flags .entry)) (now (flags .exit)) ⌝ }
-    ensures { λ _. ⌜ ((i : ℕ) → places interrupts n ≤ i → getD (finalsIn (now (flags .exit))) i true ≡ getD (finalsIn (now (flags .entry))) i true) ⌝ }
+    ensures { λ _. ⌜ ((i : ℕ) → extendedSize interrupts n ≤ i → getD (finalsIn (now (flags .exit))) i true ≡ getD (finalsIn (now (flags .entry))) i true) ⌝ }
 {
     let m = leaves::places_of(n, interrupts);
     let mut i = leaves::skip_in(skips, 0, m);
@@ -281,7 +281,7 @@ fn tally(numbers: &mut [u32], flags: &[bool], s: &[u8], m: Machine, st: State)
 
 // What the tables say of the remaining program at `at`.
 fn total(flags: &[bool], numbers: &[u32], work: &[u32], at: usize) -> Totals
-    requires { ⌜ (length (now flags) ≡ 1032) × (length (now numbers) ≡ 521) × Holds (now work) at × (length (now work) < 2 ^ 32) ⌝ }
+    requires { ⌜ (length (now flags) ≡ 1032) × (length (now numbers) ≡ 521) × Stands (now work) at × (length (now work) < 2 ^ 32) ⌝ }
     ensures { λ r. ⌜ ((g : Rest) → At g (now (work .entry)) at → Totalled (finalsIn (now (flags .entry))) (endableIn (now (flags .entry))) (countsIn (now (numbers .entry))) g r) ⌝ }
 {
     let finals = &flags[512..772];
@@ -319,7 +319,7 @@ pub fn survey(
 
 // The state after a transition, where `held` has what the formulas say in the state before it.
 fn state_after(s: &[u8], m: Machine, held: &[bool], entry: u32, st: State) -> State
-    requires { ⌜ Of (now s) m × Held (worldOf (now s)) st (layoutOf (now s) .q) (now held) ⌝ }
+    requires { ⌜ Of (now s) m × AreTruths (worldOf (now s)) st (layoutOf (now s) .q) (now held) ⌝ }
     requires { ⌜ ((x : Option ℕ) × Coded (now s) entry x) ⌝ }
     ensures { λ r. ⌜ ((x : Option ℕ) → Coded (now (s .entry)) entry x → r ≡ after (worldOf (now (s .entry))) x st) ⌝ }
 {
@@ -335,7 +335,7 @@ fn state_after(s: &[u8], m: Machine, held: &[bool], entry: u32, st: State) -> St
 
 // Whether nothing is ahead of a cursor.
 pub fn is_spent(k: Cursor) -> bool
-    ensures { λ r. ⌜ ((s : List ℕ) (c : Config) (xs : List Step) → Ahead s c k xs → r ≡ isNone xs) ⌝ }
+    ensures { λ r. ⌜ ((s : List ℕ) (c : Configuration) (xs : List Transition) → Ahead s c k xs → r ≡ isNone xs) ⌝ }
 {
     k.end <= k.next
 }
@@ -370,10 +370,10 @@ fn lay_next(
 }
 
 // No transition was made.
-fn none_made(st: State, k: Cursor) -> Transition
+fn none_made(st: State, k: Cursor) -> Taken
     ensures { λ r. ⌜ r .made ≡ false ⌝ }
 {
-    Transition {
+    Taken {
         made: false,
         entry: 0,
         state: st,
@@ -391,7 +391,7 @@ pub fn next(
     st: State,
     at: usize,
     k: Cursor,
-) -> Transition
+) -> Taken
     requires { ⌜ Of (now s) m × Surveyed (now s) st (now flags) (now numbers) × CanGoOn (now s) st (now work) at k ⌝ }
     ensures { λ r. ⌜ GoesOn (now (s .entry)) st at k (now (work .entry)) (now (work .exit)) r ⌝ }
 {
@@ -403,7 +403,7 @@ pub fn next(
         return none_made(st, k);
     };
     let state = state_after(s, m, &flags[..512], entry, st);
-    Transition {
+    Taken {
         made: true,
         entry,
         state,

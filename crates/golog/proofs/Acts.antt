@@ -7,7 +7,7 @@ use Prim.Native.Nat.{ℕ}
 use native.Mathlib.Omega.{arith}
 use Rattle.golog.specs.declared.State.{State}
 use Rattle.golog.specs.World.{World}
-use Rattle.golog.specs.Prog.{Prog, nil, act, test, seq, alt, conc, prio, star, iter, ite, while, intr}
+use Rattle.golog.specs.Prog.{Prog, nil, act, test, sequence, choice, together, over, star, iteration, ifThenElse, while, interrupt}
 use Rattle.golog.specs.Trans.{Trans}
 
 module _ (K : ℕ → Type 0) where
@@ -16,15 +16,15 @@ module _ (K : ℕ → Type 0) where
   Acts nil = Unit {0}
   Acts (act a) = K a
   Acts (test q) = Unit {0}
-  Acts (seq a b) = Acts a × Acts b
-  Acts (alt a b) = Acts a × Acts b
-  Acts (conc a b) = Acts a × Acts b
-  Acts (prio a b) = Acts a × Acts b
+  Acts (sequence a b) = Acts a × Acts b
+  Acts (choice a b) = Acts a × Acts b
+  Acts (together a b) = Acts a × Acts b
+  Acts (over a b) = Acts a × Acts b
   Acts (star a) = Acts a
-  Acts (iter a) = Acts a
-  Acts (ite q a b) = Acts a × Acts b
+  Acts (iteration a) = Acts a
+  Acts (ifThenElse q a b) = Acts a × Acts b
   Acts (while q a) = Acts a
-  Acts (intr q a) = Acts a
+  Acts (interrupt q a) = Acts a
 
   -- what a transition leaves, and its move
   abbrev Kept : Option ℕ → Prog → Type 0
@@ -40,17 +40,17 @@ module _ (K : ℕ → Type 0) where
   acts-kept W (act a) s m q t k (can, em, eq, et) = (subst Acts (sym eq) tt, λ b e. let z : a ≡ b = cc in subst K z k)
   acts-kept W (test c) s m q t k (can, em, eq, et) =
       (subst Acts (sym eq) tt, λ b e. let z : _≡_ {A = ℕ} 0 1 = cc in absurd (omega arith))
-  acts-kept W (seq a b) s m q t k (inl (g, e, st)) = around (λ g. seq g b) e (λ l. (l, k .1)) (acts-kept W a s m g t (k .0) st)
-  acts-kept W (seq a b) s m q t k (inr (f, st)) = acts-kept W b s m q t (k .1) st
-  acts-kept W (alt a b) s m q t k (inl st) = acts-kept W a s m q t (k .0) st
-  acts-kept W (alt a b) s m q t k (inr st) = acts-kept W b s m q t (k .1) st
-  acts-kept W (star a) s m q t k (g, e, st) = around (λ g. seq g (star a)) e (λ l. (l, k)) (acts-kept W a s m g t k st)
-  acts-kept W (ite c a b) s m q t k (inl (h, st)) = acts-kept W a s m q t (k .0) st
-  acts-kept W (ite c a b) s m q t k (inr (h, st)) = acts-kept W b s m q t (k .1) st
-  acts-kept W (while c a) s m q t k (g, e, (h, st)) = around (λ g. seq g (while c a)) e (λ l. (l, k)) (acts-kept W a s m g t k st)
-  acts-kept W (conc a b) s m q t k (inl (g, e, st)) = around (λ g. conc g b) e (λ l. (l, k .1)) (acts-kept W a s m g t (k .0) st)
-  acts-kept W (conc a b) s m q t k (inr (g, e, st)) = around (λ g. conc a g) e (λ l. (k .0, l)) (acts-kept W b s m g t (k .1) st)
-  acts-kept W (prio a b) s m q t k (inl (g, e, st)) = around (λ g. prio g b) e (λ l. (l, k .1)) (acts-kept W a s m g t (k .0) st)
-  acts-kept W (prio a b) s m q t k (inr (g, e, (idle, st))) = around (λ g. prio a g) e (λ l. (k .0, l)) (acts-kept W b s m g t (k .1) st)
-  acts-kept W (iter a) s m q t k (g, e, st) = around (λ g. conc g (iter a)) e (λ l. (l, k)) (acts-kept W a s m g t k st)
-  acts-kept W (intr c a) s m q t k (g, e, (h, st)) = around (λ g. seq g (intr c a)) e (λ l. (l, k)) (acts-kept W a s m g t k st)
+  acts-kept W (sequence a b) s m q t k (inl (g, e, st)) = around (λ g. sequence g b) e (λ l. (l, k .1)) (acts-kept W a s m g t (k .0) st)
+  acts-kept W (sequence a b) s m q t k (inr (f, st)) = acts-kept W b s m q t (k .1) st
+  acts-kept W (choice a b) s m q t k (inl st) = acts-kept W a s m q t (k .0) st
+  acts-kept W (choice a b) s m q t k (inr st) = acts-kept W b s m q t (k .1) st
+  acts-kept W (star a) s m q t k (g, e, st) = around (λ g. sequence g (star a)) e (λ l. (l, k)) (acts-kept W a s m g t k st)
+  acts-kept W (ifThenElse c a b) s m q t k (inl (h, st)) = acts-kept W a s m q t (k .0) st
+  acts-kept W (ifThenElse c a b) s m q t k (inr (h, st)) = acts-kept W b s m q t (k .1) st
+  acts-kept W (while c a) s m q t k (g, e, (h, st)) = around (λ g. sequence g (while c a)) e (λ l. (l, k)) (acts-kept W a s m g t k st)
+  acts-kept W (together a b) s m q t k (inl (g, e, st)) = around (λ g. together g b) e (λ l. (l, k .1)) (acts-kept W a s m g t (k .0) st)
+  acts-kept W (together a b) s m q t k (inr (g, e, st)) = around (λ g. together a g) e (λ l. (k .0, l)) (acts-kept W b s m g t (k .1) st)
+  acts-kept W (over a b) s m q t k (inl (g, e, st)) = around (λ g. over g b) e (λ l. (l, k .1)) (acts-kept W a s m g t (k .0) st)
+  acts-kept W (over a b) s m q t k (inr (g, e, (idle, st))) = around (λ g. over a g) e (λ l. (k .0, l)) (acts-kept W b s m g t (k .1) st)
+  acts-kept W (iteration a) s m q t k (g, e, st) = around (λ g. together g (iteration a)) e (λ l. (l, k)) (acts-kept W a s m g t k st)
+  acts-kept W (interrupt c a) s m q t k (g, e, (h, st)) = around (λ g. sequence g (interrupt c a)) e (λ l. (l, k)) (acts-kept W a s m g t k st)

@@ -13,44 +13,44 @@ use Rattle.runs.proofs.Tests.{and-iff}
 use Rattle.golog.proofs.Tests.{same, or-iff, not-iff}
 use Rattle.golog.specs.declared.State.{State}
 use Rattle.golog.specs.World.{World, holds, possible, perform}
-use Rattle.golog.specs.Prog.{Prog, nil, act, test, seq, alt, conc, prio, star, iter, ite, while, intr}
+use Rattle.golog.specs.Prog.{Prog, nil, act, test, sequence, choice, together, over, star, iteration, ifThenElse, while, interrupt}
 use Rattle.runs.specs.Guide.{only}
-use Rattle.golog.specs.Steps.{Step, onProg, isNone, final, steps}
+use Rattle.golog.specs.Transitions.{Transition, onProg, isNone, final, transitions}
 use Rattle.golog.specs.Trans.{Final, Trans}
 
 -- membership in a list of steps
-append-iff : {A B : Type 0} {x : Step} (xs ys : List Step) → List·Memᴰ x xs ↔ A → List·Memᴰ x ys ↔ B → List·Memᴰ x (xs ++ ys) ↔ (A ⊎ B)
+append-iff : {A B : Type 0} {x : Transition} (xs ys : List Transition) → List·Memᴰ x xs ↔ A → List·Memᴰ x ys ↔ B → List·Memᴰ x (xs ++ ys) ↔ (A ⊎ B)
 append-iff xs ys p q = (λ h. ⊎-elim (λ l. inl (p .0 l)) (λ r. inr (q .0 r)) (List·Memᴰ·append-cases xs h), λ h. ⊎-elim (λ l. Memᴰ·append-left ys (p .1 l)) (λ r. Memᴰ·append-right xs (q .1 r)) h)
 
-only-iff : {A B : Type 0} {x : Step} (b : Bool) (xs : List Step) → T b ↔ A → List·Memᴰ x xs ↔ B → List·Memᴰ x (only b xs) ↔ (A × B)
+only-iff : {A B : Type 0} {x : Transition} (b : Bool) (xs : List Transition) → T b ↔ A → List·Memᴰ x xs ↔ B → List·Memᴰ x (only b xs) ↔ (A × B)
 only-iff true xs p q = (λ h. (p .0 tt, q .0 h), λ h. q .1 (h .1))
 only-iff false xs p q = (λ h. absurd (List·Memᴰ·not-nil h), λ h. absurd (p .1 (h .0)))
 
-one-iff : (m n : Option ℕ) (p q : Prog) (t u : State) (b : Bool) → List·Memᴰ {A = Step} (m, (p, t)) (only b ((n, (q, u)) ∷ [])) ↔ (T b × (m ≡ n) × (p ≡ q) × (t ≡ u))
+one-iff : (m n : Option ℕ) (p q : Prog) (t u : State) (b : Bool) → List·Memᴰ {A = Transition} (m, (p, t)) (only b ((n, (q, u)) ∷ [])) ↔ (T b × (m ≡ n) × (p ≡ q) × (t ≡ u))
 one-iff m n p q t u true = (
-  λ h. let e = List·Memᴰ·eq-of-singleton h in (tt, ap (λ (x : Step). x .0) e, ap (λ (x : Step). x .1 .0) e, ap (λ (x : Step). x .1 .1) e),
+  λ h. let e = List·Memᴰ·eq-of-singleton h in (tt, ap (λ (x : Transition). x .0) e, ap (λ (x : Transition). x .1 .0) e, ap (λ (x : Transition). x .1 .1) e),
   λ h. List·Memᴰ·head (λ i. (h .1 i, (h .2 i, h .3 i))),
 )
 one-iff m n p q t u false = (λ h. absurd (List·Memᴰ·not-nil h), λ h. absurd (h .0))
 
-mapped-in : (f : Prog → Prog) (m : Option ℕ) (p : Prog) (t : State) (xs : List Step) → List·Memᴰ (m, (p, t)) (map (onProg f) xs) → (g : Prog) × (p ≡ f g) × List·Memᴰ (m, (g, t)) xs
+mapped-in : (f : Prog → Prog) (m : Option ℕ) (p : Prog) (t : State) (xs : List Transition) → List·Memᴰ (m, (p, t)) (map (onProg f) xs) → (g : Prog) × (p ≡ f g) × List·Memᴰ (m, (g, t)) xs
 mapped-in f m p t [] h = absurd (List·Memᴰ·not-nil h)
 mapped-in f m p t (x ∷ xs) h = go (λ k. mapped-in f m p t xs k) (List·Memᴰ·cases-cons h)
   where
-    go : (List·Memᴰ (m, (p, t)) (map (onProg f) xs) → (g : Prog) × (p ≡ f g) × List·Memᴰ (m, (g, t)) xs) → (_≡_ {A = Step} (m, (p, t)) (onProg f x)) ⊎ List·Memᴰ (m, (p, t)) (map (onProg f) xs) →
+    go : (List·Memᴰ (m, (p, t)) (map (onProg f) xs) → (g : Prog) × (p ≡ f g) × List·Memᴰ (m, (g, t)) xs) → (_≡_ {A = Transition} (m, (p, t)) (onProg f x)) ⊎ List·Memᴰ (m, (p, t)) (map (onProg f) xs) →
         (g : Prog) × (p ≡ f g) × List·Memᴰ (m, (g, t)) (x ∷ xs)
-    go rec (inl e) = (x .1 .0, ap (λ (z : Step). z .1 .0) e, List·Memᴰ·head (λ i. (e i .0, (x .1 .0, e i .1 .1))))
+    go rec (inl e) = (x .1 .0, ap (λ (z : Transition). z .1 .0) e, List·Memᴰ·head (λ i. (e i .0, (x .1 .0, e i .1 .1))))
     go rec (inr k) = let r = rec k in (r .0, r .1, List·Memᴰ·tail (r .2))
 
-mapped-out : (f : Prog → Prog) (m : Option ℕ) (p g : Prog) (t : State) → p ≡ f g → {xs : List Step} → List·Memᴰ (m, (g, t)) xs → List·Memᴰ (m, (p, t)) (map (onProg f) xs)
-mapped-out f m p g t q (List·Memᴰ·head e) = List·Memᴰ·head (λ i. (e i .0, ((q ∙ ap (λ (z : Step). f (z .1 .0)) e) i, e i .1 .1)))
+mapped-out : (f : Prog → Prog) (m : Option ℕ) (p g : Prog) (t : State) → p ≡ f g → {xs : List Transition} → List·Memᴰ (m, (g, t)) xs → List·Memᴰ (m, (p, t)) (map (onProg f) xs)
+mapped-out f m p g t q (List·Memᴰ·head e) = List·Memᴰ·head (λ i. (e i .0, ((q ∙ ap (λ (z : Transition). f (z .1 .0)) e) i, e i .1 .1)))
 mapped-out f m p g t q (List·Memᴰ·tail k) = List·Memᴰ·tail (mapped-out f m p g t q k)
 
-map-iff : {R : Prog → Type 0} (f : Prog → Prog) (m : Option ℕ) (p : Prog) (t : State) (xs : List Step) → ((g : Prog) → List·Memᴰ (m, (g, t)) xs ↔ R g) →
+map-iff : {R : Prog → Type 0} (f : Prog → Prog) (m : Option ℕ) (p : Prog) (t : State) (xs : List Transition) → ((g : Prog) → List·Memᴰ (m, (g, t)) xs ↔ R g) →
     List·Memᴰ (m, (p, t)) (map (onProg f) xs) ↔ ((g : Prog) × (p ≡ f g) × R g)
 map-iff f m p t xs h = (λ k. let r = mapped-in f m p t xs k in (r .0, r .1, h (r .0) .0 (r .2)), λ k. mapped-out f m p (k .0) t (k .1) (h (k .0) .1 (k .2)))
 
-none-iff : {R : Option ℕ → Prog → State → Type 0} (xs : List Step) → ((m : Option ℕ) (g : Prog) (t : State) → List·Memᴰ (m, (g, t)) xs ↔ R m g t) →
+none-iff : {R : Option ℕ → Prog → State → Type 0} (xs : List Transition) → ((m : Option ℕ) (g : Prog) (t : State) → List·Memᴰ (m, (g, t)) xs ↔ R m g t) →
     T (isNone xs) ↔ ((m : Option ℕ) (g : Prog) (t : State) → ¬ R m g t)
 none-iff [] h = (λ k m g t r. List·Memᴰ·not-nil (h m g t .1 r), λ k. tt)
 none-iff (x ∷ xs) h = (λ k. absurd k, λ k. k (x .0) (x .1 .0) (x .1 .1) (h (x .0) (x .1 .0) (x .1 .1) .0 (List·Memᴰ·head refl)))
@@ -60,33 +60,33 @@ unfolding final Final
 final-exact W nil s = same (Unit {0})
 final-exact W (act a) s = same ⊥
 final-exact W (test q) s = same ⊥
-final-exact W (seq a b) s = and-iff (final W a s) (final W b s) (final-exact W a s) (final-exact W b s)
-final-exact W (alt a b) s = or-iff (final W a s) (final W b s) (final-exact W a s) (final-exact W b s)
+final-exact W (sequence a b) s = and-iff (final W a s) (final W b s) (final-exact W a s) (final-exact W b s)
+final-exact W (choice a b) s = or-iff (final W a s) (final W b s) (final-exact W a s) (final-exact W b s)
 final-exact W (star a) s = same (Unit {0})
-final-exact W (ite q a b) s = or-iff (holds W q s && final W a s) (not (holds W q s) && final W b s) (and-iff (holds W q s) (final W a s) (same _) (final-exact W a s))
+final-exact W (ifThenElse q a b) s = or-iff (holds W q s && final W a s) (not (holds W q s) && final W b s) (and-iff (holds W q s) (final W a s) (same _) (final-exact W a s))
     (and-iff (not (holds W q s)) (final W b s) (not-iff (holds W q s) (same _)) (final-exact W b s))
 final-exact W (while q a) s = or-iff (not (holds W q s)) (final W a s) (not-iff (holds W q s) (same _)) (final-exact W a s)
-final-exact W (conc a b) s = and-iff (final W a s) (final W b s) (final-exact W a s) (final-exact W b s)
-final-exact W (prio a b) s = and-iff (final W a s) (final W b s) (final-exact W a s) (final-exact W b s)
-final-exact W (iter a) s = same (Unit {0})
-final-exact W (intr q a) s = or-iff (not (s .running)) (holds W q s && final W a s) (not-iff (s .running) (same _)) (and-iff (holds W q s) (final W a s) (same _) (final-exact W a s))
+final-exact W (together a b) s = and-iff (final W a s) (final W b s) (final-exact W a s) (final-exact W b s)
+final-exact W (over a b) s = and-iff (final W a s) (final W b s) (final-exact W a s) (final-exact W b s)
+final-exact W (iteration a) s = same (Unit {0})
+final-exact W (interrupt q a) s = or-iff (not (s .running)) (holds W q s && final W a s) (not-iff (s .running) (same _)) (and-iff (holds W q s) (final W a s) (same _) (final-exact W a s))
 
-pub steps-exact : (W : World) (q : Prog) (s : State) (m : Option ℕ) (p : Prog) (t : State) → List·Memᴰ (m, (p, t)) (steps W q s) ↔ Trans W q s m p t
-unfolding steps Trans
+pub steps-exact : (W : World) (q : Prog) (s : State) (m : Option ℕ) (p : Prog) (t : State) → List·Memᴰ (m, (p, t)) (transitions W q s) ↔ Trans W q s m p t
+unfolding transitions Trans
 steps-exact W nil s m p t = (λ h. List·Memᴰ·not-nil h, λ h. absurd h)
 steps-exact W (act a) s m p t = one-iff m (some a) p nil t (perform W a s) (possible W a s)
 steps-exact W (test q) s m p t = one-iff m none p nil t s (holds W q s)
-steps-exact W (seq a b) s m p t = append-iff _ _ (map-iff (λ (g : Prog). seq g b) m p t (steps W a s) (λ g. steps-exact W a s m g t))
-    (only-iff (final W a s) (steps W b s) (final-exact W a s) (steps-exact W b s m p t))
-steps-exact W (alt a b) s m p t = append-iff (steps W a s) (steps W b s) (steps-exact W a s m p t) (steps-exact W b s m p t)
-steps-exact W (star a) s m p t = map-iff (λ (g : Prog). seq g (star a)) m p t (steps W a s) (λ g. steps-exact W a s m g t)
-steps-exact W (ite q a b) s m p t = append-iff _ _ (only-iff (holds W q s) (steps W a s) (same _) (steps-exact W a s m p t))
-    (only-iff (not (holds W q s)) (steps W b s) (not-iff (holds W q s) (same _)) (steps-exact W b s m p t))
-steps-exact W (while q a) s m p t = map-iff (λ (g : Prog). seq g (while q a)) m p t _ (λ g. only-iff (holds W q s) (steps W a s) (same _) (steps-exact W a s m g t))
-steps-exact W (conc a b) s m p t = append-iff _ _ (map-iff (λ (g : Prog). conc g b) m p t (steps W a s) (λ g. steps-exact W a s m g t))
-    (map-iff (λ (g : Prog). conc a g) m p t (steps W b s) (λ g. steps-exact W b s m g t))
-steps-exact W (prio a b) s m p t = append-iff _ _ (map-iff (λ (g : Prog). prio g b) m p t (steps W a s) (λ g. steps-exact W a s m g t))
-    (map-iff (λ (g : Prog). prio a g) m p t _ (λ g. only-iff (isNone (steps W a s)) (steps W b s) (none-iff (steps W a s) (λ n z u. steps-exact W a s n z u)) (steps-exact W b s m g t)))
-steps-exact W (iter a) s m p t = map-iff (λ (g : Prog). conc g (iter a)) m p t (steps W a s) (λ g. steps-exact W a s m g t)
-steps-exact W (intr q a) s m p t = map-iff (λ (g : Prog). seq g (intr q a)) m p t _ (λ g. only-iff (s .running && holds W q s) (steps W a s) (and-iff (s .running) (holds W q s) (same _) (same _))
+steps-exact W (sequence a b) s m p t = append-iff _ _ (map-iff (λ (g : Prog). sequence g b) m p t (transitions W a s) (λ g. steps-exact W a s m g t))
+    (only-iff (final W a s) (transitions W b s) (final-exact W a s) (steps-exact W b s m p t))
+steps-exact W (choice a b) s m p t = append-iff (transitions W a s) (transitions W b s) (steps-exact W a s m p t) (steps-exact W b s m p t)
+steps-exact W (star a) s m p t = map-iff (λ (g : Prog). sequence g (star a)) m p t (transitions W a s) (λ g. steps-exact W a s m g t)
+steps-exact W (ifThenElse q a b) s m p t = append-iff _ _ (only-iff (holds W q s) (transitions W a s) (same _) (steps-exact W a s m p t))
+    (only-iff (not (holds W q s)) (transitions W b s) (not-iff (holds W q s) (same _)) (steps-exact W b s m p t))
+steps-exact W (while q a) s m p t = map-iff (λ (g : Prog). sequence g (while q a)) m p t _ (λ g. only-iff (holds W q s) (transitions W a s) (same _) (steps-exact W a s m g t))
+steps-exact W (together a b) s m p t = append-iff _ _ (map-iff (λ (g : Prog). together g b) m p t (transitions W a s) (λ g. steps-exact W a s m g t))
+    (map-iff (λ (g : Prog). together a g) m p t (transitions W b s) (λ g. steps-exact W b s m g t))
+steps-exact W (over a b) s m p t = append-iff _ _ (map-iff (λ (g : Prog). over g b) m p t (transitions W a s) (λ g. steps-exact W a s m g t))
+    (map-iff (λ (g : Prog). over a g) m p t _ (λ g. only-iff (isNone (transitions W a s)) (transitions W b s) (none-iff (transitions W a s) (λ n z u. steps-exact W a s n z u)) (steps-exact W b s m g t)))
+steps-exact W (iteration a) s m p t = map-iff (λ (g : Prog). together g (iteration a)) m p t (transitions W a s) (λ g. steps-exact W a s m g t)
+steps-exact W (interrupt q a) s m p t = map-iff (λ (g : Prog). sequence g (interrupt q a)) m p t _ (λ g. only-iff (s .running && holds W q s) (transitions W a s) (and-iff (s .running) (holds W q s) (same _) (same _))
     (steps-exact W a s m g t))

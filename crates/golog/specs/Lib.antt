@@ -2,5 +2,5 @@ pub mod World
 pub mod Says
 pub mod Prog
 pub mod Trans
-pub mod Steps
+pub mod Transitions
 pub mod Decoded

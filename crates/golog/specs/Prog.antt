@@ -11,10 +11,10 @@ use Rattle.golog.specs.World.{start, stop}
 pub data Prog : Type 0 where
   nil : Prog
   act test : ℕ → Prog
-  seq alt conc prio : Prog → Prog → Prog
-  star iter : Prog → Prog
-  ite : ℕ → Prog → Prog → Prog
-  while intr : ℕ → Prog → Prog
+  sequence choice together over : Prog → Prog → Prog
+  star iteration : Prog → Prog
+  ifThenElse : ℕ → Prog → Prog → Prog
+  while interrupt : ℕ → Prog → Prog
   deriving Discrete as Prog-discrete
 
 -- document 01, "Program" and "Steps and endings": the program of a record, given those of its parts a and b
@@ -25,15 +25,15 @@ construct r P Q =
     nil ∷  -- 0 nil
     act (r .a) ∷  -- 1 act a
     test (r .a) ∷  -- 2 test a
-    seq P Q ∷  -- 3 a;b
-    alt P Q ∷  -- 4 a|b
+    sequence P Q ∷  -- 3 a;b
+    choice P Q ∷  -- 4 a|b
     star P ∷  -- 5 star a
-    ite (r .c) P Q ∷  -- 6 if c then a else b
+    ifThenElse (r .c) P Q ∷  -- 6 if c then a else b
     while (r .c) P ∷  -- 7 while c do a
-    conc P Q ∷  -- 8 a together with b
-    prio P Q ∷  -- 9 a over b
-    iter P ∷  -- 10 concurrent iteration of a
-    intr (r .c) P ∷  -- 11 interrupt c, a
+    together P Q ∷  -- 8 a together with b
+    over P Q ∷  -- 9 a over b
+    iteration P ∷  -- 10 concurrent iteration of a
+    interrupt (r .c) P ∷  -- 11 interrupt c, a
     []
     )
     (r .kind) nil
@@ -52,5 +52,5 @@ programOf p i = entryOf nil (progAt p) i
 
 -- "If any program record has kind 11, what runs is: start; (root over stop)" (000, section 5: {start_interrupts; (δ ≫ stop_interrupts)})
 abbrev pub started : (interrupts : Bool) → (root : Prog) → Prog
-started true root = seq (act start) (prio root (act stop))
+started true root = sequence (act start) (over root (act stop))
 started false root = root

@@ -7,7 +7,7 @@ use mathlib.Core.Path.{_≡_}
 use lib.Dec.{T}
 use Rattle.golog.specs.declared.State.{State}
 use Rattle.golog.specs.World.{World, holds, possible, perform}
-use Rattle.golog.specs.Prog.{Prog, nil, act, test, seq, alt, conc, prio, star, iter, ite, while, intr}
+use Rattle.golog.specs.Prog.{Prog, nil, act, test, sequence, choice, together, over, star, iteration, ifThenElse, while, interrupt}
 
 unfoldable pub Final : World → Prog → State → Type 0
 -- section 4.1, axioms F: 1 empty program
@@ -17,23 +17,23 @@ Final W (act a) s = ⊥
 -- 3 wait/test action
 Final W (test q) s = ⊥
 -- 4 sequence
-Final W (seq a b) s = Final W a s × Final W b s
+Final W (sequence a b) s = Final W a s × Final W b s
 -- 5 nondeterministic branch
-Final W (alt a b) s = Final W a s ⊎ Final W b s
+Final W (choice a b) s = Final W a s ⊎ Final W b s
 -- 7 iteration
 Final W (star a) s = Unit {0}
 -- section 5: synchronized conditional
-Final W (ite q a b) s = (T (holds W q s) × Final W a s) ⊎ ((¬ T (holds W q s)) × Final W b s)
+Final W (ifThenElse q a b) s = (T (holds W q s) × Final W a s) ⊎ ((¬ T (holds W q s)) × Final W b s)
 -- synchronized loop
 Final W (while q a) s = (¬ T (holds W q s)) ⊎ Final W a s
 -- concurrent execution
-Final W (conc a b) s = Final W a s × Final W b s
+Final W (together a b) s = Final W a s × Final W b s
 -- concurrency with different priorities
-Final W (prio a b) s = Final W a s × Final W b s
+Final W (over a b) s = Final W a s × Final W b s
 -- concurrent iteration
-Final W (iter a) s = Unit {0}
+Final W (iteration a) s = Unit {0}
 -- interrupt: while Interrupts_running do if φ then δ else False?, where no axiom makes False? final
-Final W (intr q a) s = (¬ T (s .running)) ⊎ (T (holds W q s) × Final W a s)
+Final W (interrupt q a) s = (¬ T (s .running)) ⊎ (T (holds W q s) × Final W a s)
 
 -- from program and state by a move to program and state
 unfoldable pub Trans : World → Prog → State → Option ℕ → Prog → State → Type 0
@@ -44,20 +44,20 @@ Trans W (act a) s m p t = T (possible W a s) × (m ≡ some a) × (p ≡ nil) ×
 -- 3 wait/test actions
 Trans W (test q) s m p t = T (holds W q s) × (m ≡ none) × (p ≡ nil) × (t ≡ s)
 -- 4 sequence
-Trans W (seq a b) s m p t = ((g : Prog) × (p ≡ seq g b) × Trans W a s m g t) ⊎ (Final W a s × Trans W b s m p t)
+Trans W (sequence a b) s m p t = ((g : Prog) × (p ≡ sequence g b) × Trans W a s m g t) ⊎ (Final W a s × Trans W b s m p t)
 -- 5 nondeterministic branch
-Trans W (alt a b) s m p t = Trans W a s m p t ⊎ Trans W b s m p t
+Trans W (choice a b) s m p t = Trans W a s m p t ⊎ Trans W b s m p t
 -- 7 iteration
-Trans W (star a) s m p t = (g : Prog) × (p ≡ seq g (star a)) × Trans W a s m g t
+Trans W (star a) s m p t = (g : Prog) × (p ≡ sequence g (star a)) × Trans W a s m g t
 -- section 5: synchronized conditional
-Trans W (ite q a b) s m p t = (T (holds W q s) × Trans W a s m p t) ⊎ ((¬ T (holds W q s)) × Trans W b s m p t)
+Trans W (ifThenElse q a b) s m p t = (T (holds W q s) × Trans W a s m p t) ⊎ ((¬ T (holds W q s)) × Trans W b s m p t)
 -- synchronized loop
-Trans W (while q a) s m p t = (g : Prog) × (p ≡ seq g (while q a)) × (T (holds W q s) × Trans W a s m g t)
+Trans W (while q a) s m p t = (g : Prog) × (p ≡ sequence g (while q a)) × (T (holds W q s) × Trans W a s m g t)
 -- concurrent execution
-Trans W (conc a b) s m p t = ((g : Prog) × (p ≡ conc g b) × Trans W a s m g t) ⊎ ((g : Prog) × (p ≡ conc a g) × Trans W b s m g t)
+Trans W (together a b) s m p t = ((g : Prog) × (p ≡ together g b) × Trans W a s m g t) ⊎ ((g : Prog) × (p ≡ together a g) × Trans W b s m g t)
 -- concurrency with different priorities: the second only where the first has no transition
-Trans W (prio a b) s m p t = ((g : Prog) × (p ≡ prio g b) × Trans W a s m g t) ⊎ ((g : Prog) × (p ≡ prio a g) × (((n : Option ℕ) (z : Prog) (u : State) → ¬ Trans W a s n z u) × Trans W b s m g t))
+Trans W (over a b) s m p t = ((g : Prog) × (p ≡ over g b) × Trans W a s m g t) ⊎ ((g : Prog) × (p ≡ over a g) × (((n : Option ℕ) (z : Prog) (u : State) → ¬ Trans W a s n z u) × Trans W b s m g t))
 -- concurrent iteration
-Trans W (iter a) s m p t = (g : Prog) × (p ≡ conc g (iter a)) × Trans W a s m g t
+Trans W (iteration a) s m p t = (g : Prog) × (p ≡ together g (iteration a)) × Trans W a s m g t
 -- interrupt: while Interrupts_running do if φ then δ else False?, where no axiom lets False? go
-Trans W (intr q a) s m p t = (g : Prog) × (p ≡ seq g (intr q a)) × ((T (s .running) × T (holds W q s)) × Trans W a s m g t)
+Trans W (interrupt q a) s m p t = (g : Prog) × (p ≡ sequence g (interrupt q a)) × ((T (s .running) × T (holds W q s)) × Trans W a s m g t)

@@ -10,31 +10,31 @@ use borrow.Author.Tests.{eqb-true, ne-eqb}
 use lib.ListN.{getD}
 use Rattle.records.proofs.Truth.{line}
 use Rattle.height.specs.Down.{TwoParts, OnePart, Link}
-use Rattle.height.specs.Height.{hasTwo, hasOne, links, over}
+use Rattle.height.specs.Height.{hasTwo, hasOne, links, heightOver}
 use Rattle.records.specs.declared.Program.{Program}
 
 -- two tables that read alike
-pub over-same : (l m : List ℕ) → ((a : ℕ) → getD l a 0 ≡ getD m a 0) → (xs : List ℕ) → over l xs ≡ over m xs
-unfolding over
+pub over-same : (l m : List ℕ) → ((a : ℕ) → getD l a 0 ≡ getD m a 0) → (xs : List ℕ) → heightOver l xs ≡ heightOver m xs
+unfolding heightOver
 over-same l m e [] = refl
 over-same l m e (a ∷ xs) = ap₂ (λ (x y : ℕ). max (suc x) y) (e a) (over-same l m e xs)
 
-pub over-le : (l : List ℕ) (m : ℕ) → ((a : ℕ) → getD l a 0 ≤ m) → (xs : List ℕ) → over l xs ≤ suc m
-unfolding over
+pub over-le : (l : List ℕ) (m : ℕ) → ((a : ℕ) → getD l a 0 ≤ m) → (xs : List ℕ) → heightOver l xs ≤ suc m
+unfolding heightOver
 over-le l m h [] = zero-le
 over-le l m h (a ∷ xs) = let p = h a in let q = over-le l m h xs in omega arith
 
 module _ (lower : List ℕ) (r : Program) where
-  pub over-two : hasTwo (r .kind) ≡ true → over lower (links r) ≡ 1 + max (getD lower (r .a) 0) (getD lower (r .b) 0)
-  unfolding links over
+  pub over-two : hasTwo (r .kind) ≡ true → heightOver lower (links r) ≡ 1 + max (getD lower (r .a) 0) (getD lower (r .b) 0)
+  unfolding links heightOver
   over-two e = simp e (omega arith)
 
-  pub over-one : hasTwo (r .kind) ≡ false → hasOne (r .kind) ≡ true → over lower (links r) ≡ 1 + getD lower (r .a) 0
-  unfolding links over
+  pub over-one : hasTwo (r .kind) ≡ false → hasOne (r .kind) ≡ true → heightOver lower (links r) ≡ 1 + getD lower (r .a) 0
+  unfolding links heightOver
   over-one e f = simp (e, f) (omega arith)
 
-  pub over-none : hasTwo (r .kind) ≡ false → hasOne (r .kind) ≡ false → over lower (links r) ≡ 0
-  unfolding links over
+  pub over-none : hasTwo (r .kind) ≡ false → hasOne (r .kind) ≡ false → heightOver lower (links r) ≡ 0
+  unfolding links heightOver
   over-none e f = simp (e, f)
 
 two-parts : (k : ℕ) → hasTwo k ≡ true → TwoParts k

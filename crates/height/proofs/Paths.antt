@@ -11,7 +11,7 @@ use Rattle.records.specs.Table.{upTo}
 use Rattle.records.proofs.Fills.{up-at, entry-is}
 use Rattle.records.specs.declared.Program.{Program}
 use Rattle.height.specs.Down.{Link, Down, stop, step, IsHeight, HeightAbove}
-use Rattle.height.specs.Height.{links, over, heightAt, rise, heightOf}
+use Rattle.height.specs.Height.{links, heightOver, heightAt, rise, heightOf}
 use Rattle.height.proofs.Links.{link-exactly}
 
 -- the links of the first n records lead to lower records
@@ -23,8 +23,8 @@ unfoldable pub above : (ℕ → ℕ) → List ℕ → ℕ
 above h [] = 0
 above h (a ∷ more) = max (suc (h a)) (above h more)
 
-over-above : (l : List ℕ) (h : ℕ → ℕ) (xs : List ℕ) → ((a : ℕ) → List·Memᴰ a xs → getD l a 0 ≡ h a) → over l xs ≡ above h xs
-unfolding over above
+over-above : (l : List ℕ) (h : ℕ → ℕ) (xs : List ℕ) → ((a : ℕ) → List·Memᴰ a xs → getD l a 0 ≡ h a) → heightOver l xs ≡ above h xs
+unfolding heightOver above
 over-above l h [] e = refl
 over-above l h (a ∷ xs) e =
     ap₂ (λ (x y : ℕ). max (suc x) y) (e a (List·Memᴰ·head refl)) (over-above l h xs (λ b k. e b (List·Memᴰ·tail k)))

@@ -22,13 +22,13 @@ unfoldable pub links : Program → List ℕ
 links r = cond (hasTwo (r .kind)) (r .a ∷ r .b ∷ []) (cond (hasOne (r .kind)) (r .a ∷ []) [])
 
 -- one link more than the highest of the records named, whose heights are in the table; 0 where none is named
-unfoldable pub over : (lower : List ℕ) → List ℕ → ℕ
-over lower [] = 0
-over lower (a ∷ more) = max (suc (getD lower a 0)) (over lower more)
+unfoldable pub heightOver : (lower : List ℕ) → List ℕ → ℕ
+heightOver lower [] = 0
+heightOver lower (a ∷ more) = max (suc (getD lower a 0)) (heightOver lower more)
 
 -- the height of record i, from those of lower records
 unfoldable pub heightAt : (ℕ → Program) → ℕ → List ℕ → ℕ
-heightAt p i lower = over lower (links (p i))
+heightAt p i lower = heightOver lower (links (p i))
 
 -- the height of record i
 unfoldable pub rise : (ℕ → Program) → ℕ → ℕ

@@ -4,7 +4,7 @@ ghost use mathlib.Core.Bool.{cond};
 ghost use Prim.Native.Nat.{ℕ, _+_, _-_, _*_, _≤_, _<_, max};
 ghost use lib.ListN.{length, getD};
 ghost use Rattle.records.specs.Records.{programAt};
-ghost use Rattle.height.specs.Height.{hasTwo, hasOne, over, links, heightAt, heightOf, plain, interrupts};
+ghost use Rattle.height.specs.Height.{hasTwo, hasOne, heightOver, links, heightAt, heightOf, plain, interrupts};
 ghost use Rattle.height.specs.Work.{levels, frameWords, workWords};
 use records::Program;
 
@@ -38,7 +38,7 @@ fn height_in(h: &[usize; 256], a: usize) -> usize
 fn height_over(h: &[usize; 256], r: Program) -> usize
     requires { ⌜ length (now h) ≡ 256 ⌝ }
     requires { ⌜ ((j : ℕ) → getD (now h) j 0 ≤ 256) ⌝ }
-    ensures { λ v. ⌜ v ≡ over (now (h .entry)) (links r) ⌝ }
+    ensures { λ v. ⌜ v ≡ heightOver (now (h .entry)) (links r) ⌝ }
 {
     if has_two(r.kind) {
         let ha = height_in(h, r.a);

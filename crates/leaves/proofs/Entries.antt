@@ -16,13 +16,13 @@ use Rattle.records.proofs.Fills.{default-at, length-up, up-at}
 use Rattle.height.specs.Height.{rise}
 use Rattle.golog.specs.declared.State.{State}
 use Rattle.golog.specs.World.{World, holds}
-use Rattle.held.specs.Rest.{AllLower}
-use Rattle.held.specs.Leaves.{Leaf, nilLeaf, leafAt, leafOf}
-use Rattle.held.specs.Kinds.{usesA}
-use Rattle.held.proofs.Counts.{leaf-few}
-use Rattle.held.proofs.Entries.{lower-a, rise-a}
-use Rattle.held.proofs.Every.{uses-a}
-use Rattle.leaves.specs.Tallies.{cap, counted, finalsOf, countsOf, SeesRecord, firstBy}
+use Rattle.remaining.specs.Rest.{AllLower}
+use Rattle.remaining.specs.Leaves.{Leaf, nilLeaf, leafAt, leafOf}
+use Rattle.remaining.specs.Kinds.{usesA}
+use Rattle.remaining.proofs.Counts.{leaf-few}
+use Rattle.remaining.proofs.Entries.{lower-a, rise-a}
+use Rattle.remaining.proofs.Every.{uses-a}
+use Rattle.leaves.specs.Tallies.{cap, cappedCount, finalsOf, countsOf, SeesRecord, firstBy}
 use Rattle.leaves.specs.Endable.{AreFinal}
 use Rattle.leaves.proofs.Seen.{first-seen}
 
@@ -38,12 +38,12 @@ module _ (W : World) (s : State) (p : ℕ → Program) where
       ∙ List·getD-map (λ (l : Leaf). l .final) (upTo (leafAt W s p) m) i nilLeaf
       ∙ ap (λ (l : Leaf). l .final) (up-at nilLeaf (leafAt W s p) m i h)
 
-  pub counts-at : (m i : ℕ) → i < m → getD (countsOf W s p m) i 0 ≡ min cap (length (leafOf W s p i .steps))
+  pub counts-at : (m i : ℕ) → i < m → getD (countsOf W s p m) i 0 ≡ min cap (length (leafOf W s p i .transitions))
   unfolding countsOf leafOf
   counts-at m i h =
-      default-at 0 (map counted (upTo (leafAt W s p) m)) (260 - m) i
-      ∙ List·getD-map counted (upTo (leafAt W s p) m) i nilLeaf
-      ∙ ap counted (up-at nilLeaf (leafAt W s p) m i h)
+      default-at 0 (map cappedCount (upTo (leafAt W s p) m)) (260 - m) i
+      ∙ List·getD-map cappedCount (upTo (leafAt W s p) m) i nilLeaf
+      ∙ ap cappedCount (up-at nilLeaf (leafAt W s p) m i h)
 
   finals-after : (m i : ℕ) → m ≤ i → getD (finalsOf W s p m) i true ≡ true
   unfolding finalsOf
@@ -66,22 +66,22 @@ module _ (W : World) (s : State) (p : ℕ → Program) where
       go i (no k) = z i (omega arith) ∙ sym (finals-after m i (omega arith))
 
   -- a table of counts that had 0 after the first m
-  pub counts-whole : (m : ℕ) (old : List ℕ) → drop m old ≡ replicate (260 - m) 0 → map counted (upTo (leafAt W s p) m) ++ drop m old ≡ countsOf W s p m
+  pub counts-whole : (m : ℕ) (old : List ℕ) → drop m old ≡ replicate (260 - m) 0 → map cappedCount (upTo (leafAt W s p) m) ++ drop m old ≡ countsOf W s p m
   unfolding countsOf
-  counts-whole m old z = ap (λ (l : List ℕ). map counted (upTo (leafAt W s p) m) ++ l) z
+  counts-whole m old z = ap (λ (l : List ℕ). map cappedCount (upTo (leafAt W s p) m) ++ l) z
 
-  pub few-steps : AllLower p → (i : ℕ) → rise p i ≤ 18 → length (leafOf W s p i .steps) ≤ 262144
+  pub few-steps : AllLower p → (i : ℕ) → rise p i ≤ 18 → length (leafOf W s p i .transitions) ≤ 262144
   few-steps low i h = let u : 2 ^ rise p i ≤ 2 ^ 18 = pow-le-pow-right (omega arith) h in omega (arith, leaf-few W s p low i)
 
-  pub counts-exact : AllLower p → (m i : ℕ) → i < m → rise p i ≤ 18 → getD (countsOf W s p m) i 0 ≡ length (leafOf W s p i .steps)
+  pub counts-exact : AllLower p → (m i : ℕ) → i < m → rise p i ≤ 18 → getD (countsOf W s p m) i 0 ≡ length (leafOf W s p i .transitions)
   counts-exact low m i h k = omega (arith, counts-at m i h, few-steps low i k)
 
   -- the transitions of a record's part a, counted
   pub first-exact : AllLower p → (m i : ℕ) → i < m → rise p i ≤ 18 → {held : List Bool} {can : ℕ → Bool} {running : Bool} → SeesRecord W s held can (p i) → s .running ≡ running
-      → firstBy (p i) held running (countsOf W s p m) ≡ cond (usesA (p i .kind) (holds W (p i .c) s) (s .running)) (length (leafOf W s p (p i .a) .steps)) 0
+      → firstBy (p i) held running (countsOf W s p m) ≡ cond (usesA (p i .kind) (holds W (p i .c) s) (s .running)) (length (leafOf W s p (p i .a) .transitions)) 0
   unfolding firstBy
   first-exact low m i h k S e =
       let used : Bool = usesA (p i .kind) (holds W (p i .c) s) (s .running) in
-      let exact : T used → getD (countsOf W s p m) (p i .a) 0 ≡ length (leafOf W s p (p i .a) .steps) =
+      let exact : T used → getD (countsOf W s p m) (p i .a) 0 ≡ length (leafOf W s p (p i .a) .transitions) =
       λ t. let u = uses-a (p i .kind) (holds W (p i .c) s) (s .running) t in counts-exact low m (p i .a) (omega (arith, lower-a p low i u)) (omega (arith, rise-a p low i u)) in
       rw (← e) (ap (λ (b : Bool). cond b (getD (countsOf W s p m) (p i .a) 0) 0) (first-seen S (s .running)) ∙ where-used used _ _ exact)

@@ -13,13 +13,13 @@ use Rattle.records.proofs.Fills.{Refilled, refill-at, refill-more, up-at}
 use Rattle.height.specs.Height.{hasTwo}
 use Rattle.golog.specs.declared.State.{State}
 use Rattle.golog.specs.World.{World}
-use Rattle.held.specs.Kinds.{ownOf, usesA, usesB, countOf}
-use Rattle.held.specs.Leaves.{Leaf, nilLeaf, leafAt, leafOf}
-use Rattle.held.specs.Rest.{AllLower}
-use Rattle.held.proofs.Columns.{by-kind}
-use Rattle.held.proofs.Counts.{leaf-count, count-capped}
-use Rattle.held.proofs.Entries.{hasA, lower-a, lower-b}
-use Rattle.leaves.specs.Tallies.{cap, counted, SeesRecord, countBy}
+use Rattle.remaining.specs.Kinds.{ownOf, usesA, usesB, countOf}
+use Rattle.remaining.specs.Leaves.{Leaf, nilLeaf, leafAt, leafOf}
+use Rattle.remaining.specs.Rest.{AllLower}
+use Rattle.remaining.proofs.Columns.{by-kind}
+use Rattle.remaining.proofs.Counts.{leaf-count, count-capped}
+use Rattle.remaining.proofs.Entries.{hasA, lower-a, lower-b}
+use Rattle.leaves.specs.Tallies.{cap, cappedCount, SeesRecord, countBy}
 use Rattle.leaves.specs.Endable.{AreFinal}
 use Rattle.leaves.proofs.Seen.{count-seen}
 
@@ -35,13 +35,13 @@ count-parts can held fa ga h running ca da cb db =
     (λ u v. one 7 (u tt)) (λ u v. two 8 (u tt) (v tt)) (λ u v. two 9 (u tt) (v tt)) (λ u v. one 10 (u tt)) (λ u v. one 11 (u tt)) (λ k u v. refl)
 
 module _ (W : World) (s : State) (p : ℕ → Program) (low : AllLower p) {m : ℕ} (finals : List Bool) (F : AreFinal W s p m finals)
-    {old counts : List ℕ} {i : ℕ} (B : Refilled (leafAt W s p) counted old counts i) (l : i < m)
+    {old counts : List ℕ} {i : ℕ} (B : Refilled (leafAt W s p) cappedCount old counts i) (l : i < m)
     {held : List Bool} {can : ℕ → Bool} {running : Bool} (S : SeesRecord W s held can (p i)) (e : s .running ≡ running) where
-  part-in : (a : ℕ) → a < i → let A = getD (upTo (leafAt W s p) i) a nilLeaf in (getD finals a true ≡ A .final) × (getD counts a 0 ≡ counted A)
+  part-in : (a : ℕ) → a < i → let A = getD (upTo (leafAt W s p) i) a nilLeaf in (getD finals a true ≡ A .final) × (getD counts a 0 ≡ cappedCount A)
   unfolding leafOf
-  part-in a h = (F a (omega arith) ∙ ap (λ (y : Leaf). y .final) (sym (up-at nilLeaf (leafAt W s p) i a h)), refill-at (leafAt W s p) counted B nilLeaf a h)
+  part-in a h = (F a (omega arith) ∙ ap (λ (y : Leaf). y .final) (sym (up-at nilLeaf (leafAt W s p) i a h)), refill-at (leafAt W s p) cappedCount B nilLeaf a h)
 
-  count-right : min cap (countBy (p i) held can running finals counts) ≡ counted (leafAt W s p i (upTo (leafAt W s p) i))
+  count-right : min cap (countBy (p i) held can running finals counts) ≡ cappedCount (leafAt W s p i (upTo (leafAt W s p) i))
   unfolding countBy
   count-right =
       rw (← e)
@@ -50,5 +50,5 @@ module _ (W : World) (s : State) (p : ℕ → Program) (low : AllLower p) {m : �
       ∙ sym (count-capped cap _ _ _ _ _ _ _ _ (omega arith))
       ∙ ap (min cap) (sym (leaf-count W s (p i) i _ _)))
 
-  pub next : i < length old → {k : ℕ} → k ≡ min cap (countBy (p i) held can running finals counts) → Refilled (leafAt W s p) counted old (set counts i k) (i + 1)
-  next h ek = refill-more (leafAt W s p) counted B h (ek ∙ count-right)
+  pub next : i < length old → {k : ℕ} → k ≡ min cap (countBy (p i) held can running finals counts) → Refilled (leafAt W s p) cappedCount old (set counts i k) (i + 1)
+  next h ek = refill-more (leafAt W s p) cappedCount B h (ek ∙ count-right)

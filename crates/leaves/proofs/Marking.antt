@@ -13,13 +13,13 @@ use Rattle.records.proofs.Truth.{and-both, or-left, or-right, or-only}
 use Rattle.records.proofs.Fills.{default-at, length-up, up-at}
 use Rattle.height.specs.Height.{hasTwo}
 use Rattle.golog.specs.World.{holds}
-use Rattle.held.specs.Kinds.{finalOf}
-use Rattle.held.specs.Leaves.{Leaf, leafWith, leafOf}
-use Rattle.held.specs.Rest.{AllLower}
-use Rattle.held.proofs.Columns.{by-kind}
-use Rattle.held.proofs.Entries.{entry-rule, hasA, lower-a, lower-b, leaf-step}
-use Rattle.leaves.specs.Tallies.{places}
-use Rattle.leaves.specs.Endable.{boundOf, boundBy, Endable, Sure, boundAt, boundsOf, doubtBy, Settled}
+use Rattle.remaining.specs.Kinds.{finalOf}
+use Rattle.remaining.specs.Leaves.{Leaf, leafWith, leafOf}
+use Rattle.remaining.specs.Rest.{AllLower}
+use Rattle.remaining.proofs.Columns.{by-kind}
+use Rattle.remaining.proofs.Entries.{entry-rule, hasA, lower-a, lower-b, leaf-step}
+use Rattle.leaves.specs.Tallies.{extendedSize}
+use Rattle.leaves.specs.Endable.{finalBoundOf, finalBoundBy, Endable, Sure, finalBoundAt, finalBoundsOf, doubtBy, Settled}
 
 -- x is true only where y is
 abbrev Under : Bool → Bool → Type 0
@@ -45,65 +45,65 @@ chosen h false y u v p q e = cc
 
 module _ (fa fb ma mb h running : Bool) where
   -- what is final is marked, by kind
-  above : (kind : ℕ) → (T (hasA kind) → Under fa ma) → (T (hasTwo kind) → Under fb mb) → Under (finalOf kind fa fb h running) (boundOf true kind ma mb)
-  unfolding finalOf boundOf
+  above : (kind : ℕ) → (T (hasA kind) → Under fa ma) → (T (hasTwo kind) → Under fb mb) → Under (finalOf kind fa fb h running) (finalBoundOf true kind ma mb)
+  unfolding finalOf finalBoundOf
   above =
-      by-kind (λ (k : ℕ). (T (hasA k) → Under fa ma) → (T (hasTwo k) → Under fb mb) → Under (finalOf k fa fb h running) (boundOf true k ma mb))
+      by-kind (λ (k : ℕ). (T (hasA k) → Under fa ma) → (T (hasTwo k) → Under fb mb) → Under (finalOf k fa fb h running) (finalBoundOf true k ma mb))
       (λ p q e. refl) (λ p q e. e) (λ p q e. e) (λ p q. both fa fb ma mb (p tt) (q tt)) (λ p q. either fa fb ma mb (p tt) (q tt)) (λ p q e. refl)
       (λ p q e. or-right (ma && mb) (ma || mb) (branch h fa fb ma mb (p tt) (q tt) e)) (λ p q e. refl) (λ p q. both fa fb ma mb (p tt) (q tt))
       (λ p q. both fa fb ma mb (p tt) (q tt)) (λ p q e. refl) (λ p q e. refl) (λ k p q e. refl)
 
   -- what is marked is final, by kind
-  below : (kind : ℕ) → (T (hasA kind) → Under ma fa) → (T (hasTwo kind) → Under mb fb) → Under (boundOf false kind ma mb) (finalOf kind fa fb h running)
-  unfolding finalOf boundOf
+  below : (kind : ℕ) → (T (hasA kind) → Under ma fa) → (T (hasTwo kind) → Under mb fb) → Under (finalBoundOf false kind ma mb) (finalOf kind fa fb h running)
+  unfolding finalOf finalBoundOf
   below =
-      by-kind (λ (k : ℕ). (T (hasA k) → Under ma fa) → (T (hasTwo k) → Under mb fb) → Under (boundOf false k ma mb) (finalOf k fa fb h running))
+      by-kind (λ (k : ℕ). (T (hasA k) → Under ma fa) → (T (hasTwo k) → Under mb fb) → Under (finalBoundOf false k ma mb) (finalOf k fa fb h running))
       (λ p q e. e) (λ p q e. e) (λ p q e. e) (λ p q. both ma mb fa fb (p tt) (q tt)) (λ p q. either ma mb fa fb (p tt) (q tt)) (λ p q e. e)
       (λ p q e. chosen h ma mb fa fb (p tt) (q tt) (or-only (ma && mb) e)) (λ p q e. or-right (not h) fa (p tt e)) (λ p q. both ma mb fa fb (p tt) (q tt))
       (λ p q. both ma mb fa fb (p tt) (q tt)) (λ p q e. e) (λ p q e. cc) (λ k p q e. e)
 
 -- a record reads the lower ones through their marks alone
-pub bound-same : (most : Bool) (r : Program) (l m : List Bool) → ((a : ℕ) → getD l a true ≡ getD m a true) → boundBy most r l ≡ boundBy most r m
-unfolding boundBy
+pub bound-same : (most : Bool) (r : Program) (l m : List Bool) → ((a : ℕ) → getD l a true ≡ getD m a true) → finalBoundBy most r l ≡ finalBoundBy most r m
+unfolding finalBoundBy
 bound-same most r l m h = rw (h (r .a), h (r .b))
 
 module _ (most : Bool) (p : ℕ → Program) (m : ℕ) where
-  bounds-at : (i : ℕ) → i < m → getD (boundsOf most p m) i true ≡ entryOf true (boundAt most p) i
-  unfolding boundsOf
-  bounds-at i l = default-at true (upTo (boundAt most p) m) (260 - m) i ∙ up-at true (boundAt most p) m i l
+  bounds-at : (i : ℕ) → i < m → getD (finalBoundsOf most p m) i true ≡ entryOf true (finalBoundAt most p) i
+  unfolding finalBoundsOf
+  bounds-at i l = default-at true (upTo (finalBoundAt most p) m) (260 - m) i ∙ up-at true (finalBoundAt most p) m i l
 
-  pub bounds-after : (i : ℕ) → m ≤ i → getD (boundsOf most p m) i true ≡ true
-  unfolding boundsOf
-  bounds-after i l = default-at true (upTo (boundAt most p) m) (260 - m) i ∙ List·getD-eq-default (upTo (boundAt most p) m) true (omega (arith, length-up (boundAt most p) m))
+  pub bounds-after : (i : ℕ) → m ≤ i → getD (finalBoundsOf most p m) i true ≡ true
+  unfolding finalBoundsOf
+  bounds-after i l = default-at true (upTo (finalBoundAt most p) m) (260 - m) i ∙ List·getD-eq-default (upTo (finalBoundAt most p) m) true (omega (arith, length-up (finalBoundAt most p) m))
 
-  pub length-bounds : m ≤ 260 → length (boundsOf most p m) ≡ 260
-  unfolding boundsOf
+  pub length-bounds : m ≤ 260 → length (finalBoundsOf most p m) ≡ 260
+  unfolding finalBoundsOf
   length-bounds l = simp (length-append, length-up, length-replicate) (omega arith)
 
 -- the table that runs has a place for each record
-pub places-few : (interrupts : Bool) (n : ℕ) → n ≤ 256 → places interrupts n ≤ 260
+pub places-few : (interrupts : Bool) (n : ℕ) → n ≤ 256 → extendedSize interrupts n ≤ 260
 places-few true n l = omega arith
 places-few false n l = omega arith
 
 module _ (p : ℕ → Program) (low : AllLower p) where
   -- the table of the records that may be final in some state marks each that is
-  pub bounds-above : (m : ℕ) → Endable p m (boundsOf true p m)
-  unfolding boundBy leafWith
+  pub bounds-above : (m : ℕ) → Endable p m (finalBoundsOf true p m)
+  unfolding finalBoundBy leafWith
   bounds-above m W s i l f =
-      bounds-at true p m i l ∙ entry-rule true (boundAt true p) (λ (a : ℕ) (x : Bool). Under (leafOf W s p a .final) x) made i f
+      bounds-at true p m i l ∙ entry-rule true (finalBoundAt true p) (λ (a : ℕ) (x : Bool). Under (leafOf W s p a .final) x) made i f
     where
-      made : (a : ℕ) (lower : List Bool) → ((k : ℕ) → k < a → Under (leafOf W s p k .final) (getD lower k true)) → Under (leafOf W s p a .final) (boundAt true p a lower)
+      made : (a : ℕ) (lower : List Bool) → ((k : ℕ) → k < a → Under (leafOf W s p k .final) (getD lower k true)) → Under (leafOf W s p a .final) (finalBoundAt true p a lower)
       made a lower h f =
           above _ _ _ _ (holds W (p a .c) s) (s .running) (p a .kind) (λ t. h (p a .a) (lower-a p low a t)) (λ t. h (p a .b) (lower-b p low a t))
           (ap (λ (y : Leaf). y .final) (sym (leaf-step W s p low a)) ∙ f)
 
   -- what the table of those that are final in every state marks is
-  pub bounds-below : (m : ℕ) → Sure p m (boundsOf false p m)
-  unfolding boundBy leafWith
+  pub bounds-below : (m : ℕ) → Sure p m (finalBoundsOf false p m)
+  unfolding finalBoundBy leafWith
   bounds-below m W s i l f =
-      entry-rule true (boundAt false p) (λ (a : ℕ) (x : Bool). Under x (leafOf W s p a .final)) made i (sym (bounds-at false p m i l) ∙ f)
+      entry-rule true (finalBoundAt false p) (λ (a : ℕ) (x : Bool). Under x (leafOf W s p a .final)) made i (sym (bounds-at false p m i l) ∙ f)
     where
-      made : (a : ℕ) (lower : List Bool) → ((k : ℕ) → k < a → Under (getD lower k true) (leafOf W s p k .final)) → Under (boundAt false p a lower) (leafOf W s p a .final)
+      made : (a : ℕ) (lower : List Bool) → ((k : ℕ) → k < a → Under (getD lower k true) (leafOf W s p k .final)) → Under (finalBoundAt false p a lower) (leafOf W s p a .final)
       made a lower h f =
           ap (λ (y : Leaf). y .final) (leaf-step W s p low a)
           ∙ below _ _ _ _ (holds W (p a .c) s) (s .running) (p a .kind) (λ t. h (p a .a) (lower-a p low a t)) (λ t. h (p a .b) (lower-b p low a t)) f

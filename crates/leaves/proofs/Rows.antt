@@ -8,8 +8,8 @@ use Prim.Native.Nat.{ℕ, _+_}
 use native.Mathlib.Omega.{arith}
 use lib.Dec.{eqb}
 use lib.ListN.{getD}
-use Rattle.held.specs.Kinds.{ownOf, usesA, usesB, countOf}
-use Rattle.held.proofs.Columns.{by-kind}
+use Rattle.remaining.specs.Kinds.{ownOf, usesA, usesB, countOf}
+use Rattle.remaining.proofs.Columns.{by-kind}
 
 unfoldable pub totalOf : (kind : ℕ) (can held fa h running : Bool) (ca cb : ℕ) → ℕ
 totalOf kind can held fa h running ca cb =

@@ -13,10 +13,10 @@ use Rattle.records.specs.declared.Program.{Program}
 use Rattle.records.specs.Records.{actionAt}
 use Rattle.golog.specs.declared.State.{State}
 use Rattle.golog.specs.World.{World, holds, possible, special}
-use Rattle.held.specs.Kinds.{finalOf, ownOf, usesA, usesB, countOf}
-use Rattle.held.specs.Extended.{empty, virtual, table}
-use Rattle.held.proofs.Columns.{by-kind}
-use Rattle.held.proofs.Started.{table-below, table-above}
+use Rattle.remaining.specs.Kinds.{finalOf, ownOf, usesA, usesB, countOf}
+use Rattle.remaining.specs.Extended.{empty, virtual, extended}
+use Rattle.remaining.proofs.Columns.{by-kind}
+use Rattle.remaining.proofs.Started.{table-below, table-above}
 use Rattle.leaves.specs.Tallies.{hasCondition, possibleIn, SeesRecord, Sees}
 
 -- a value, where its test passes
@@ -79,11 +79,11 @@ module _ (W : World) (s : State) (actions : List ℕ) (na : ℕ) (held : List Bo
 
   -- so what is seen of the records of the sheet is seen of the table that runs
   pub table-seen : (b : Bool) (p : ℕ → Program) (n m : ℕ) → ((i : ℕ) → i < n → SeesRecord W s held (possibleIn actions na held) (p i)) →
-      Sees W s (table b p n) m held (possibleIn actions na held) (s .running)
+      Sees W s (extended b p n) m held (possibleIn actions na held) (s .running)
   table-seen b p n m seen = record { runs = refl; each = λ i l. go i (decLt i n) }
     where
-      go : (i : ℕ) → Dec (i < n) → SeesRecord W s held (possibleIn actions na held) (table b p n i)
+      go : (i : ℕ) → Dec (i < n) → SeesRecord W s held (possibleIn actions na held) (extended b p n i)
       go i (yes l) = rw (table-below b p n i l) (seen i l)
       go i (no l) =
-          let e : table b p n i ≡ getD (virtual b n) (i - n) empty = ap (table b p n) (omega arith) ∙ table-above b p n (i - n) in
+          let e : extended b p n i ≡ getD (virtual b n) (i - n) empty = ap (extended b p n) (omega arith) ∙ table-above b p n (i - n) in
           rw e (virtual-seen b n (i - n))

@@ -19,13 +19,13 @@ use Rattle.records.proofs.Lowest.{from-true, from-false, from-none, from-onward
 use Rattle.height.specs.Height.{hasTwo}
 use Rattle.golog.specs.declared.State.{State}
 use Rattle.golog.specs.World.{World}
-use Rattle.held.specs.Kinds.{finalOf}
-use Rattle.held.specs.Leaves.{Leaf, leafWith, leafOf}
-use Rattle.held.specs.Rest.{AllLower}
-use Rattle.held.proofs.Columns.{by-kind}
-use Rattle.held.proofs.Entries.{hasA, lower-a, lower-b, leaf-step}
+use Rattle.remaining.specs.Kinds.{finalOf}
+use Rattle.remaining.specs.Leaves.{Leaf, leafWith, leafOf}
+use Rattle.remaining.specs.Rest.{AllLower}
+use Rattle.remaining.proofs.Columns.{by-kind}
+use Rattle.remaining.proofs.Entries.{hasA, lower-a, lower-b, leaf-step}
 use Rattle.leaves.specs.Tallies.{SeesRecord, finalBy}
-use Rattle.leaves.specs.Endable.{Endable, boundsOf, doubtBy, skipFrom, skipsOf, Settled, Skips}
+use Rattle.leaves.specs.Endable.{Endable, finalBoundsOf, doubtBy, skipFrom, skipsOf, Settled, Skips}
 use Rattle.leaves.proofs.Marking.{bounds-below, settled}
 use Rattle.leaves.proofs.Seen.{final-seen}
 use Rattle.records.proofs.Written.{written}
@@ -68,9 +68,9 @@ module _ {endable sure : List Bool} {m : ℕ} where
 
 module _ (p : ℕ → Program) (m : ℕ) (endable : List Bool) where
   abbrev skipAt : ℕ → List ℕ → ℕ
-  skipAt i lower = skipFrom endable (boundsOf false p m) m i
+  skipAt i lower = skipFrom endable (finalBoundsOf false p m) m i
 
-  skips-at : (i : ℕ) → i < m → getD (skipsOf p m endable) i m ≡ skipFrom endable (boundsOf false p m) m i
+  skips-at : (i : ℕ) → i < m → getD (skipsOf p m endable) i m ≡ skipFrom endable (finalBoundsOf false p m) m i
   unfolding skipsOf
   skips-at i l = default-at m (upTo skipAt m) (261 - m) i ∙ up-at m skipAt m i l ∙ entry-is m skipAt i
 
@@ -83,7 +83,7 @@ module _ (p : ℕ → Program) (m : ℕ) (endable : List Bool) where
   length-skips l = simp (length-append, length-up, length-replicate) (omega arith)
 
   -- all places are those of the definition
-  pub all : {skips : List ℕ} {first : ℕ} → m ≤ 261 → length skips ≡ 261 → Down endable (boundsOf false p m) m skips first 0 → skips ≡ skipsOf p m endable
+  pub all : {skips : List ℕ} {first : ℕ} → m ≤ 261 → length skips ≡ 261 → Down endable (finalBoundsOf false p m) m skips first 0 → skips ≡ skipsOf p m endable
   all {skips} l n D = ext-getD m skips _ (n ∙ sym (length-skips l)) (λ j h. go j (decLt j m))
     where
       go : (j : ℕ) → Dec (j < m) → getD skips j m ≡ getD (skipsOf p m endable) j m
@@ -95,12 +95,12 @@ module _ (p : ℕ → Program) (m : ℕ) (endable : List Bool) where
   skips-settled low E = record { onward = λ i l. onward i (decLt i m) l; settled = λ i a l h k. passed i a l k (rw (skips-at i (omega arith)) at h) }
     where
       onward : (i : ℕ) → Dec (i < m) → i ≤ m → i ≤ getD (skipsOf p m endable) i m
-      onward i (yes k) l = omega (arith, skips-at i k, from-onward (clear endable (boundsOf false p m) m) (m - i) i)
+      onward i (yes k) l = omega (arith, skips-at i k, from-onward (clear endable (finalBoundsOf false p m) m) (m - i) i)
       onward i (no k) l = omega (arith, skips-after i (omega arith))
 
-      passed : (i a : ℕ) → i ≤ a → a < m → a < skipFrom endable (boundsOf false p m) m i → Settled p endable a
+      passed : (i a : ℕ) → i ≤ a → a < m → a < skipFrom endable (finalBoundsOf false p m) m i → Settled p endable a
       passed i a l k h =
-          settled p endable (boundsOf false p m) E (bounds-below p low m) a k (not-true _ (from-passed (clear endable (boundsOf false p m) m) (m - i) i a l h))
+          settled p endable (finalBoundsOf false p m) E (bounds-below p low m) a k (not-true _ (from-passed (clear endable (finalBoundsOf false p m) m) (m - i) i a l h))
 
 -- finality depends on the parts that the kind has
 final-parts : (fa ga fb gb h running : Bool) (kind : ℕ) → (T (hasA kind) → fa ≡ ga) → (T (hasTwo kind) → fb ≡ gb) → finalOf kind fa fb h running ≡ finalOf kind ga gb h running

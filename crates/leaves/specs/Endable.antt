@@ -10,12 +10,12 @@ use Rattle.records.specs.Table.{upTo}
 use Rattle.records.specs.Lowest.{lowestFrom}
 use Rattle.golog.specs.declared.State.{State}
 use Rattle.golog.specs.World.{World}
-use Rattle.held.specs.Leaves.{leafOf}
+use Rattle.remaining.specs.Leaves.{leafOf}
 use Rattle.leaves.specs.Tallies.{Sees}
 
 -- by kind, where a and b say it of its parts: with `most`, whether it may be final in some state; without, whether it is in every one
-unfoldable pub boundOf : (most : Bool) (kind : ℕ) (a b : Bool) → Bool
-boundOf most kind a b =
+unfoldable pub finalBoundOf : (most : Bool) (kind : ℕ) (a b : Bool) → Bool
+finalBoundOf most kind a b =
     getD
     (
     true ∷ false ∷ false ∷ (a && b) ∷ (a || b) ∷ true ∷ ((a && b) || (most && (a || b))) ∷ (most || a) ∷ (a && b) ∷ (a && b)
@@ -24,8 +24,8 @@ boundOf most kind a b =
     kind true
 
 -- by what is tabled of lower records
-unfoldable pub boundBy : (most : Bool) → Program → (marks : List Bool) → Bool
-boundBy most r marks = boundOf most (r .kind) (getD marks (r .a) true) (getD marks (r .b) true)
+unfoldable pub finalBoundBy : (most : Bool) → Program → (marks : List Bool) → Bool
+finalBoundBy most r marks = finalBoundOf most (r .kind) (getD marks (r .a) true) (getD marks (r .b) true)
 
 -- of the first m records of p, each that is final in some state is marked
 abbrev pub Endable : (p : ℕ → Program) (m : ℕ) (endable : List Bool) → Type 0
@@ -36,13 +36,13 @@ abbrev pub Sure : (p : ℕ → Program) (m : ℕ) (sure : List Bool) → Type 0
 Sure p m sure = (W : World) (s : State) (i : ℕ) → i < m → getD sure i true ≡ true → leafOf W s p i .final ≡ true
 
 -- record i of the table p, given the lower ones
-abbrev pub boundAt : (most : Bool) (p : ℕ → Program) → ℕ → (lower : List Bool) → Bool
-boundAt most p i lower = boundBy most (p i) lower
+abbrev pub finalBoundAt : (most : Bool) (p : ℕ → Program) → ℕ → (lower : List Bool) → Bool
+finalBoundAt most p i lower = finalBoundBy most (p i) lower
 
 -- the table of the first m records of p, and in the places after them what nil is. With `most` it is `Endable`, without it is `Sure`
 -- (proofs/Marking.antt)
-unfoldable pub boundsOf : (most : Bool) (p : ℕ → Program) (m : ℕ) → List Bool
-boundsOf most p m = upTo (boundAt most p) m ++ replicate (260 - m) true
+unfoldable pub finalBoundsOf : (most : Bool) (p : ℕ → Program) (m : ℕ) → List Bool
+finalBoundsOf most p m = upTo (finalBoundAt most p) m ++ replicate (260 - m) true
 
 -- record i is as final as `endable` says, in every state
 abbrev pub Settled : (p : ℕ → Program) (endable : List Bool) (i : ℕ) → Type 0
@@ -64,12 +64,12 @@ skipFrom endable sure m i = lowestFrom (λ (a : ℕ). not (doubtBy endable sure 
 -- so for each of the first m records of p, and m in the places after them. Where `endable` is `Endable`, these are `Skips`
 -- (proofs/Skipping.antt)
 unfoldable pub skipsOf : (p : ℕ → Program) (m : ℕ) (endable : List Bool) → List ℕ
-skipsOf p m endable = upTo (λ (i : ℕ) (lower : List ℕ). skipFrom endable (boundsOf false p m) m i) m ++ replicate (261 - m) m
+skipsOf p m endable = upTo (λ (i : ℕ) (lower : List ℕ). skipFrom endable (finalBoundsOf false p m) m i) m ++ replicate (261 - m) m
 
 -- the table says of each of the first m records whether it is final in the state s; places after them are left open
 abbrev pub AreFinal : World → State → (p : ℕ → Program) (m : ℕ) (finals : List Bool) → Type 0
 AreFinal W s p m finals = (i : ℕ) → i < m → getD finals i true ≡ leafOf W s p i .final
 
 -- so of every state that `held`, some `can` and `running` say
-abbrev pub Decides : (p : ℕ → Program) (m : ℕ) (held : List Bool) (running : Bool) (finals : List Bool) → Type 0
-Decides p m held running finals = (W : World) (s : State) (can : ℕ → Bool) → Sees W s p m held can running → AreFinal W s p m finals
+abbrev pub FinalsKnown : (p : ℕ → Program) (m : ℕ) (held : List Bool) (running : Bool) (finals : List Bool) → Type 0
+FinalsKnown p m held running finals = (W : World) (s : State) (can : ℕ → Bool) → Sees W s p m held can running → AreFinal W s p m finals

@@ -11,20 +11,20 @@ use Rattle.records.specs.Records.{actionAt}
 use Rattle.records.specs.Table.{upTo}
 use Rattle.golog.specs.declared.State.{State}
 use Rattle.golog.specs.World.{World, holds, possible, special}
-use Rattle.held.specs.Kinds.{finalOf, usesA, countOf}
-use Rattle.held.specs.Leaves.{Leaf, leafAt}
+use Rattle.remaining.specs.Kinds.{finalOf, usesA, countOf}
+use Rattle.remaining.specs.Leaves.{Leaf, leafAt}
 
 -- counts end here: a record that the root does not reach may be of any height, and so have more transitions than a number holds
 abbrev pub cap : ℕ
 cap = 1000000
 
 -- how many transitions, up to there
-abbrev pub counted : Leaf → ℕ
-counted l = min cap (length (l .steps))
+abbrev pub cappedCount : Leaf → ℕ
+cappedCount l = min cap (length (l .transitions))
 
 -- the records of the table that runs: the n of the sheet, and four more where there are interrupts
-abbrev pub places : (interrupts : Bool) (n : ℕ) → ℕ
-places interrupts n = n + cond interrupts 4 0
+abbrev pub extendedSize : (interrupts : Bool) (n : ℕ) → ℕ
+extendedSize interrupts n = n + cond interrupts 4 0
 
 -- whether each of the first m records of p is final, and in the places after them what nil is
 unfoldable pub finalsOf : World → State → (ℕ → Program) → (m : ℕ) → List Bool
@@ -32,7 +32,7 @@ finalsOf W s p m = map (λ (l : Leaf). l .final) (upTo (leafAt W s p) m) ++ repl
 
 -- how many transitions each of them has
 unfoldable pub countsOf : World → State → (ℕ → Program) → (m : ℕ) → List ℕ
-countsOf W s p m = map counted (upTo (leafAt W s p) m) ++ replicate (260 - m) 0
+countsOf W s p m = map cappedCount (upTo (leafAt W s p) m) ++ replicate (260 - m) 0
 
 -- the kinds whose c is a formula: if, while, interrupt
 abbrev pub hasCondition : ℕ → Bool
@@ -56,7 +56,7 @@ pub record Sees (W : World) (s : State) (p : ℕ → Program) (m : ℕ) (held : 
 
 -- the table has how many transitions each of the first m records has in every state that is seen so, and after them what was there
 abbrev pub Tallied : (p : ℕ → Program) (m : ℕ) (held : List Bool) (can : ℕ → Bool) (running : Bool) (old counts : List ℕ) → Type 0
-Tallied p m held can running old counts = (W : World) (s : State) → Sees W s p m held can running → counts ≡ map counted (upTo (leafAt W s p) m) ++ drop m old
+Tallied p m held can running old counts = (W : World) (s : State) → Sees W s p m held can running → counts ≡ map cappedCount (upTo (leafAt W s p) m) ++ drop m old
 
 -- whether a record is final, by the truths of the formulas and by what is tabled of lower records
 unfoldable pub finalBy : Program → (held : List Bool) (running : Bool) (finals : List Bool) → Bool

@@ -5,11 +5,11 @@ ghost use mathlib.Core.Bool.{true, not, cond, _&&_, _||_};
 ghost use Prim.Native.Nat.{_+_, _*_, _≤_, _<_, min};
 ghost use lib.ListN.{length, getD};
 ghost use Rattle.records.specs.Records.{programAt};
-ghost use Rattle.held.specs.Kinds.{usesA};
-ghost use Rattle.held.specs.Rest.{AllLower};
-ghost use Rattle.held.specs.Extended.{empty, virtual, table};
-ghost use Rattle.leaves.specs.Tallies.{cap, places, possibleIn, Tallied, finalBy, countBy, firstBy};
-ghost use Rattle.leaves.specs.Endable.{boundBy, boundsOf, doubtBy, skipsOf, Decides};
+ghost use Rattle.remaining.specs.Kinds.{usesA};
+ghost use Rattle.remaining.specs.Rest.{AllLower};
+ghost use Rattle.remaining.specs.Extended.{empty, virtual, extended};
+ghost use Rattle.leaves.specs.Tallies.{cap, extendedSize, possibleIn, Tallied, finalBy, countBy, firstBy};
+ghost use Rattle.leaves.specs.Endable.{finalBoundBy, finalBoundsOf, doubtBy, skipsOf, FinalsKnown};
 use records::Program;
 
 // Whether record a is final: past the end stands nil, which is.
@@ -84,7 +84,7 @@ fn virtual_at(n: usize, k: usize) -> Program
 // Record i of the table that runs.
 pub fn record_at(programs: &[u8], n: usize, interrupts: bool, i: usize) -> Program
     requires { ⌜ (8 * n ≤ length (now programs)) × (1 ≤ n) × (n ≤ 256) ⌝ }
-    ensures { λ r. ⌜ r ≡ table interrupts (programAt (now (programs .entry))) n i ⌝ }
+    ensures { λ r. ⌜ r ≡ extended interrupts (programAt (now (programs .entry))) n i ⌝ }
     ensures { λ r. ⌜ (r .a < 65536) × (r .b < 65536) ⌝ }
 {
     if i < n {
@@ -227,7 +227,7 @@ fn count_at(
 
 pub fn places_of(n: usize, interrupts: bool) -> usize
     requires { ⌜ n ≤ 256 ⌝ }
-    ensures { λ r. ⌜ (r ≡ places interrupts n) × (r ≤ 260) ⌝ }
+    ensures { λ r. ⌜ (r ≡ extendedSize interrupts n) × (r ≤ 260) ⌝ }
 {
     if interrupts { n + 4 } else { n }
 }
@@ -246,9 +246,9 @@ pub fn tallies(
     finals: &[bool],
 )
     requires { ⌜ (8 * n ≤ length (now programs)) × (1 ≤ n) × (n ≤ 256) × (6 * na ≤ length (now actions)) × (length (now counts) ≡ 260) ⌝ }
-    requires { ⌜ AllLower (table interrupts (programAt (now programs)) n)
-        × Decides (table interrupts (programAt (now programs)) n) (places interrupts n) (now held) running (now finals) ⌝ }
-    ensures { λ _. ⌜ Tallied (table interrupts (programAt (now (programs .entry))) n) (places interrupts n) (now (held .entry))
+    requires { ⌜ AllLower (extended interrupts (programAt (now programs)) n)
+        × FinalsKnown (extended interrupts (programAt (now programs)) n) (extendedSize interrupts n) (now held) running (now finals) ⌝ }
+    ensures { λ _. ⌜ Tallied (extended interrupts (programAt (now (programs .entry))) n) (extendedSize interrupts n) (now (held .entry))
         (possibleIn (now (actions .entry)) na (now (held .entry))) running (now (counts .entry)) (now (counts .exit)) ⌝ }
     ensures { λ _. ⌜ length (now (counts .exit)) ≡ 260 ⌝ }
 {
@@ -264,7 +264,7 @@ pub fn tallies(
 
 // From those before it, with `most`, whether a record may be final in some state; without, whether it is in every one.
 fn bound_at(r: Program, most: bool, marks: &[bool]) -> bool
-    ensures { λ f. ⌜ f ≡ boundBy most r (now (marks .entry)) ⌝ }
+    ensures { λ f. ⌜ f ≡ finalBoundBy most r (now (marks .entry)) ⌝ }
 {
     let kind = r.kind;
     match kind {
@@ -284,7 +284,7 @@ fn bound_at(r: Program, most: bool, marks: &[bool]) -> bool
 // With `most`, which records of the table that runs may be final in some state; without, which are in every one.
 pub fn bounds(programs: &[u8], n: usize, interrupts: bool, most: bool) -> [bool; 260]
     requires { ⌜ (8 * n ≤ length (now programs)) × (1 ≤ n) × (n ≤ 256) ⌝ }
-    ensures { λ r. ⌜ r ≡ boundsOf most (table interrupts (programAt (now (programs .entry))) n) (places interrupts n) ⌝ }
+    ensures { λ r. ⌜ r ≡ finalBoundsOf most (extended interrupts (programAt (now (programs .entry))) n) (extendedSize interrupts n) ⌝ }
 {
     let m = places_of(n, interrupts);
     let mut marks = [true; 260];
@@ -308,7 +308,7 @@ fn doubt_at(endable: &[bool], sure: &[bool], i: usize) -> bool
 // From each record on, the first whose finality depends on the state, where `endable` has those that may be final in some.
 pub fn skips(programs: &[u8], n: usize, interrupts: bool, endable: &[bool]) -> [u32; 261]
     requires { ⌜ (8 * n ≤ length (now programs)) × (1 ≤ n) × (n ≤ 256) ⌝ }
-    ensures { λ r. ⌜ r ≡ skipsOf (table interrupts (programAt (now (programs .entry))) n) (places interrupts n) (now (endable .entry)) ⌝ }
+    ensures { λ r. ⌜ r ≡ skipsOf (extended interrupts (programAt (now (programs .entry))) n) (extendedSize interrupts n) (now (endable .entry)) ⌝ }
 {
     let m = places_of(n, interrupts);
     let sure = bounds(programs, n, interrupts, false);

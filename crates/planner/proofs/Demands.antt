@@ -19,7 +19,7 @@ use Rattle.sheet.proofs.OtherNotes.{check-same}
 use Rattle.sheet.specs.declared.Checked.{Checked}
 use Rattle.sheet.specs.declared.Checked.the-variants as checked
 use Rattle.demands.specs.Decoded.{boundOf}
-use Rattle.demands.specs.Held.{levelsOf}
+use Rattle.demands.specs.Compact.{levelsOf}
 use Rattle.demands.specs.Planning as meant
 use Rattle.demands.specs.Planning.{planOf, replayOf, answer, verdictOf, acceptsOf}
 use Rattle.demands.specs.Planning.{RunEndsFinal, HistoryOfRun, NoPlanAtAll, NoPlanWithinBound, NoRunEndsFinal, RunOf}
@@ -31,7 +31,7 @@ use Rattle.demands.proofs.Demands.{raised-alone, raised-accepted, raised-plan-s
 use Rattle.demands.proofs.Entries.{unknown-entry-no}
 use Rattle.demands.proofs.Notes.{bound-same, plan-same, replay-same}
 use Rattle.planner.specs.Answers.{Stage, refused, searching, withWork, planStage, replayStage, planChecked, replayChecked}
-use Rattle.planner.specs.Answers.{planAnswer, planAt, traced, traceAt, workAt, answerOf, traceOf, planWork, reply, replayAt, replyOf, replayWork}
+use Rattle.planner.specs.Answers.{answerAs, planAt, traced, traceAt, workAt, answerOf, traceOf, planWork, reply, replayAt, replyOf, replayWork}
 use Rattle.planner.specs.Numbers.{planNumber, planMoves, planTransitions, replyNumber, replyYes}
 use Rattle.planner.specs.declared.Planned.the-variants as planned
 use Rattle.planner.specs.declared.Replayed.the-variants as replayed
@@ -154,7 +154,7 @@ module _ (s : List ℕ) (w : ℕ) (accepted : checkOf s ≡ checked.Accepted w) 
       unfolding planWork
       plan-cleared = ap (λ (c : Stage). workAt c work) stage-plan
 
-      pub answer-is : answerOf s (length work) (length trace) ≡ planAnswer (planOf s)
+      pub answer-is : answerOf s (length work) (length trace) ≡ answerAs (planOf s)
       unfolding answerOf
       answer-is = ap (planAt s) stage-plan
 
@@ -163,18 +163,18 @@ module _ (s : List ℕ) (w : ℕ) (accepted : checkOf s ≡ checked.Accepted w) 
       trace-is = ap (λ (c : Stage). traceAt s c trace) stage-plan
 
       -- the answer's number, by the verdict
-      none-iff : (v : Verdict) → (planNumber (planAnswer (answer v)) ≡ 0) ↔ ((h : List ℕ) × (t : ℕ) × (answer v ≡ meant.found h t))
+      none-iff : (v : Verdict) → (planNumber (answerAs (answer v)) ≡ 0) ↔ ((h : List ℕ) × (t : ℕ) × (answer v ≡ meant.found h t))
       none-iff (plan h t) = (λ e. (h, t, refl), λ e. refl)
       none-iff nothing = (λ e. absurd (omega arith), λ (h, t, e). cc)
       none-iff more = (λ e. absurd (omega arith), λ (h, t, e). cc)
 
-      some-iff : (k : ℕ) → 1 ≤ k → (v : Verdict) → (planNumber (planAnswer (answer v)) ≡ k) ↔ (answer v ≡ meant.Planned.refused k 0)
+      some-iff : (k : ℕ) → 1 ≤ k → (v : Verdict) → (planNumber (answerAs (answer v)) ≡ k) ↔ (answer v ≡ meant.PlanAnswer.refused k 0)
       some-iff k l (plan h t) = (λ e. absurd (omega arith), λ e. cc)
-      some-iff k l nothing = (λ e. ap (λ (n : ℕ). meant.Planned.refused n 0) e, λ e. cc)
-      some-iff k l more = (λ e. ap (λ (n : ℕ). meant.Planned.refused n 0) e, λ e. cc)
+      some-iff k l nothing = (λ e. ap (λ (n : ℕ). meant.PlanAnswer.refused n 0) e, λ e. cc)
+      some-iff k l more = (λ e. ap (λ (n : ℕ). meant.PlanAnswer.refused n 0) e, λ e. cc)
 
-      verdict-is : answerOf s (length work) (length trace) ≡ planAnswer (answer (verdictOf s))
-      verdict-is = answer-is ∙ ap planAnswer (plan-is s (w, accepted))
+      verdict-is : answerOf s (length work) (length trace) ≡ answerAs (answer (verdictOf s))
+      verdict-is = answer-is ∙ ap answerAs (plan-is s (w, accepted))
 
       number-none-iff : (planNumber (answerOf s (length work) (length trace)) ≡ 0) ↔ ((h : List ℕ) × (t : ℕ) × (planOf s ≡ meant.found h t))
       number-none-iff =
@@ -184,7 +184,7 @@ module _ (s : List ℕ) (w : ℕ) (accepted : checkOf s ≡ checked.Accepted w) 
             λ (h, t, f). e ∙ none-iff (verdictOf s) .1 (h, t, sym q ∙ f),
           )
 
-      number-iff : (k : ℕ) → 1 ≤ k → (planNumber (answerOf s (length work) (length trace)) ≡ k) ↔ (planOf s ≡ meant.Planned.refused k 0)
+      number-iff : (k : ℕ) → 1 ≤ k → (planNumber (answerOf s (length work) (length trace)) ≡ k) ↔ (planOf s ≡ meant.PlanAnswer.refused k 0)
       number-iff k l =
           let e = ap planNumber verdict-is in
           let q = plan-is s (w, accepted) in
@@ -207,10 +207,10 @@ module _ (s : List ℕ) (w : ℕ) (accepted : checkOf s ≡ checked.Accepted w) 
           let f = number-none-iff .0 e in
           let h = f .0 in
           let t = f .1 in
-          let a = answer-is ∙ ap planAnswer (f .2) in
+          let a = answer-is ∙ ap answerAs (f .2) in
           let n = ap planMoves a in
           let u = ap planTransitions a in
-          let q = trace-is ∙ ap (λ (a : meant.Planned). traced a trace) (f .2) in
+          let q = trace-is ∙ ap (λ (a : meant.PlanAnswer). traced a trace) (f .2) in
           let r = plan-transitions s (w, accepted) h t (f .2) in (
             h,
             sym n,
@@ -239,7 +239,7 @@ module _ (s : List ℕ) (w : ℕ) (accepted : checkOf s ≡ checked.Accepted w) 
 
       -- "Trace is untouched under every number"
       pub trace-untouched : (k : ℕ) → 1 ≤ k → planNumber (answerOf s (length work) (length trace)) ≡ k → traceOf s (length work) trace ≡ trace
-      trace-untouched k l e = trace-is ∙ ap (λ (a : meant.Planned). traced a trace) (number-iff k l .0 e)
+      trace-untouched k l e = trace-is ∙ ap (λ (a : meant.PlanAnswer). traced a trace) (number-iff k l .0 e)
 
 -- "Raising D alone keeps a plan a plan and 13 a 13": an accepted sheet, with a higher D put in; the areas lent for writing are long
 -- enough for each call and hold anything
@@ -278,7 +278,7 @@ module _ (s other : List ℕ) (first : FirstRecord s) where
     where
       go : (c : Stage) → planAt (withNotes s other) c ≡ planAt s c
       go (refused n p) = refl
-      go (searching w) = ap planAnswer (plan-same s other first)
+      go (searching w) = ap answerAs (plan-same s other first)
 
   pub trace-same : (work : ℕ) (trace : List ℕ) → traceOf (withNotes s other) work trace ≡ traceOf s work trace
   unfolding traceOf
@@ -286,7 +286,7 @@ module _ (s other : List ℕ) (first : FirstRecord s) where
     where
       go : (c : Stage) → traceAt (withNotes s other) c trace ≡ traceAt s c trace
       go (refused n p) = refl
-      go (searching w) = ap (λ (a : meant.Planned). traced a trace) (plan-same s other first)
+      go (searching w) = ap (λ (a : meant.PlanAnswer). traced a trace) (plan-same s other first)
 
   pub reply-same : (h : List ℕ) (work : ℕ) → replyOf (withNotes s other) h work ≡ replyOf s h work
   unfolding replyOf

@@ -22,7 +22,7 @@ use Rattle.demands.specs.Decoded.{boundOf}
 use Rattle.demands.specs.Planning as meant
 use Rattle.demands.specs.Planning.{planOf, replayOf, replied, acceptsOf, answer, verdictOf, NoPlanAtAll, NoPlanWithinBound}
 use Rattle.demands.proofs.Demands.{plan-is, replay-is, thirteen-exactly, fourteen-exactly}
-use Rattle.planner.specs.Answers.{Stage, refused, searching, withWork, planStage, planChecked, planAnswer, planAt, answerOf, replayStage, replayChecked, reply, replayAt, replyOf}
+use Rattle.planner.specs.Answers.{Stage, refused, searching, withWork, planStage, planChecked, answerAs, planAt, answerOf, replayStage, replayChecked, reply, replayAt, replyOf}
 use Rattle.planner.specs.Numbers.{planNumber, planPlace, replyNumber, replyPlace}
 use Rattle.planner.specs.Causes.{required, PlanCause, ReplayCause}
 use Rattle.planner.specs.declared.Planned.{Planned}
@@ -75,11 +75,11 @@ ending-high s k p = ⊎-elim (λ c. omega (arith, c .0)) (λ c. omega (arith, c 
 
 -- 13 and 14, of an accepted sheet
 module _ (s : List ℕ) (accepted : Accepts s) where
-  planned-by : (v : Verdict) → verdictOf s ≡ v → By (Ending s) (seen (planAnswer (answer v)))
+  planned-by : (v : Verdict) → verdictOf s ≡ v → By (Ending s) (seen (answerAs (answer v)))
   planned-by (plan h t) e = λ k p. ⊎-elim (λ (a, b, c). no 13 (thirteen-exactly s accepted .1 c)) (λ (a, b, c). no 14 (fourteen-exactly s accepted .1 c))
     where
-      no : (n : ℕ) → planOf s ≡ meant.Planned.refused n 0 → ⊥
-      no n q = let z : _≡_ {A = ℕ} 0 1 = let y : meant.found h t ≡ meant.Planned.refused n 0 = sym (plan-is s accepted ∙ ap answer e) ∙ q in cc in omega arith
+      no : (n : ℕ) → planOf s ≡ meant.PlanAnswer.refused n 0 → ⊥
+      no n q = let z : _≡_ {A = ℕ} 0 1 = let y : meant.found h t ≡ meant.PlanAnswer.refused n 0 = sym (plan-is s accepted ∙ ap answer e) ∙ q in cc in omega arith
   planned-by nothing e = (
     inl (refl, refl, thirteen-exactly s accepted .0 (plan-is s accepted ∙ ap answer e)),
     λ j q l. ⊎-elim (λ c. omega (arith, c .0)) (λ c. omega (arith, c .0)),
@@ -91,11 +91,11 @@ module _ (s : List ℕ) (accepted : Accepts s) where
     λ q. ⊎-elim (λ c. c .1) (λ c. c .1),
   )
     where
-      no : planOf s ≡ meant.Planned.refused 13 0 → ⊥
-      no q = let z : _≡_ {A = ℕ} 0 1 = let y : answer more ≡ meant.Planned.refused 13 0 = sym (plan-is s accepted ∙ ap answer e) ∙ q in cc in omega arith
+      no : planOf s ≡ meant.PlanAnswer.refused 13 0 → ⊥
+      no q = let z : _≡_ {A = ℕ} 0 1 = let y : answer more ≡ meant.PlanAnswer.refused 13 0 = sym (plan-is s accepted ∙ ap answer e) ∙ q in cc in omega arith
 
-  searched-by : By (Ending s) (seen (planAnswer (planOf s)))
-  searched-by = subst (λ (a : meant.Planned). By (Ending s) (seen (planAnswer a))) (sym (plan-is s accepted)) (planned-by (verdictOf s) refl)
+  searched-by : By (Ending s) (seen (answerAs (planOf s)))
+  searched-by = subst (λ (a : meant.PlanAnswer). By (Ending s) (seen (answerAs a))) (sym (plan-is s accepted)) (planned-by (verdictOf s) refl)
 
 abbrev Eleven : List ℕ → (work number place : ℕ) → Type 0
 Eleven s work k p = (k ≡ 11) × (p ≡ 0) × (work < required s)
@@ -155,7 +155,7 @@ module _ (s h : List ℕ) (work : ℕ) where
 
   module _ (w : ℕ) (accepted : checkOf s ≡ checked.Accepted w) where
     replied-none : heard (replayAt s h (searching w)) ≡ checked.Accepted 0
-    replied-none = ap (λ (r : meant.Replayed). heard (reply r)) (replay-is s (w, accepted) h) ∙ replied-by (acceptsOf s h)
+    replied-none = ap (λ (r : meant.ReplayAnswer). heard (reply r)) (replay-is s (w, accepted) h) ∙ replied-by (acceptsOf s h)
 
     worked : By (Eleven s work) (heard (replayAt s h (replayChecked work (checked.Accepted w))))
     worked =

@@ -17,12 +17,12 @@ use Rattle.demands.specs.Decoded.{worldOf, boundOf, firstOf}
 use Rattle.demands.specs.Planning as meant
 use Rattle.demands.specs.Planning.{answer, verdictOf, acceptsOf, RunOf}
 use Rattle.demands.proofs.Demands.{plan-is, replay-is, plan-transitions}
-use Rattle.search.specs.Outcome.{lay, Says, Reported, isFound}
-use Rattle.search.specs.Searching.{outcomeOf}
-use Rattle.runs.proofs.Outcomes.{outcome-free, outcome-closed}
+use Rattle.search.specs.Outcome.{lay, ReportsVerdict, Reported, isFound}
+use Rattle.search.specs.Searching.{verdictFrom}
+use Rattle.runs.proofs.Bounded.{outcome-free, outcome-closed}
 use Rattle.search.specs.declared.Outcome.{Outcome}
 use Rattle.search.specs.declared.Outcome.the-variants.{Found}
-use Rattle.planner.specs.Answers.{planAnswer, traced, reply, answerOf, traceOf, replyOf}
+use Rattle.planner.specs.Answers.{answerAs, traced, reply, answerOf, traceOf, replyOf}
 use Rattle.planner.proofs.Demands.{answer-is, trace-is, reply-is}
 use Rattle.planner.specs.Reports.{plannedAs, repliedAs}
 
@@ -46,32 +46,32 @@ lay-front (e ∷ h) [] l = absurd (omega arith)
 lay-front (e ∷ h) (x ∷ trace) l = ap (λ (k : List ℕ). set k 0 e) (lay-cons h x trace 0) ∙ ap (λ (k : List ℕ). e ∷ k) (lay-front h trace (omega arith))
 
 -- planning
-pub free-verdict : (s : List ℕ) → outcomeOf s true (boundOf s) (firstOf s, []) ≡ verdictOf s
+pub free-verdict : (s : List ℕ) → verdictFrom s true (boundOf s) (firstOf s, []) ≡ verdictOf s
 unfolding verdictOf
-free-verdict s = outcome-free (meant.movesIn (worldOf s)) (meant.finalIn (worldOf s)) (boundOf s) (firstOf s)
+free-verdict s = outcome-free (meant.transitionsIn (worldOf s)) (meant.isFinalIn (worldOf s)) (boundOf s) (firstOf s)
 
 -- the answer and the trace, where the histories of plans fit
 pub planned-says :
     (trace trace′ : List ℕ) (o : Outcome) (v : Verdict)
     → ((h : List ℕ) (t : ℕ) → v ≡ plan h t → length h ≤ length trace)
-    → Says 0 0 trace trace′ o v
-    → (plannedAs o ≡ planAnswer (answer v)) × (trace′ ≡ traced (answer v) trace)
+    → ReportsVerdict 0 0 trace trace′ o v
+    → (plannedAs o ≡ answerAs (answer v)) × (trace′ ≡ traced (answer v) trace)
 planned-says trace trace′ o (plan h t) short (e, l) = (ap plannedAs (e ∙ ap₂ Found (zero-add (length h)) (zero-add t)), l ∙ lay-front h trace (short h t refl))
 planned-says trace trace′ o nothing short (e, l) = (ap plannedAs e, l)
 planned-says trace trace′ o more short (e, l) = (ap plannedAs e, l)
 
 -- replay
-found-plan : (n d : ℕ) (trace trace′ : List ℕ) (o : Outcome) (v : Verdict) → Says n d trace trace′ o v → isFound o ≡ isPlan v
+found-plan : (n d : ℕ) (trace trace′ : List ℕ) (o : Outcome) (v : Verdict) → ReportsVerdict n d trace trace′ o v → isFound o ≡ isPlan v
 found-plan n d trace trace′ o (plan h t) (e, l) = ap isFound e
 found-plan n d trace trace′ o nothing (e, l) = ap isFound e
 found-plan n d trace trace′ o more (e, l) = ap isFound e
 
 pub closed-reply :
-    (s h trace trace′ : List ℕ) (o : Outcome) → Reported 0 0 trace trace′ o (outcomeOf s false (boundOf s) (firstOf s, h)) → isFound o ≡ acceptsOf s h
+    (s h trace trace′ : List ℕ) (o : Outcome) → Reported 0 0 trace trace′ o (verdictFrom s false (boundOf s) (firstOf s, h)) → isFound o ≡ acceptsOf s h
 unfolding acceptsOf
 closed-reply s h trace trace′ o R =
-    found-plan 0 0 trace trace′ o (outcomeOf s false (boundOf s) (firstOf s, h)) (R .says)
-    ∙ outcome-closed (meant.movesIn (worldOf s)) (meant.finalIn (worldOf s)) (boundOf s) (firstOf s) h
+    found-plan 0 0 trace trace′ o (verdictFrom s false (boundOf s) (firstOf s, h)) (R .says)
+    ∙ outcome-closed (meant.transitionsIn (worldOf s)) (meant.isFinalIn (worldOf s)) (boundOf s) (firstOf s) h
 
 pub replied-as : (b : Bool) → repliedAs b ≡ reply (meant.replied b)
 replied-as true = refl
@@ -86,20 +86,20 @@ module _ (s : List ℕ) (w : ℕ) (accepted : checkOf s ≡ Accepted w) (work tr
 
   pub planning :
       (trace′ : List ℕ) (o : Outcome)
-      → Reported 0 0 trace trace′ o (outcomeOf s true (boundOf s) (firstOf s, []))
+      → Reported 0 0 trace trace′ o (verdictFrom s true (boundOf s) (firstOf s, []))
       → (plannedAs o ≡ answerOf s (length work) (length trace)) × (trace′ ≡ traceOf s (length work) trace)
   planning trace′ o R =
-      let says = subst (Says 0 0 trace trace′ o) (free-verdict s) (R .says) in
+      let says = subst (ReportsVerdict 0 0 trace trace′ o) (free-verdict s) (R .says) in
       let P = planned-says trace trace′ o (verdictOf s) short says in
       let e = plan-is s (w, accepted) in (
-        P .0 ∙ sym (ap planAnswer e) ∙ sym (answer-is s w accepted work enough trace long),
-        P .1 ∙ sym (ap (λ (a : meant.Planned). traced a trace) e) ∙ sym (trace-is s w accepted work enough trace long),
+        P .0 ∙ sym (ap answerAs e) ∙ sym (answer-is s w accepted work enough trace long),
+        P .1 ∙ sym (ap (λ (a : meant.PlanAnswer). traced a trace) e) ∙ sym (trace-is s w accepted work enough trace long),
       )
 
 -- and what the closed search reports is replay's
 pub replaying :
     (s : List ℕ) (w : ℕ) (accepted : checkOf s ≡ Accepted w) (work : List ℕ) (enough : w ≤ length work) (h trace trace′ : List ℕ) (o : Outcome)
-    → Reported 0 0 trace trace′ o (outcomeOf s false (boundOf s) (firstOf s, h))
+    → Reported 0 0 trace trace′ o (verdictFrom s false (boundOf s) (firstOf s, h))
     → repliedAs (isFound o) ≡ replyOf s h (length work)
 replaying s w accepted work enough h trace trace′ o R =
     ap repliedAs (closed-reply s h trace trace′ o R)

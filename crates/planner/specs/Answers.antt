@@ -43,18 +43,18 @@ abbrev pub planStage : List ℕ → (work trace : ℕ) → Stage
 planStage s work trace = planChecked s work trace (checkOf s)
 
 -- planning's answer: n moves and t transitions, or a number and a place
-abbrev pub planAnswer : meant.Planned → Planned
-planAnswer (meant.found h t) = planned.Found (length h) t
-planAnswer (meant.Planned.refused n p) = planned.Refused n p
+abbrev pub answerAs : meant.PlanAnswer → Planned
+answerAs (meant.found h t) = planned.Found (length h) t
+answerAs (meant.PlanAnswer.refused n p) = planned.Refused n p
 
 abbrev pub planAt : List ℕ → Stage → Planned
 planAt s (refused n p) = planned.Refused n p
-planAt s (searching w) = planAnswer (planOf s)
+planAt s (searching w) = answerAs (planOf s)
 
 -- the trace: "the first n trace entries hold it, the rest are untouched"; "untouched under every number"
-abbrev pub traced : meant.Planned → List ℕ → List ℕ
+abbrev pub traced : meant.PlanAnswer → List ℕ → List ℕ
 traced (meant.found h t) trace = h ++ drop (length h) trace
-traced (meant.Planned.refused n p) trace = trace
+traced (meant.PlanAnswer.refused n p) trace = trace
 
 abbrev pub traceAt : List ℕ → Stage → List ℕ → List ℕ
 traceAt s (refused n p) trace = trace
@@ -76,10 +76,10 @@ unfoldable pub planWork : List ℕ → List ℕ → (trace : ℕ) → List ℕ
 planWork s work trace = workAt (planStage s (length work) trace) work
 
 -- what `replay` answers and leaves
-abbrev pub reply : meant.Replayed → Replayed
+abbrev pub reply : meant.ReplayAnswer → Replayed
 reply (meant.replied true) = replayed.Yes
 reply (meant.replied false) = replayed.No
-reply (meant.Replayed.refused n p) = replayed.Refused n p
+reply (meant.ReplayAnswer.refused n p) = replayed.Refused n p
 
 abbrev pub replayAt : List ℕ → List ℕ → Stage → Replayed
 replayAt s h (refused n p) = replayed.Refused n p

@@ -12,9 +12,9 @@ module _ (K : ℕ → Type 0) where
   added none r one rest e k = rest e k
   added (some a) r one rest e k = ⊎-elim (λ q. subst K (sym q) (one a refl)) (rest e) (List·Memᴰ·cases-cons k)
 
-  module _ {C : Type 0} (Step : C → Option ℕ → C → Type 0) (I : C → Type 0)
-      (kept : (c : C) (m : Option ℕ) (d : C) → I c → Step c m d → I d × ((a : ℕ) → m ≡ some a → K a)) where
-    pub history-has : (n : ℕ) (c : C) (h : List ℕ) (d : C) → I c → Run Step n c h d → (e : ℕ) → List·Memᴰ e h → K e
+  module _ {C : Type 0} (Trans : C → Option ℕ → C → Type 0) (I : C → Type 0)
+      (kept : (c : C) (m : Option ℕ) (d : C) → I c → Trans c m d → I d × ((a : ℕ) → m ≡ some a → K a)) where
+    pub history-has : (n : ℕ) (c : C) (h : List ℕ) (d : C) → I c → Run Trans n c h d → (e : ℕ) → List·Memᴰ e h → K e
     history-has zero c h d i (q, p) e k = absurd (List·Memᴰ·not-nil (subst (List·Memᴰ e) q k))
     history-has (suc n) c h d i (m, x, r, st, q, run) e k =
         let next = kept c m x i st in

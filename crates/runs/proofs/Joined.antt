@@ -4,7 +4,7 @@ use mathlib.Core.Bool.{Bool, true, false}
 use mathlib.Core.Option.{Option}
 use mathlib.Core.Path.{_≡_, refl, sym, _∙_, ap}
 use Rattle.runs.specs.Search.{Verdict, plan, nothing, more, isPlan, orMore, before}
-use Rattle.runs.specs.Outcome.{join, flagged}
+use Rattle.runs.specs.Bounded.{join, flagged}
 
 -- a flag and a verdict
 pub flag-nothing : (cut : Bool) → join (flagged cut) nothing ≡ flagged cut

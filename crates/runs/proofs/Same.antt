@@ -8,8 +8,8 @@ use mathlib.Core.List.{List, [], _∷_, _++_, map, map-append}
 use mathlib.Core.Option.{Option, none, some}
 use mathlib.Core.Path.{_≡_, refl, ap, ap₂, _∙_}
 use lib.Dec.{eqb}
-use Rattle.runs.specs.Search.{Verdict, isPlan, before, tries, anyStep, unless, search}
-use Rattle.runs.specs.Guide.{isNil, only, follow1, follow, movesG, finG, accepts}
+use Rattle.runs.specs.Search.{Verdict, isPlan, before, tries, anyTransition, unless, search}
+use Rattle.runs.specs.Guide.{isNil, only, follow1, follow, guidedTransitions, guidedFinal, accepts}
 
 pub map-only : {A B : Type 0} (f : A → B) (b : Bool) (xs : List A) → map f (only b xs) ≡ only b (map f xs)
 map-only f true xs = refl
@@ -24,16 +24,16 @@ module _ {D C : Type 0} (F : D → C) where
   tries-same g f p [] = refl
   tries-same g f p (x ∷ xs) = ap₂ (λ (u v : Verdict). before (x .0) u v) (p (x .1)) (tries-same g f p xs)
 
-  any-same : (xs : List (Option ℕ × D)) → anyStep xs ≡ anyStep (map (under F) xs)
+  any-same : (xs : List (Option ℕ × D)) → anyTransition xs ≡ anyTransition (map (under F) xs)
   any-same [] = refl
   any-same (x ∷ xs) = refl
 
-  module _ (moves′ : D → List (Option ℕ × D)) (fin′ : D → Bool) (moves : C → List (Option ℕ × C)) (fin : C → Bool) (same-moves : (d : D) → map (under F) (moves′ d) ≡ moves (F d))
-      (same-fin : (d : D) → fin′ d ≡ fin (F d)) where
-    pub search-same : (k : ℕ) (d : D) → search moves′ fin′ k d ≡ search moves fin k (F d)
-    search-same zero d = ap₂ unless (same-fin d) (any-same (moves′ d) ∙ ap anyStep (same-moves d))
-    search-same (suc k) d = ap₂ unless (same-fin d) (tries-same (λ (e : D). search moves′ fin′ k e) (λ (e : C). search moves fin k e) (λ e. search-same k e) (moves′ d) ∙ ap
-        (λ (l : List (Option ℕ × C)). tries (λ (e : C). search moves fin k e) l) (same-moves d))
+  module _ (moves′ : D → List (Option ℕ × D)) (fin′ : D → Bool) (transitions : C → List (Option ℕ × C)) (final : C → Bool) (same-moves : (d : D) → map (under F) (moves′ d) ≡ transitions (F d))
+      (same-fin : (d : D) → fin′ d ≡ final (F d)) where
+    pub search-same : (k : ℕ) (d : D) → search moves′ fin′ k d ≡ search transitions final k (F d)
+    search-same zero d = ap₂ unless (same-fin d) (any-same (moves′ d) ∙ ap anyTransition (same-moves d))
+    search-same (suc k) d = ap₂ unless (same-fin d) (tries-same (λ (e : D). search moves′ fin′ k e) (λ (e : C). search transitions final k e) (λ e. search-same k e) (moves′ d) ∙ ap
+        (λ (l : List (Option ℕ × C)). tries (λ (e : C). search transitions final k e) l) (same-moves d))
 
 module _ {D C : Type 0} (F : D → C) where
   -- F beside the moves still to be made
@@ -50,12 +50,12 @@ module _ {D C : Type 0} (F : D → C) where
   follow-same free g [] = refl
   follow-same free g (x ∷ xs) = map-append (under beside) (follow1 free g (x .0) (x .1)) (follow free g xs) ∙ ap₂ _++_ (follow1-same free g (x .0) (x .1)) (follow-same free g xs)
 
-  module _ (moves′ : D → List (Option ℕ × D)) (fin′ : D → Bool) (moves : C → List (Option ℕ × C)) (fin : C → Bool) (same-moves : (d : D) → map (under F) (moves′ d) ≡ moves (F d))
-      (same-fin : (d : D) → fin′ d ≡ fin (F d)) where
-    pub guided-same : (free : Bool) (k : ℕ) (d : D) (g : List ℕ) → search (movesG free moves′) (finG fin′) k (d, g) ≡ search (movesG free moves) (finG fin) k (F d, g)
-    guided-same free k d g = search-same beside (movesG free moves′) (finG fin′) (movesG free moves) (finG fin)
+  module _ (moves′ : D → List (Option ℕ × D)) (fin′ : D → Bool) (transitions : C → List (Option ℕ × C)) (final : C → Bool) (same-moves : (d : D) → map (under F) (moves′ d) ≡ transitions (F d))
+      (same-fin : (d : D) → fin′ d ≡ final (F d)) where
+    pub guided-same : (free : Bool) (k : ℕ) (d : D) (g : List ℕ) → search (guidedTransitions free moves′) (guidedFinal fin′) k (d, g) ≡ search (guidedTransitions free transitions) (guidedFinal final) k (F d, g)
+    guided-same free k d g = search-same beside (guidedTransitions free moves′) (guidedFinal fin′) (guidedTransitions free transitions) (guidedFinal final)
         (λ e. follow-same free (e .1) (moves′ (e .0)) ∙ ap (λ (l : List (Option ℕ × C)). follow free (e .1) l) (same-moves (e .0))) (λ e. ap (λ (b : Bool). isNil (e .1) && b) (same-fin (e .0))) k
         (d, g)
 
-    pub accepts-same : (k : ℕ) (d : D) (h : List ℕ) → accepts moves′ fin′ k d h ≡ accepts moves fin k (F d) h
+    pub accepts-same : (k : ℕ) (d : D) (h : List ℕ) → accepts moves′ fin′ k d h ≡ accepts transitions final k (F d) h
     accepts-same k d h = ap isPlan (guided-same false k d h)

@@ -9,7 +9,7 @@ use mathlib.Core.Path.{_≡_, refl, sym, _∙_, ap, subst}
 use lib.ListN.{length, drop, getD, drop-of-length-le}
 use lib.Seq.{drop-cons}
 use Rattle.steps.specs.Laid.{codeOf}
-use Rattle.engine.specs.Going.{Known, Action}
+use Rattle.engine.specs.Going.{Known, IsAction}
 
 abbrev pub Small : ℕ → Type 0
 Small a = a < 65536
@@ -22,7 +22,7 @@ pub move-of : (m : Option ℕ) (e : ℕ) → Known Small m → e ≡ codeOf m �
 move-of none e k q z = absurd (z q)
 move-of (some a) e k q z = ap some (sym q)
 
-pub small-of : (s : List ℕ) (m : Option ℕ) → Known (Action s) m → Known Small m
+pub small-of : (s : List ℕ) (m : Option ℕ) → Known (IsAction s) m → Known Small m
 small-of s none k = tt
 small-of s (some a) k = k .0
 

@@ -10,29 +10,29 @@ use mathlib.Core.Path.{_≡_, refl, sym, _∙_, ap, ap₂, subst}
 use lib.ListN.{length, set}
 use Rattle.runs.specs.Search.{Verdict, plan, nothing, more, isPlan, before, tries}
 use Rattle.runs.specs.Guide.{only, follow1, follow}
-use Rattle.runs.specs.Outcome.{join, flagged}
+use Rattle.runs.specs.Bounded.{join, flagged}
 use Rattle.runs.proofs.Joined.{flag-nothing, join-assoc, before-flag, no-plan}
-use Rattle.runs.proofs.Outcomes.{tries-append}
-use Rattle.search.specs.Outcome.{Says, Reported, isFound, isMore, told}
+use Rattle.runs.proofs.Bounded.{tries-append}
+use Rattle.search.specs.Outcome.{ReportsVerdict, Reported, isFound, isMore, told}
 use Rattle.search.specs.Moves.{passes, leftOver, entries, noted}
 use Rattle.search.specs.declared.Outcome.{Outcome}
 use Rattle.search.specs.declared.Outcome.the-variants.{Found, More}
 
-pub says-flag : (n d : ℕ) (trace : List ℕ) (cut : Bool) → Says n d trace trace (told cut) (flagged cut)
+pub says-flag : (n d : ℕ) (trace : List ℕ) (cut : Bool) → ReportsVerdict n d trace trace (told cut) (flagged cut)
 says-flag n d trace true = (refl, refl)
 says-flag n d trace false = (refl, refl)
 
 -- and the answer is that
 pub more-reported : (n d : ℕ) (trace : List ℕ) (cut : Bool) (v : Verdict) → cut ≡ true → isPlan v ≡ false → Reported n d trace trace More (join (flagged cut) v)
-more-reported n d trace cut v e h = record { says = subst (Says n d trace trace More) (sym (no-plan cut v e h)) (refl, refl) }
+more-reported n d trace cut v e h = record { says = subst (ReportsVerdict n d trace trace More) (sym (no-plan cut v e h)) (refl, refl) }
 
 -- a verdict that is a flag, told
 pub flag-reported : (n d : ℕ) (cut : Bool) {trace trace′ : List ℕ} {o : Outcome} {v : Verdict} → flagged cut ≡ v → o ≡ told cut → trace′ ≡ trace → Reported n d trace trace′ o v
 flag-reported n d cut {trace} {trace′} {o} {v} e eo et =
     record {
       says =
-          subst (λ (o : Outcome). Says n d trace trace′ o v) (sym eo)
-          (subst (λ (l : List ℕ). Says n d trace l (told cut) v) (sym et) (subst (Says n d trace trace (told cut)) e (says-flag n d trace cut)));
+          subst (λ (o : Outcome). ReportsVerdict n d trace trace′ o v) (sym eo)
+          (subst (λ (l : List ℕ). ReportsVerdict n d trace l (told cut) v) (sym et) (subst (ReportsVerdict n d trace trace (told cut)) e (says-flag n d trace cut)));
     }
 
 module _ {C : Type 0} (f : C × List ℕ → Verdict) (free : Bool) (g : List ℕ) where
@@ -67,9 +67,9 @@ module _ {C : Type 0} (f : C × List ℕ → Verdict) (free : Bool) (g : List �
           no : {v : Outcome} → o ≡ v → isFound v ≡ false → Reported n d trace trace′ o (join (flagged cut) (branches (x ∷ xs)))
           no e z = let q : _≡_ {A = ℕ} 0 1 = let p : true ≡ false = sym y ∙ ap isFound e ∙ z in cc in absurd (omega arith)
 
-          go : (v : Verdict) → join (flagged cut) (branches (one x)) ≡ v → Says n d trace trace′ o v → Reported n d trace trace′ o (join (flagged cut) (branches (x ∷ xs)))
+          go : (v : Verdict) → join (flagged cut) (branches (one x)) ≡ v → ReportsVerdict n d trace trace′ o v → Reported n d trace trace′ o (join (flagged cut) (branches (x ∷ xs)))
           go (plan h t) e s =
-              record { says = subst (Says n d trace trace′ o) (sym (tried-next cut x xs ∙ ap (λ (v : Verdict). join v (branches xs)) e)) s }
+              record { says = subst (ReportsVerdict n d trace trace′ o) (sym (tried-next cut x xs ∙ ap (λ (v : Verdict). join v (branches xs)) e)) s }
           go nothing e s = no (s .0) refl
           go more e s = no (s .0) refl
 
@@ -80,7 +80,7 @@ module _ {C : Type 0} (f : C × List ℕ → Verdict) (free : Bool) (g : List �
           rest : (b : Bool) → join (flagged cut) (branches (one x)) ≡ flagged b → isMore o ≡ b → join (flagged cut) (branches (x ∷ xs)) ≡ join (flagged (isMore o)) (branches xs)
           rest b e z = tried-next cut x xs ∙ ap (λ (v : Verdict). join v (branches xs)) (e ∙ ap flagged (sym z))
 
-          go : (v : Verdict) → join (flagged cut) (branches (one x)) ≡ v → Says n d trace trace′ o v →
+          go : (v : Verdict) → join (flagged cut) (branches (one x)) ≡ v → ReportsVerdict n d trace trace′ o v →
               (trace′ ≡ trace) × (join (flagged cut) (branches (x ∷ xs)) ≡ join (flagged (isMore o)) (branches xs))
           go (plan h t) e s = let q : _≡_ {A = ℕ} 0 1 = let p : false ≡ true = sym y ∙ ap isFound (s .0) in cc in absurd (omega arith)
           go nothing e s = (s .1, rest false e (ap isMore (s .0)))
@@ -95,15 +95,15 @@ module _ {C : Type 0} (f : C × List ℕ → Verdict) (n d : ℕ) (trace trace�
   pub after-test : Reported n (d + 1) trace trace′ o (f c) → Reported n d trace trace′ o (tries f ((none, c) ∷ []))
   after-test R = go (f c) refl (R .says)
     where
-      go : (v : Verdict) → f c ≡ v → Says n (d + 1) trace trace′ o v → Reported n d trace trace′ o (tries f ((none, c) ∷ []))
+      go : (v : Verdict) → f c ≡ v → ReportsVerdict n (d + 1) trace trace′ o v → Reported n d trace trace′ o (tries f ((none, c) ∷ []))
       go (plan h t) e s =
           record {
             says =
-                subst (λ (v : Verdict). Says n d trace trace′ o (before none v nothing)) (sym e)
+                subst (λ (v : Verdict). ReportsVerdict n d trace trace′ o (before none v nothing)) (sym e)
                 (s .0 ∙ ap (Found (n + length h)) (omega arith), s .1);
           }
-      go nothing e s = record { says = subst (λ (v : Verdict). Says n d trace trace′ o (before none v nothing)) (sym e) s }
-      go more e s = record { says = subst (λ (v : Verdict). Says n d trace trace′ o (before none v nothing)) (sym e) s }
+      go nothing e s = record { says = subst (λ (v : Verdict). ReportsVerdict n d trace trace′ o (before none v nothing)) (sym e) s }
+      go more e s = record { says = subst (λ (v : Verdict). ReportsVerdict n d trace trace′ o (before none v nothing)) (sym e) s }
 
   module _ (a : ℕ) (R : Reported (n + 1) (d + 1) trace trace′ o (f c)) where
     pub after-move : isFound o ≡ true → Reported n d trace (set trace′ n a) o (tries f ((some a, c) ∷ []))
@@ -112,11 +112,11 @@ module _ {C : Type 0} (f : C × List ℕ → Verdict) (n d : ℕ) (trace trace�
         no : {v : Outcome} → o ≡ v → isFound v ≡ false → Reported n d trace (set trace′ n a) o (tries f ((some a, c) ∷ []))
         no e z = let q : _≡_ {A = ℕ} 0 1 = let p : true ≡ false = sym y ∙ ap isFound e ∙ z in cc in absurd (omega arith)
 
-        go : (v : Verdict) → f c ≡ v → Says (n + 1) (d + 1) trace trace′ o v → Reported n d trace (set trace′ n a) o (tries f ((some a, c) ∷ []))
+        go : (v : Verdict) → f c ≡ v → ReportsVerdict (n + 1) (d + 1) trace trace′ o v → Reported n d trace (set trace′ n a) o (tries f ((some a, c) ∷ []))
         go (plan h t) e s =
             record {
               says =
-                  subst (λ (v : Verdict). Says n d trace (set trace′ n a) o (before (some a) v nothing)) (sym e)
+                  subst (λ (v : Verdict). ReportsVerdict n d trace (set trace′ n a) o (before (some a) v nothing)) (sym e)
                   (s .0 ∙ ap₂ Found (omega arith) (omega arith), ap (λ (l : List ℕ). set l n a) (s .1));
             }
         go nothing e s = no (s .0) refl
@@ -125,10 +125,10 @@ module _ {C : Type 0} (f : C × List ℕ → Verdict) (n d : ℕ) (trace trace�
     pub after-move-missed : isFound o ≡ false → Reported n d trace trace′ o (tries f ((some a, c) ∷ []))
     after-move-missed y = go (f c) refl (R .says)
       where
-        go : (v : Verdict) → f c ≡ v → Says (n + 1) (d + 1) trace trace′ o v → Reported n d trace trace′ o (tries f ((some a, c) ∷ []))
+        go : (v : Verdict) → f c ≡ v → ReportsVerdict (n + 1) (d + 1) trace trace′ o v → Reported n d trace trace′ o (tries f ((some a, c) ∷ []))
         go (plan h t) e s = let q : _≡_ {A = ℕ} 0 1 = let p : false ≡ true = sym y ∙ ap isFound (s .0) in cc in absurd (omega arith)
-        go nothing e s = record { says = subst (λ (v : Verdict). Says n d trace trace′ o (before (some a) v nothing)) (sym e) s }
-        go more e s = record { says = subst (λ (v : Verdict). Says n d trace trace′ o (before (some a) v nothing)) (sym e) s }
+        go nothing e s = record { says = subst (λ (v : Verdict). ReportsVerdict n d trace trace′ o (before (some a) v nothing)) (sym e) s }
+        go more e s = record { says = subst (λ (v : Verdict). ReportsVerdict n d trace trace′ o (before (some a) v nothing)) (sym e) s }
 
 -- a transition that passes or not
 pub follow-passes :
@@ -145,7 +145,7 @@ module _
   pub held-back : (cut : Bool) → passes free g m ≡ false → Reported n d trace trace (told cut) (join (flagged cut) (branch f free g (m, c)))
   held-back cut e =
       let q : branch f free g (m, c) ≡ nothing = ap (tries f) (follow-passes free g m c ∙ ap (λ (b : Bool). only b ((m, (c, leftOver g m)) ∷ [])) e) in
-      record { says = subst (Says n d trace trace (told cut)) (sym (ap (join (flagged cut)) q ∙ flag-nothing cut)) (says-flag n d trace cut) }
+      record { says = subst (ReportsVerdict n d trace trace (told cut)) (sym (ap (join (flagged cut)) q ∙ flag-nothing cut)) (says-flag n d trace cut) }
 
   -- let pass, it comes to what the search from where it leads comes to, written down where that is a plan
   let-through :

@@ -9,17 +9,17 @@ use mathlib.Core.Path.{_≡_, refl, sym, _∙_, ap, subst}
 use lib.ListN.{length, drop}
 use Rattle.golog.specs.declared.State.{State}
 use Rattle.golog.specs.Prog.{Prog}
-use Rattle.golog.specs.Steps.{Config, Step, isNone}
-use Rattle.runs.specs.Outcome.{join, flagged}
+use Rattle.golog.specs.Transitions.{Configuration, Transition, isNone}
+use Rattle.runs.specs.Bounded.{join, flagged}
 use Rattle.engine.specs.Frames.{Frame, frameOf}
 use Rattle.engine.specs.Tables.{Surveyed}
-use Rattle.engine.specs.Going.{transitionsOf, Ahead, Makes, Made, CanGoOn, GoesOn, Known}
+use Rattle.engine.specs.Going.{transitionsOf, Ahead, MakesNext, MadeNext, CanGoOn, GoesOn, Known}
 use Rattle.engine.specs.declared.Cursor.{Cursor}
 use Rattle.engine.proofs.Frames.{frame-same}
-use Rattle.engine.specs.declared.Transition.{Transition}
+use Rattle.engine.specs.declared.Taken.{Taken}
 use Rattle.search.specs.Outcome.{Reported, told}
 use Rattle.search.specs.Moves.{passes, noted}
-use Rattle.search.specs.Searching.{outcomeOf, Ready, visited, toMake, verdictAt, branchesAt, Unknown, Going, Stepped, Steps, Follows, withCursor}
+use Rattle.search.specs.Searching.{verdictFrom, Ready, visited, toMake, verdictAt, branchesAt, Unknown, Going, TriedFirst, TriesFirst, Follows, withCursor}
 use Rattle.search.specs.declared.Task.{Task}
 use Rattle.search.specs.declared.Visit.{Visit}
 use Rattle.search.specs.declared.Seen.{Seen}
@@ -33,15 +33,15 @@ renamed :
     (s : List ℕ) (free : Bool) (p : Prog) (trace trace′ : List ℕ) (o : Outcome)
     {n n′ d d′ l l′ : ℕ} {cut cut′ : Bool} {st st′ : State} {g g′ : List ℕ}
     → n ≡ n′ → d ≡ d′ → l ≡ l′ → cut ≡ cut′ → st ≡ st′ → g ≡ g′
-    → Reported n d trace trace′ o (join (flagged cut) (outcomeOf s free l ((p, st), g)))
-    → Reported n′ d′ trace trace′ o (join (flagged cut′) (outcomeOf s free l′ ((p, st′), g′)))
+    → Reported n d trace trace′ o (join (flagged cut) (verdictFrom s free l ((p, st), g)))
+    → Reported n′ d′ trace trace′ o (join (flagged cut′) (verdictFrom s free l′ ((p, st′), g′)))
 renamed s free p trace trace′ o {n} {n′} {d} {d′} {l} {l′} {cut} {cut′} {st} {st′} {g} {g′} en ed el ec es eg R =
-    subst (λ (x : List ℕ). Reported n′ d′ trace trace′ o (join (flagged cut′) (outcomeOf s free l′ ((p, st′), x)))) eg
-    (subst (λ (x : State). Reported n′ d′ trace trace′ o (join (flagged cut′) (outcomeOf s free l′ ((p, x), g)))) es
-    (subst (λ (x : Bool). Reported n′ d′ trace trace′ o (join (flagged x) (outcomeOf s free l′ ((p, st), g)))) ec
-    (subst (λ (x : ℕ). Reported n′ d′ trace trace′ o (join (flagged cut) (outcomeOf s free x ((p, st), g)))) el
-    (subst (λ (x : ℕ). Reported n′ x trace trace′ o (join (flagged cut) (outcomeOf s free l ((p, st), g)))) ed
-    (subst (λ (x : ℕ). Reported x d trace trace′ o (join (flagged cut) (outcomeOf s free l ((p, st), g)))) en R)))))
+    subst (λ (x : List ℕ). Reported n′ d′ trace trace′ o (join (flagged cut′) (verdictFrom s free l′ ((p, st′), x)))) eg
+    (subst (λ (x : State). Reported n′ d′ trace trace′ o (join (flagged cut′) (verdictFrom s free l′ ((p, x), g)))) es
+    (subst (λ (x : Bool). Reported n′ d′ trace trace′ o (join (flagged x) (verdictFrom s free l′ ((p, st), g)))) ec
+    (subst (λ (x : ℕ). Reported n′ d′ trace trace′ o (join (flagged cut) (verdictFrom s free x ((p, st), g)))) el
+    (subst (λ (x : ℕ). Reported n′ x trace trace′ o (join (flagged cut) (verdictFrom s free l ((p, st), g)))) ed
+    (subst (λ (x : ℕ). Reported x d trace trace′ o (join (flagged cut) (verdictFrom s free l ((p, st), g)))) en R)))))
 
 module _ {s w moves : List ℕ} {trace : ℕ} {t : Task} {q : Visit} {flags : List Bool} {numbers : List ℕ} where
   -- what is ahead of a cursor is one list
@@ -52,11 +52,11 @@ module _ {s w moves : List ℕ} {trace : ℕ} {t : Task} {q : Visit} {flags : Li
       ∙ sym (h .listed .ahead-are)
 
 -- the first of the transitions ahead was made
-pub record First (s : List ℕ) (q : Visit) (p : Prog) (ahead : List Step) (w : List ℕ) (x : Transition) : Type 0 where
-  pub step : Step
-  pub later : List Step
+pub record First (s : List ℕ) (q : Visit) (p : Prog) (ahead : List Transition) (w : List ℕ) (x : Taken) : Type 0 where
+  pub step : Transition
+  pub later : List Transition
   pub split : ahead ≡ step ∷ later
-  pub made : Made s (visited q p) (q .left - 1) w (q .at + frameOf s) x step later
+  pub made : MadeNext s (visited q p) (q .left - 1) w (q .at + frameOf s) x step later
 
 module _ {s w moves : List ℕ} {trace : ℕ} {t : Task} {q : Visit} {flags : List Bool} {numbers : List ℕ} (g : Going s w moves trace t q flags numbers) where
   -- what the engine is asked
@@ -72,15 +72,15 @@ module _ {s w moves : List ℕ} {trace : ℕ} {t : Task} {q : Visit} {flags : Li
         listed = g .listed;
       }
 
-  pub first : {w₁ : List ℕ} {x : Transition} → GoesOn s (q .state) (q .at) (q .cursor) w w₁ x → isNone (g .ahead) ≡ false → First s q (g .program) (g .ahead) w₁ x
+  pub first : {w₁ : List ℕ} {x : Taken} → GoesOn s (q .state) (q .at) (q .cursor) w w₁ x → isNone (g .ahead) ≡ false → First s q (g .program) (g .ahead) w₁ x
   unfolding can
   first {w₁} {x} M some = go (g .ahead) some (M .makes can)
     where
-      go : (xs : List Step) → isNone xs ≡ false → Makes s (visited q (g .program)) (q .left - 1) w₁ (q .at + frameOf s) x xs → First s q (g .program) xs w₁ x
+      go : (xs : List Transition) → isNone xs ≡ false → MakesNext s (visited q (g .program)) (q .left - 1) w₁ (q .at + frameOf s) x xs → First s q (g .program) xs w₁ x
       go [] e m = let z : _≡_ {A = ℕ} 0 1 = let y : true ≡ false = e in cc in absurd (omega arith)
       go (y ∷ ys) e m = record { step = y; later = ys; split = refl; made = m }
 
-  module _ {w₁ : List ℕ} {x : Transition} (F : First s q (g .program) (g .ahead) w₁ x) where
+  module _ {w₁ : List ℕ} {x : Taken} (F : First s q (g .program) (g .ahead) w₁ x) where
     abbrev move : Option ℕ
     move = F .step .0
 
@@ -92,17 +92,17 @@ module _ {s w moves : List ℕ} {trace : ℕ} {t : Task} {q : Visit} {flags : Li
     small = small-of s move (F .made .coded .known)
 
     pub one : (trace trace′ : List ℕ) (o : Outcome)
-        → Reported (q .n) (q .d) trace trace′ o (join (flagged (q .cut)) (branch (λ (d : Config × List ℕ). outcomeOf s (t .free) (q .left - 1) d) (t .free) (toMake moves q) (F .step)))
+        → Reported (q .n) (q .d) trace trace′ o (join (flagged (q .cut)) (branch (λ (d : Configuration × List ℕ). verdictFrom s (t .free) (q .left - 1) d) (t .free) (toMake moves q) (F .step)))
         → Reported (q .n) (q .d) trace trace′ o (branchesAt s moves t q (F .step ∷ []))
     one trace trace′ o R =
         subst (Reported (q .n) (q .d) trace trace′ o)
-        (sym (branch-one (λ (d : Config × List ℕ). outcomeOf s (t .free) (q .left - 1) d) (t .free) (toMake moves q) (q .cut) (F .step))) R
+        (sym (branch-one (λ (d : Configuration × List ℕ). verdictFrom s (t .free) (q .left - 1) d) (t .free) (toMake moves q) (q .cut) (F .step))) R
 
     -- held back by the guide
     pub back : (trace : List ℕ) → passes (t .free) (toMake moves q) move ≡ false → Reported (q .n) (q .d) trace trace (told (q .cut)) (branchesAt s moves t q (F .step ∷ []))
     back trace e =
         one trace trace (told (q .cut))
-        (held-back (λ (d : Config × List ℕ). outcomeOf s (t .free) (q .left - 1) d) (t .free) (toMake moves q) move (F .step .1) (q .n) (q .d) trace trace (told (q .cut)) (q .cut) e)
+        (held-back (λ (d : Configuration × List ℕ). verdictFrom s (t .free) (q .left - 1) d) (t .free) (toMake moves q) move (F .step .1) (q .n) (q .d) trace trace (told (q .cut)) (q .cut) e)
 
     -- let pass: the visit that it leads to
     module _ {v : Visit} (Y : Follows moves (t .machine .frame) q x v) where
@@ -132,19 +132,19 @@ module _ {s w moves : List ℕ} {trace : ℕ} {t : Task} {q : Visit} {flags : Li
       forth trace trace′ o e R =
           let code = F .made .coded .entry-is in
           one trace (noted move (q .n) o trace′) o
-          (let-pass (λ (d : Config × List ℕ). outcomeOf s (t .free) (q .left - 1) d) (t .free) (toMake moves q) move (F .step .1) (q .n) (q .d) trace trace′ o (q .cut) e
+          (let-pass (λ (d : Configuration × List ℕ). verdictFrom s (t .free) (q .left - 1) d) (t .free) (toMake moves q) move (F .step .1) (q .n) (q .d) trace trace′ o (q .cut) e
           (renamed s (t .free) leads trace trace′ o (Y .moves-are move small code) (Y .transitions-are) (Y .left-is) (Y .cut-is) (Y .state-is ∙ F .made .state-is)
           (Y .to-make move small code) R))
 
 -- the step made is that of any reading of the visit
 pub any-steps :
-    {s w moves : List ℕ} {trace : ℕ} {t : Task} {q : Visit} {flags : List Bool} {numbers : List ℕ} {w₁ : List ℕ} {x : Transition}
+    {s w moves : List ℕ} {trace : ℕ} {t : Task} {q : Visit} {flags : List Bool} {numbers : List ℕ} {w₁ : List ℕ} {x : Taken}
     (g h : Going s w moves trace t q flags numbers) (F : First s q (g .program) (g .ahead) w₁ x) (before after : List ℕ) (r : Tried) → r .cursor ≡ x .cursor
     → Reported (q .n) (q .d) before after (r .outcome) (branchesAt s moves t q (F .step ∷ []))
-    → Steps s moves before after t q (h .program) r (h .ahead)
+    → TriesFirst s moves before after t q (h .program) r (h .ahead)
 any-steps {s} {moves = moves} {t = t} {q} {x = x} g h F before after r e R =
-    subst (λ (p : Prog). Steps s moves before after t q p r (h .ahead)) (frame-same (g .ready .frame) (h .ready .frame))
-    (subst (Steps s moves before after t q (g .program) r) (sym (F .split) ∙ ahead-same g h)
+    subst (λ (p : Prog). TriesFirst s moves before after t q p r (h .ahead)) (frame-same (g .ready .frame) (h .ready .frame))
+    (subst (TriesFirst s moves before after t q (g .program) r) (sym (F .split) ∙ ahead-same g h)
     (record { reported = R; listed = subst (λ (k : Cursor). Ahead s (visited q (g .program)) k (F .later)) (sym e) (F .made .ahead) }))
 
 -- where the outcome is not known yet, the visit goes on from the first cursor

@@ -14,13 +14,13 @@ lay trace n [] = trace
 lay trace n (e ∷ h) = set (lay trace (n + 1) h) n e
 
 -- the answer o, and the trace that became trace′, say the verdict, n moves and d transitions having been made before
-abbrev pub Says : (n d : ℕ) → (trace trace′ : List ℕ) → Outcome → Verdict → Type 0
-Says n d trace trace′ o (plan h t) = (o ≡ Found (n + length h) (d + t)) × (trace′ ≡ lay trace n h)
-Says n d trace trace′ o nothing = (o ≡ Nothing) × (trace′ ≡ trace)
-Says n d trace trace′ o more = (o ≡ More) × (trace′ ≡ trace)
+abbrev pub ReportsVerdict : (n d : ℕ) → (trace trace′ : List ℕ) → Outcome → Verdict → Type 0
+ReportsVerdict n d trace trace′ o (plan h t) = (o ≡ Found (n + length h) (d + t)) × (trace′ ≡ lay trace n h)
+ReportsVerdict n d trace trace′ o nothing = (o ≡ Nothing) × (trace′ ≡ trace)
+ReportsVerdict n d trace trace′ o more = (o ≡ More) × (trace′ ≡ trace)
 
 pub record Reported (n d : ℕ) (trace trace′ : List ℕ) (o : Outcome) (v : Verdict) : Type 0 where
-  pub says : Says n d trace trace′ o v
+  pub says : ReportsVerdict n d trace trace′ o v
 
 abbrev pub isFound : Outcome → Bool
 isFound (Found n t) = true

@@ -7,19 +7,19 @@ use mathlib.Core.Path.{_≡_}
 use lib.ListN.{length, drop}
 use Rattle.golog.specs.declared.State.{State}
 use Rattle.golog.specs.Prog.{Prog}
-use Rattle.golog.specs.Steps.{Config, Step}
+use Rattle.golog.specs.Transitions.{Configuration, Transition}
 use Rattle.runs.specs.Search.{Verdict, tries}
 use Rattle.runs.specs.Guide.{follow}
-use Rattle.runs.specs.Outcome.{outcome, join, flagged}
+use Rattle.runs.specs.Bounded.{verdictWithin, join, flagged}
 use Rattle.demands.specs.Decoded.{worldOf}
-use Rattle.demands.specs.Planning.{movesIn, finalIn}
+use Rattle.demands.specs.Planning.{transitionsIn, isFinalIn}
 use Rattle.words.specs.Words.{Kept}
 use Rattle.engine.specs.Tables.{Prepared, Surveyed}
 use Rattle.engine.specs.Frames.{Of, Frame, frameOf}
 use Rattle.steps.specs.Laid.{codeOf}
 use Rattle.engine.specs.Going.{transitionsOf, Ahead, aheadOf, Known}
 use Rattle.engine.specs.declared.Cursor.{Cursor}
-use Rattle.engine.specs.declared.Transition.{Transition}
+use Rattle.engine.specs.declared.Taken.{Taken}
 use Rattle.search.specs.Outcome.{Reported}
 use Rattle.search.specs.Moves.{leftOver, entries}
 use Rattle.search.specs.declared.Task.{Task}
@@ -30,12 +30,12 @@ use Rattle.search.specs.declared.Outcome.{Outcome}
 use Rattle.search.specs.declared.Outcome.the-variants.{Found, More}
 
 -- the verdict on a configuration of the sheet s, the moves g still to be made
-abbrev pub outcomeOf : List ℕ → (free : Bool) → (left : ℕ) → Config × List ℕ → Verdict
-outcomeOf s free left c = outcome (movesIn (worldOf s)) (finalIn (worldOf s)) free left c
+abbrev pub verdictFrom : List ℕ → (free : Bool) → (left : ℕ) → Configuration × List ℕ → Verdict
+verdictFrom s free left c = verdictWithin (transitionsIn (worldOf s)) (isFinalIn (worldOf s)) free left c
 
 -- the verdict on some of its transitions, `left` being left before them
-abbrev pub branchesOf : List ℕ → (free : Bool) → (left : ℕ) → List ℕ → List Step → Verdict
-branchesOf s free left g xs = tries (λ (d : Config × List ℕ). outcomeOf s free (left - 1) d) (follow free g xs)
+abbrev pub branchesOf : List ℕ → (free : Bool) → (left : ℕ) → List ℕ → List Transition → Verdict
+branchesOf s free left g xs = tries (λ (d : Configuration × List ℕ). verdictFrom s free (left - 1) d) (follow free g xs)
 
 -- a visit to the configuration of the remaining program p: the moves given are made up to there, and the trace has room
 pub record Ready (s w moves : List ℕ) (trace : ℕ) (t : Task) (q : Visit) (p : Prog) : Type 0 where
@@ -47,7 +47,7 @@ pub record Ready (s w moves : List ℕ) (trace : ℕ) (t : Task) (q : Visit) (p 
   pub deep : q .d + q .left ≤ 64
 
 -- the configuration visited, and the moves still to be made
-abbrev pub visited : Visit → Prog → Config
+abbrev pub visited : Visit → Prog → Configuration
 visited q p = (p, q .state)
 
 abbrev pub toMake : List ℕ → Visit → List ℕ
@@ -55,10 +55,10 @@ toMake moves q = drop (q .j) moves
 
 -- the verdict on it, beside what was known before
 abbrev pub verdictAt : List ℕ → List ℕ → Task → Visit → Prog → Verdict
-verdictAt s moves t q p = join (flagged (q .cut)) (outcomeOf s (t .free) (q .left) (visited q p, toMake moves q))
+verdictAt s moves t q p = join (flagged (q .cut)) (verdictFrom s (t .free) (q .left) (visited q p, toMake moves q))
 
 -- the verdict on its transitions xs, beside it
-abbrev pub branchesAt : List ℕ → List ℕ → Task → Visit → List Step → Verdict
+abbrev pub branchesAt : List ℕ → List ℕ → Task → Visit → List Transition → Verdict
 branchesAt s moves t q xs = join (flagged (q .cut)) (branchesOf s (t .free) (q .left) (toMake moves q) xs)
 
 -- looked at without a transition: the outcome is known, or the verdict is that on all transitions
@@ -68,7 +68,7 @@ pub record Unknown (s moves : List ℕ) (t : Task) (q : Visit) (p : Prog) (flags
   pub first : Ahead s (visited q p) (r .cursor) (transitionsOf s (visited q p))
   pub same : verdictAt s moves t q p ≡ branchesAt s moves t q (transitionsOf s (visited q p))
 
-pub record Looked (s w moves : List ℕ) (trace : ℕ) (t : Task) (q : Visit) (flags : List Bool) (numbers : List ℕ) (r : Seen) : Type 0 where
+pub record LookedAt (s w moves : List ℕ) (trace : ℕ) (t : Task) (q : Visit) (flags : List Bool) (numbers : List ℕ) (r : Seen) : Type 0 where
   pub prepared : Prepared s flags numbers
   pub known : (p : Prog) → Ready s w moves trace t q p → r .known ≡ true → (h : List ℕ) → Reported (q .n) (q .d) h h (r .outcome) (verdictAt s moves t q p)
   pub unknown : (p : Prog) → Ready s w moves trace t q p → r .known ≡ false → Unknown s moves t q p flags numbers r
@@ -79,11 +79,11 @@ pub record Going (s w moves : List ℕ) (trace : ℕ) (t : Task) (q : Visit) (fl
   pub ready : Ready s w moves trace t q program
   pub some-left : 1 ≤ q .left
   pub surveyed : Surveyed s (q .state) flags numbers
-  pub ahead : List Step
+  pub ahead : List Transition
   pub listed : Ahead s (visited q program) (q .cursor) ahead
 
 -- the tables of a search stay prepared, and the frames up to a visit's own are kept
-pub record Leaves (s w w′ : List ℕ) (q : Visit) (flags : List Bool) (numbers : List ℕ) (spareflags : List Bool) (sparenumbers : List ℕ) : Type 0 where
+pub record Preserves (s w w′ : List ℕ) (q : Visit) (flags : List Bool) (numbers : List ℕ) (spareflags : List Bool) (sparenumbers : List ℕ) : Type 0 where
   pub mine : Prepared s flags numbers
   pub spare : Prepared s spareflags sparenumbers
   pub kept : Kept (q .at + frameOf s) w w′
@@ -94,16 +94,16 @@ Expanded s w moves trace trace′ t q flags numbers o =
     (g : Going s w moves (length trace) t q flags numbers) → Reported (q .n) (q .d) trace trace′ o (branchesAt s moves t q (g .ahead))
 
 -- the first transition ahead was tried: its verdict is reported, and the others are ahead of the cursor after it
-pub record Stepped (s moves trace trace′ : List ℕ) (t : Task) (q : Visit) (p : Prog) (r : Tried) (x : Step) (ys : List Step) : Type 0 where
+pub record TriedFirst (s moves trace trace′ : List ℕ) (t : Task) (q : Visit) (p : Prog) (r : Tried) (x : Transition) (ys : List Transition) : Type 0 where
   pub reported : Reported (q .n) (q .d) trace trace′ (r .outcome) (branchesAt s moves t q (x ∷ []))
   pub listed : Ahead s (visited q p) (r .cursor) ys
 
-abbrev pub Steps : (s moves trace trace′ : List ℕ) (t : Task) (q : Visit) (p : Prog) (r : Tried) → List Step → Type 0
-Steps s moves trace trace′ t q p r [] = Unit {0}
-Steps s moves trace trace′ t q p r (x ∷ ys) = Stepped s moves trace trace′ t q p r x ys
+abbrev pub TriesFirst : (s moves trace trace′ : List ℕ) (t : Task) (q : Visit) (p : Prog) (r : Tried) → List Transition → Type 0
+TriesFirst s moves trace trace′ t q p r [] = Unit {0}
+TriesFirst s moves trace trace′ t q p r (x ∷ ys) = TriedFirst s moves trace trace′ t q p r x ys
 
 pub record Tries (s w w′ moves trace trace′ : List ℕ) (t : Task) (q : Visit) (flags : List Bool) (numbers : List ℕ) (flags′ : List Bool) (numbers′ : List ℕ) (r : Tried) : Type 0 where
-  pub steps : (g : Going s w moves (length trace) t q flags numbers) → Steps s moves trace trace′ t q (g .program) r (g .ahead)
+  pub steps : (g : Going s w moves (length trace) t q flags numbers) → TriesFirst s moves trace trace′ t q (g .program) r (g .ahead)
   pub falls : aheadOf (r .cursor) < aheadOf (q .cursor)
   pub intact : r .expanded ≡ false → Surveyed s (q .state) flags′ numbers′
 
@@ -112,7 +112,7 @@ abbrev pub withCursor : Visit → (cut : Bool) → Cursor → Visit
 withCursor q cut k = record { at = q .at; left = q .left; j = q .j; n = q .n; d = q .d; cut = cut; state = q .state; cursor = k }
 
 -- the visit v that the transition x of the visit q leads to
-pub record Follows (moves : List ℕ) (frame : ℕ) (q : Visit) (x : Transition) (v : Visit) : Type 0 where
+pub record Follows (moves : List ℕ) (frame : ℕ) (q : Visit) (x : Taken) (v : Visit) : Type 0 where
   pub at-is : v .at ≡ q .at + frame
   pub left-is : v .left ≡ q .left - 1
   pub made : v .j ≤ length moves

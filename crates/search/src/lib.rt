@@ -9,9 +9,9 @@ ghost use Rattle.sheet.specs.Layout.{layoutOf};
 ghost use Rattle.sheet.specs.Check.{Accepts};
 ghost use Rattle.height.specs.Work.{workWords};
 ghost use Rattle.golog.specs.Prog.{Prog};
-ghost use Rattle.golog.specs.Steps.{isNone};
+ghost use Rattle.golog.specs.Transitions.{isNone};
 ghost use Rattle.demands.specs.Decoded.{firstOf, boundOf};
-ghost use Rattle.demands.specs.Held.{levelsOf};
+ghost use Rattle.demands.specs.Compact.{levelsOf};
 ghost use Rattle.runs.specs.Guide.{isNil};
 ghost use Rattle.steps.specs.Laid.{codeOf};
 ghost use Rattle.engine.specs.Tables.{Prepared, Surveyed};
@@ -19,10 +19,10 @@ ghost use Rattle.engine.specs.Frames.{Of, Frame};
 ghost use Rattle.engine.specs.Going.{Known};
 ghost use Rattle.search.specs.Outcome.{Reported, isFound, isMore, told};
 ghost use Rattle.search.specs.Moves.{passes, leftOver, entries, noted};
-ghost use Rattle.search.specs.Searching.{outcomeOf, Ready, verdictAt, Looked, Going, Leaves, Expanded, Tries, Follows, withCursor, lastOf};
+ghost use Rattle.search.specs.Searching.{verdictFrom, Ready, verdictAt, LookedAt, Going, Preserves, Expanded, Tries, Follows, withCursor, lastOf};
 use engine::Cursor;
 use engine::Machine;
-use engine::Transition;
+use engine::Taken;
 use golog::State;
 use sheet::Layout;
 
@@ -213,7 +213,7 @@ fn look(
     q: Visit,
 ) -> Seen
     requires { ⌜ Prepared (now s) (now flags) (now numbers) × ((p : Prog) × Ready (now s) (now work) (now moves) trace t q p) ⌝ }
-    ensures { λ r. ⌜ Looked (now (s .entry)) (now (work .entry)) (now (moves .entry)) trace t q (now (flags .exit)) (now (numbers .exit)) r ⌝ }
+    ensures { λ r. ⌜ LookedAt (now (s .entry)) (now (work .entry)) (now (moves .entry)) trace t q (now (flags .exit)) (now (numbers .exit)) r ⌝ }
 {
     let m = t.machine;
     let state = q.state;
@@ -260,7 +260,7 @@ fn at_cursor(q: Visit, cut: bool, cursor: Cursor) -> Visit
 }
 
 // The visit that a transition leads to.
-fn follow(moves: &[u16], m: Machine, q: Visit, x: Transition) -> Visit
+fn follow(moves: &[u16], m: Machine, q: Visit, x: Taken) -> Visit
     requires { ⌜ (1 ≤ q .left) × (q .j ≤ length (now moves)) × (q .n ≤ 64) × (q .d ≤ 64) × (q .at + m .frame ≤ 4294967295) ⌝ }
     ensures { λ r. ⌜ Follows (now (moves .entry)) (m .frame) q x r ⌝ }
 {
@@ -314,7 +314,7 @@ fn try_next(
     requires { ⌜ Prepared (now s) (now spareflags) (now sparenumbers) ⌝ }
     ensures { λ r. ⌜ Tries (now (s .entry)) (now (work .entry)) (now (work .exit)) (now (moves .entry)) (now (trace .entry)) (now (trace .exit)) t q (now (flags .entry))
         (now (numbers .entry)) (now (flags .exit)) (now (numbers .exit)) r ⌝ }
-    ensures { λ _. ⌜ Leaves (now (s .entry)) (now (work .entry)) (now (work .exit)) q (now (flags .exit)) (now (numbers .exit)) (now (spareflags .exit)) (now (sparenumbers .exit)) ⌝ }
+    ensures { λ _. ⌜ Preserves (now (s .entry)) (now (work .entry)) (now (work .exit)) q (now (flags .exit)) (now (numbers .exit)) (now (spareflags .exit)) (now (sparenumbers .exit)) ⌝ }
 {
     let m = t.machine;
     let x = engine::next(work, flags, numbers, s, m, q.state, q.at, q.cursor);
@@ -374,7 +374,7 @@ fn expand(
     requires { ⌜ Going (now s) (now work) (now moves) (length (now trace)) t q (now flags) (now numbers) ⌝ }
     requires { ⌜ Prepared (now s) (now spareflags) (now sparenumbers) ⌝ }
     ensures { λ r. ⌜ Expanded (now (s .entry)) (now (work .entry)) (now (moves .entry)) (now (trace .entry)) (now (trace .exit)) t q (now (flags .entry)) (now (numbers .entry)) r ⌝ }
-    ensures { λ _. ⌜ Leaves (now (s .entry)) (now (work .entry)) (now (work .exit)) q (now (flags .exit)) (now (numbers .exit)) (now (spareflags .exit)) (now (sparenumbers .exit)) ⌝ }
+    ensures { λ _. ⌜ Preserves (now (s .entry)) (now (work .entry)) (now (work .exit)) q (now (flags .exit)) (now (numbers .exit)) (now (spareflags .exit)) (now (sparenumbers .exit)) ⌝ }
 {
     let m = t.machine;
     let mut cut = q.cut;
@@ -456,7 +456,7 @@ pub fn run(
 ) -> Outcome
     requires { ⌜ Accepts (now s) × (l ≡ layoutOf (now s)) ⌝ }
     requires { ⌜ (length (now work) ≡ workWords (levelsOf (now s)) (boundOf (now s))) × (boundOf (now s) ≤ length (now trace)) ⌝ }
-    ensures { λ r. ⌜ Reported 0 0 (now (trace .entry)) (now (trace .exit)) r (outcomeOf (now (s .entry)) free (boundOf (now (s .entry))) (firstOf (now (s .entry)), now (moves .entry))) ⌝ }
+    ensures { λ r. ⌜ Reported 0 0 (now (trace .entry)) (now (trace .exit)) r (verdictFrom (now (s .entry)) free (boundOf (now (s .entry))) (firstOf (now (s .entry)), now (moves .entry))) ⌝ }
     ensures { λ _. ⌜ now (work .exit) ≡ replicate (length (now (work .entry))) 0 ⌝ }
 {
     let machine = engine::machine_of(s, l);

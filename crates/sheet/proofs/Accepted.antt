@@ -14,8 +14,8 @@ use Rattle.records.proofs.Lowest.{lower-true}
 use Rattle.rules.specs.Tables.{fluentsOk, formulasOk, effectsOk, actionsOk, programsOk}
 use Rattle.height.specs.Height.{heightOf}
 use Rattle.height.specs.Work.{levels, workWords}
-use Rattle.sheet.specs.Trailer.{trailerOf, limitsOk, Within, recordBytes, distanceOk}
-use Rattle.sheet.specs.Layout.{layoutIn, layoutOf, Fits, fluentsIn, formulasIn, effectsIn, actionsIn, programsIn}
+use Rattle.sheet.specs.Trailer.{trailerOf, limitsOk, WithinLimits, recordBytes, distanceOk}
+use Rattle.sheet.specs.Layout.{layoutIn, layoutOf, LaidOut, fluentsIn, formulasIn, effectsIn, actionsIn, programsIn}
 use Rattle.sheet.specs.Check.{refusedAt, heightChecked, programsChecked, actionsChecked, effectsChecked, formulasChecked, fluentsChecked, trailerChecked, checkOf, Accepts}
 use Rattle.sheet.proofs.Laws.{within, limits-exactly, placed, placed-exactly, fits, in-place}
 use Rattle.sheet.specs.declared.Layout.{Layout}
@@ -39,7 +39,7 @@ kept number ok n next e =
 pub record Trailed (s : List ℕ) : Type 0 where
   pub long : 18 ≤ length s
   pub magic : trailerOf s .magic ≡ 0x5142
-  pub within : Within (trailerOf s)
+  pub within : WithinLimits (trailerOf s)
   pub sum : trailerOf s .distance ≡ recordBytes (trailerOf s)
   pub room : trailerOf s .distance ≤ length s - 18
 
@@ -111,9 +111,9 @@ module _ (s : List ℕ) (accepted : Accepts s) where
   ruled = both s (accepted .0) (accepted .1) .1
 
   -- the tables lie in the sheet
-  pub laid : Fits (layoutOf s) (length s)
+  pub laid : LaidOut (layoutOf s) (length s)
   unfolding layoutOf
   laid =
       let t = trailed in
       let e : length s - 18 + 18 ≡ length s = let l = t .long in omega arith in
-      subst (Fits (layoutIn (trailerOf s) (length s - 18))) e (fits (trailerOf s) (length s - 18) (t .within) (t .sum) (t .room))
+      subst (LaidOut (layoutIn (trailerOf s) (length s - 18))) e (fits (trailerOf s) (length s - 18) (t .within) (t .sum) (t .room))

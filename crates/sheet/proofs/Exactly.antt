@@ -23,7 +23,7 @@ use Rattle.height.specs.Height.{heightOf}
 use Rattle.height.specs.Work.{levels, workWords}
 use Rattle.height.proofs.Levels.{levels-exactly}
 use Rattle.height.proofs.Paths.{Lower, above-exactly}
-use Rattle.sheet.specs.Trailer.{trailerOf, Within, recordBytes, distanceOk}
+use Rattle.sheet.specs.Trailer.{trailerOf, WithinLimits, recordBytes, distanceOk}
 use Rattle.sheet.specs.Layout.{layoutOf, layoutIn, programsIn}
 use Rattle.sheet.specs.Check.{refusedAt, heightChecked, programsChecked, actionsChecked, effectsChecked, formulasChecked, fluentsChecked, trailerChecked, checkOf, Accepts}
 use Rattle.sheet.specs.Causes.{Cause, First, Figure}
@@ -66,7 +66,7 @@ module _ (s : List ℕ) where
   abbrev programs : ℕ → Program
   programs = programAt (programsIn s (layoutOf s))
 
-  has-root : Within (trailerOf s) → 1 ≤ layoutOf s .p
+  has-root : WithinLimits (trailerOf s) → 1 ≤ layoutOf s .p
   unfolding layoutOf layoutIn
   has-root w = w .some-record
 

@@ -12,8 +12,8 @@ use Rattle.records.proofs.Truth.{and-left, and-right}
 use Rattle.records.specs.declared.Program.{Program}
 use Rattle.height.specs.Height.{heightOf}
 use Rattle.height.specs.Work.{levels, workWords}
-use Rattle.sheet.specs.Trailer.{trailerOf, limitsOk, Within, recordBytes, distanceOk}
-use Rattle.sheet.specs.Layout.{layoutIn, Fits}
+use Rattle.sheet.specs.Trailer.{trailerOf, limitsOk, WithinLimits, recordBytes, distanceOk}
+use Rattle.sheet.specs.Layout.{layoutIn, LaidOut}
 use Rattle.sheet.specs.Check.{refusedAt, heightChecked, fluentsChecked, trailerChecked, checkOf}
 use Rattle.sheet.specs.declared.Trailer.{Trailer}
 use Rattle.sheet.specs.declared.Checked.{Checked}
@@ -39,7 +39,7 @@ module _ (p : ℕ → Program) (n d h : ℕ) (e : h ≡ heightOf p n) where
   unfolding heightChecked
   low-enough l v = rw (← e) (simp (le-ltb 16 h l) (ap Accepted v))
 
-pub within : (t : Trailer) → limitsOk t ≡ true → Within t
+pub within : (t : Trailer) → limitsOk t ≡ true → WithinLimits t
 unfolding limitsOk
 within t h =
     let l₁ : Bool = leb 1 (t .f) in
@@ -66,7 +66,7 @@ within t h =
       d = leb-true _ _ (and-right l₇ (leb (t .d) 64) h);
     }
 
-pub limits-exactly : (t : Trailer) → (limitsOk t ≡ true) ↔ Within t
+pub limits-exactly : (t : Trailer) → (limitsOk t ≡ true) ↔ WithinLimits t
 unfolding limitsOk
 limits-exactly t = (
   within t,
@@ -95,7 +95,7 @@ unfolding distanceOk
 placed-exactly t room = (placed t room, λ (e, l). simp (eq-eqb _ _ e, le-leb _ _ l))
 
 -- where the distance is the sum and there is room for it, the tables fit
-pub fits : (t : Trailer) (room : ℕ) → Within t → t .distance ≡ recordBytes t → t .distance ≤ room → Fits (layoutIn t room) (room + 18)
+pub fits : (t : Trailer) (room : ℕ) → WithinLimits t → t .distance ≡ recordBytes t → t .distance ≤ room → LaidOut (layoutIn t room) (room + 18)
 unfolding layoutIn
 fits t room w e l =
     record {

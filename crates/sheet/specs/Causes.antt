@@ -10,7 +10,7 @@ use Rattle.records.specs.Records.{programAt}
 use Rattle.rules.specs.Kept.{FluentKept, FormulaKept, EffectKept, ActionKept, ProgramKept}
 use Rattle.height.specs.Down.{HeightAbove}
 use Rattle.height.specs.Work.{IsLevels, workWords}
-use Rattle.sheet.specs.Trailer.{trailerOf, Within, recordBytes}
+use Rattle.sheet.specs.Trailer.{trailerOf, WithinLimits, recordBytes}
 use Rattle.sheet.specs.Layout.{layoutOf, fluentsIn, formulasIn, effectsIn, actionsIn, programsIn}
 
 -- "A number comes with a place: the lowest faulty record for 4 to 8, else 0"
@@ -21,7 +21,7 @@ Cause s number place =
     -- "1: under 18 bytes, or last two bytes wrong"
     ((number ≡ 1) × (place ≡ 0) × ((length s < 18) ⊎ (¬ (t .magic ≡ 0x5142))))
     -- "2: a count, or D, outside its limits"
-    ⊎ ((number ≡ 2) × (place ≡ 0) × (¬ Within t))
+    ⊎ ((number ≡ 2) × (place ≡ 0) × (¬ WithinLimits t))
     -- "3: distance not the sum, or more than the bytes before the trailer"
     ⊎ ((number ≡ 3) × (place ≡ 0) × ((¬ (t .distance ≡ recordBytes t)) ⊎ (length s - 18 < t .distance)))
     -- "4, 5, 6, 7, 8: a fluent, formula, effect, action, program record breaks its rule or has an unknown kind"

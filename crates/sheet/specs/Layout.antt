@@ -52,7 +52,7 @@ abbrev pub programsIn : List ℕ → Layout → List ℕ
 programsIn s l = part s (l .programs) (l .end)
 
 -- the counts are within their limits, and the tables lie in a slice of n bytes, each behind the one before
-pub record Fits (l : Layout) (n : ℕ) : Type 0 where
+pub record LaidOut (l : Layout) (n : ℕ) : Type 0 where
   pub some-fluent : 1 ≤ l .f
   pub f : l .f ≤ 32
   pub q : l .q ≤ 512

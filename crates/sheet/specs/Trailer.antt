@@ -38,7 +38,7 @@ limitsOk t =
     && leb (t .d) 64
 
 -- the same as facts
-pub record Within (t : Trailer) : Type 0 where
+pub record WithinLimits (t : Trailer) : Type 0 where
   pub some-fluent : 1 ≤ t .f
   pub f : t .f ≤ 32
   pub q : t .q ≤ 512

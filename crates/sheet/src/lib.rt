@@ -4,8 +4,8 @@ ghost use Prim.Native.Nat.{_+_, _*_, _≤_};
 ghost use lib.ListN.{length};
 ghost use denote.Ref.{ptr};
 ghost use Rattle.records.specs.Records.{programAt};
-ghost use Rattle.sheet.specs.Trailer.{trailerOf, limitsOk, Within, recordBytes, distanceOk};
-ghost use Rattle.sheet.specs.Layout.{layoutIn, layoutOf, Fits};
+ghost use Rattle.sheet.specs.Trailer.{trailerOf, limitsOk, WithinLimits, recordBytes, distanceOk};
+ghost use Rattle.sheet.specs.Layout.{layoutIn, layoutOf, LaidOut};
 ghost use Rattle.sheet.specs.Check.{heightChecked, programsChecked, actionsChecked, effectsChecked, formulasChecked, fluentsChecked, checkOf, Accepts, numberOf, placeOf};
 ghost use Rattle.sheet.specs.Notes.{notesOf};
 
@@ -85,17 +85,17 @@ fn limits_ok(t: Trailer) -> bool
 
 // `room` is the number of bytes before the trailer.
 fn distance_ok(t: Trailer, room: usize) -> bool
-    requires { ⌜ Within t ⌝ }
+    requires { ⌜ WithinLimits t ⌝ }
     ensures { λ r. ⌜ r ≡ distanceOk t room ⌝ }
 {
     (t.distance == 2 * t.f + 6 * t.q + 4 * t.e + 6 * t.a + 8 * t.p) & (t.distance <= room)
 }
 
 fn lay_out(t: Trailer, room: usize) -> Layout
-    requires { ⌜ Within t ⌝ }
+    requires { ⌜ WithinLimits t ⌝ }
     requires { ⌜ (t .distance ≡ recordBytes t) × (t .distance ≤ room) ⌝ }
     ensures { λ r. ⌜ r ≡ layoutIn t room ⌝ }
-    ensures { λ r. ⌜ Fits r (room + 18) ⌝ }
+    ensures { λ r. ⌜ LaidOut r (room + 18) ⌝ }
 {
     let fluents = room - t.distance;
     let formulas = fluents + 2 * t.f;
@@ -139,7 +139,7 @@ fn check_height(t: &[u8], n: usize, d: usize) -> Checked
 
 // The program table, then the height.
 fn check_programs(s: &[u8], l: Layout) -> Checked
-    requires { ⌜ Fits l (length (now s)) ⌝ }
+    requires { ⌜ LaidOut l (length (now s)) ⌝ }
     ensures { λ r. ⌜ r ≡ programsChecked (now (s .entry)) l ⌝ }
 {
     let n = l.p;
@@ -158,7 +158,7 @@ fn check_programs(s: &[u8], l: Layout) -> Checked
 
 // The action table, then those after it.
 fn check_actions(s: &[u8], l: Layout) -> Checked
-    requires { ⌜ Fits l (length (now s)) ⌝ }
+    requires { ⌜ LaidOut l (length (now s)) ⌝ }
     ensures { λ r. ⌜ r ≡ actionsChecked (now (s .entry)) l ⌝ }
 {
     let n = l.a;
@@ -176,7 +176,7 @@ fn check_actions(s: &[u8], l: Layout) -> Checked
 
 // The effect table, then those after it.
 fn check_effects(s: &[u8], l: Layout) -> Checked
-    requires { ⌜ Fits l (length (now s)) ⌝ }
+    requires { ⌜ LaidOut l (length (now s)) ⌝ }
     ensures { λ r. ⌜ r ≡ effectsChecked (now (s .entry)) l ⌝ }
 {
     let n = l.e;
@@ -196,7 +196,7 @@ fn check_effects(s: &[u8], l: Layout) -> Checked
 
 // The formula table, then those after it.
 fn check_formulas(s: &[u8], l: Layout) -> Checked
-    requires { ⌜ Fits l (length (now s)) ⌝ }
+    requires { ⌜ LaidOut l (length (now s)) ⌝ }
     ensures { λ r. ⌜ r ≡ formulasChecked (now (s .entry)) l ⌝ }
 {
     let n = l.q;
@@ -215,7 +215,7 @@ fn check_formulas(s: &[u8], l: Layout) -> Checked
 
 // The fluent table, then those after it.
 fn check_fluents(s: &[u8], l: Layout) -> Checked
-    requires { ⌜ Fits l (length (now s)) ⌝ }
+    requires { ⌜ LaidOut l (length (now s)) ⌝ }
     ensures { λ r. ⌜ r ≡ fluentsChecked (now (s .entry)) l ⌝ }
 {
     let n = l.f;
@@ -268,7 +268,7 @@ pub fn check(s: &[u8]) -> Checked
 pub fn layout_of(s: &[u8]) -> Layout
     requires { ⌜ Accepts (now s) ⌝ }
     ensures { λ r. ⌜ r ≡ layoutOf (now (s .entry)) ⌝ }
-    ensures { λ r. ⌜ Fits r (length (now (s .entry))) ⌝ }
+    ensures { λ r. ⌜ LaidOut r (length (now (s .entry))) ⌝ }
 {
     lay_out(read_trailer(s), s.len() - 18)
 }

@@ -14,9 +14,9 @@ use Rattle.golog.specs.declared.State.{State}
 use Rattle.golog.specs.World.{truthOf}
 use Rattle.golog.specs.Decoded.{world}
 use Rattle.golog.proofs.Truths.{holds-at}
-use Rattle.state.specs.Truths.{truthIn, truthsOf, Held}
+use Rattle.state.specs.Truths.{truthIn, truthsOf, AreTruths}
 
-pub truths-held : (formulas effects actions : List ℕ) (s : State) (n : ℕ) (old : List Bool) → Held (world formulas effects actions) s n (truthsOf formulas (s .values) n old)
+pub truths-held : (formulas effects actions : List ℕ) (s : State) (n : ℕ) (old : List Bool) → AreTruths (world formulas effects actions) s n (truthsOf formulas (s .values) n old)
 unfolding truthsOf
 truths-held formulas effects actions s n old q h =
     List·getD-append (upTo (truthIn formulas (s .values)) n) (drop n old) false q (rw length-up h) ∙ holds-at (world formulas effects actions) s n q h

@@ -18,8 +18,8 @@ use Rattle.golog.specs.declared.State.{State}
 use Rattle.golog.specs.World.{start, each, given, changed, perform}
 use Rattle.golog.specs.Decoded.{world}
 use Rattle.golog.proofs.Moves.{each-at}
-use Rattle.state.specs.Truths.{Held}
-use Rattle.state.specs.Performed.{changesBy, givenBy, changedBy, performBy, Names, Judged}
+use Rattle.state.specs.Truths.{AreTruths}
+use Rattle.state.specs.Performed.{changesBy, givenBy, changedBy, performBy, Names, ConditionsBelow}
 use Rattle.records.proofs.Laid.{Laid}
 
 module _ (effects : List ℕ) (held : List Bool) (x old : ℕ) where
@@ -110,14 +110,14 @@ module _ (effects : List ℕ) (held : List Bool) (n : ℕ) where
       pick j (no q) b = L .above j (omega arith) ∙ sym (given-stays (0 + j) (getD values j 0) count first h (omega arith))
 
 -- where `held` has what the first n formulas say in s
-module _ (formulas effects actions : List ℕ) (s : State) (n : ℕ) (held : List Bool) (H : Held (world formulas effects actions) s n held) where
-  given-is : (x old k i : ℕ) → Judged effects n i k → givenBy effects held x old i k ≡ given (world formulas effects actions) s x old i k
+module _ (formulas effects actions : List ℕ) (s : State) (n : ℕ) (held : List Bool) (H : AreTruths (world formulas effects actions) s n held) where
+  given-is : (x old k i : ℕ) → ConditionsBelow effects n i k → givenBy effects held x old i k ≡ given (world formulas effects actions) s x old i k
   unfolding givenBy given
   given-is x old zero i h = refl
   given-is x old (suc k) i h = rw (H (effectAt effects i .condition) (h i (omega arith) (omega arith)), given-is x old k (suc i) (λ j a b. h j (omega arith) (omega arith)))
 
   -- performing is golog's, for an action whose effects' conditions are among them
-  pub perform-is : (a : ℕ) → (a < start → Judged effects n (actionAt actions a .first) (actionAt actions a .count)) → performBy effects actions held a s ≡ perform (world formulas effects actions) a s
+  pub perform-is : (a : ℕ) → (a < start → ConditionsBelow effects n (actionAt actions a .first) (actionAt actions a .count)) → performBy effects actions held a s ≡ perform (world formulas effects actions) a s
   unfolding performBy perform changedBy changed
   perform-is a h = go (decLt a start)
     where

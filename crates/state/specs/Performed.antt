@@ -35,8 +35,8 @@ abbrev pub Names : (effects : List ℕ) (n first count : ℕ) → Type 0
 Names effects n first count = (i : ℕ) → first ≤ i → i < first + count → effectAt effects i .fluent < n
 
 -- each has its condition among the first n formulas
-abbrev pub Judged : (effects : List ℕ) (n first count : ℕ) → Type 0
-Judged effects n first count = (i : ℕ) → first ≤ i → i < first + count → effectAt effects i .condition < n
+abbrev pub ConditionsBelow : (effects : List ℕ) (n first count : ℕ) → Type 0
+ConditionsBelow effects n first count = (i : ℕ) → first ≤ i → i < first + count → effectAt effects i .condition < n
 
 -- action a is start, stop or one of the table; its range lies in the table of effects and names fluents below n
 pub record Performable (effects actions : List ℕ) (n a : ℕ) : Type 0 where

@@ -18,5 +18,5 @@ unfoldable pub truthsOf : (t values : List ℕ) → ℕ → (old : List Bool) �
 truthsOf t values n old = upTo (truthIn t values) n ++ drop n old
 
 -- `held` has what each of the first n formulas says in s
-abbrev pub Held : World → State → ℕ → List Bool → Type 0
-Held W s n held = (q : ℕ) → q < n → getD held q false ≡ holds W q s
+abbrev pub AreTruths : World → State → ℕ → List Bool → Type 0
+AreTruths W s n held = (q : ℕ) → q < n → getD held q false ≡ holds W q s

@@ -3,8 +3,8 @@ use mathlib.Core.Path.{_≡_, refl, _∙_}
 use mathlib.Core.Bool.{Bool, false}
 use Prim.Native.Nat.{ℕ, _≤_, _<_}
 use native.Mathlib.Omega.{arith}
-use Rattle.held.specs.Kinds.{ownOf, usesA, usesB, tagA, tagB}
-use Rattle.held.proofs.Columns.{by-kind}
+use Rattle.remaining.specs.Kinds.{ownOf, usesA, usesB, tagA, tagB}
+use Rattle.remaining.proofs.Columns.{by-kind}
 
 -- a tag is 0 or that of a construct
 pub construct-a : (kind : ℕ) {tag : ℕ} → tag ≡ tagA kind → (tag ≡ 0 → ⊥) → 3 ≤ tag

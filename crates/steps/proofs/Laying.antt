@@ -14,33 +14,33 @@ use Rattle.height.specs.Height.{hasTwo, rise}
 use Rattle.golog.specs.declared.State.{State}
 use Rattle.golog.specs.World.{World, holds, possible}
 use Rattle.runs.specs.Guide.{only}
-use Rattle.golog.specs.Steps.{isNone}
-use Rattle.held.specs.Rest.{Rest, gone, leaf, nodes, largest, high, AllLower}
-use Rattle.held.specs.Kinds.{ownOf, usesA, usesB, tagA, tagB}
-use Rattle.held.specs.Leaves.{Move, onRest, Leaf, leafWith, leafOf, ownMove, siblingA, wrapA, wrapB, restSteps}
-use Rattle.held.proofs.Entries.{hasA, leaf-step, lower-a, lower-b, rise-a, rise-b}
-use Rattle.held.proofs.Nodes.{step-nodes}
+use Rattle.golog.specs.Transitions.{isNone}
+use Rattle.remaining.specs.Rest.{Rest, gone, leaf, nodes, largest, high, AllLower}
+use Rattle.remaining.specs.Kinds.{ownOf, usesA, usesB, tagA, tagB}
+use Rattle.remaining.specs.Leaves.{RestTransition, onRest, Leaf, leafWith, leafOf, ownMove, siblingA, wrapA, wrapB, restTransitions}
+use Rattle.remaining.proofs.Entries.{hasA, leaf-step, lower-a, lower-b, rise-a, rise-b}
+use Rattle.remaining.proofs.Nodes.{step-nodes}
 use Rattle.words.specs.Words.{Put, Room}
 use Rattle.words.proofs.Written.{kept-less, kept-trans, kept-put}
 use Rattle.words.proofs.Moved.{put-gone}
-use Rattle.leaves.specs.Tallies.{places, countsOf, firstBy}
+use Rattle.leaves.specs.Tallies.{extendedSize, countsOf, firstBy}
 use Rattle.leaves.proofs.Entries.{counts-exact, first-exact}
-use Rattle.steps.specs.Laid.{codeOf, View, Counted, CanLay, Built, Lays, past, Wrapped}
+use Rattle.steps.specs.Laid.{codeOf, Sources, Counted, CanLay, Built, Lays, past, Wrapped}
 use Rattle.steps.proofs.Nth.{nth-member, Both, from-first, from-second, second-goes}
-use Rattle.held.proofs.Every.{uses-a, uses-b}
+use Rattle.remaining.proofs.Every.{uses-a, uses-b}
 use Rattle.steps.proofs.Columns.{no-own, no-first, no-second}
 
 -- what was built of a transition is small: at most two nodes more for each level
-pub built-few : (W : World) (s : State) (p : ℕ → Program) → AllLower p → (g : Rest) (k to e n : ℕ) (w : List ℕ) → Built (restSteps W s p g) k to e n w → n ≤ nodes g + 2 * high p g
-built-few W s p low g k to e n w B = omega (arith, B .size-is, step-nodes W s p low g (B .move, B .rest) (nth-member (restSteps W s p g) k (B .nth)))
+pub built-few : (W : World) (s : State) (p : ℕ → Program) → AllLower p → (g : Rest) (k to e n : ℕ) (w : List ℕ) → Built (restTransitions W s p g) k to e n w → n ≤ nodes g + 2 * high p g
+built-few W s p low g k to e n w B = omega (arith, B .size-is, step-nodes W s p low g (B .move, B .rest) (nth-member (restTransitions W s p g) k (B .nth)))
 
-leaf-few : (W : World) (s : State) (p : ℕ → Program) → AllLower p → (i k to e n : ℕ) (w : List ℕ) → Built (leafOf W s p i .steps) k to e n w → n ≤ 1 + 2 * rise p i
-unfolding restSteps nodes largest
+leaf-few : (W : World) (s : State) (p : ℕ → Program) → AllLower p → (i k to e n : ℕ) (w : List ℕ) → Built (leafOf W s p i .transitions) k to e n w → n ≤ 1 + 2 * rise p i
+unfolding restTransitions nodes largest
 leaf-few W s p low i = built-few W s p low (leaf i)
 
 -- what was built, put into a construct
-pub wrap-built : (f : Rest → Rest) (xs ys : List Move) (k j at to e n n′ : ℕ) (w w′ : List ℕ) → Built xs j at e n w → Wrapped f at to n n′ w w′
-    → ((x : Move) → getElem? xs j ≡ some x → getElem? ys k ≡ some (onRest f x)) → Built ys k to e n′ w′
+pub wrap-built : (f : Rest → Rest) (xs ys : List RestTransition) (k j at to e n n′ : ℕ) (w w′ : List ℕ) → Built xs j at e n w → Wrapped f at to n n′ w w′
+    → ((x : RestTransition) → getElem? xs j ≡ some x → getElem? ys k ≡ some (onRest f x)) → Built ys k to e n′ w′
 wrap-built f xs ys k j at to e n n′ w w′ B X h =
     let Y = X .wrapped (B .rest) (B .at) (sym (B .size-is)) in
     record { move = B .move; rest = f (B .rest); nth = h (B .move, B .rest) (B .nth); at = Y .0; entry-is = B .entry-is; size-is = Y .1 }
@@ -49,12 +49,12 @@ cond-less : (b : Bool) (k x : ℕ) → k < cond b x 0 → T b × (k < x)
 cond-less true k x h = (tt, h)
 cond-less false k x h = absurd (omega arith)
 
-module _ {W : World} {s : State} {v : View} (C : Counted W s v) where
+module _ {W : World} {s : State} {v : Sources} (C : Counted W s v) where
   abbrev p : ℕ → Program
   p = v .records
 
   -- a record's count is exact
-  pub count-is : (i : ℕ) → i < v .many → rise (v .records) i ≤ 18 → getD (v .counts) i 0 ≡ length (leafOf W s (v .records) i .steps)
+  pub count-is : (i : ℕ) → i < v .many → rise (v .records) i ≤ 18 → getD (v .counts) i 0 ≡ length (leafOf W s (v .records) i .transitions)
   count-is i h l = ap (λ (c : List ℕ). getD c i 0) (C .counts-are) ∙ counts-exact W s p (C .lower) (v .many) i h l
 
   module _ (i : ℕ) (inside : i < v .many) (low : rise (v .records) i ≤ 18) (r : Program) (er : r ≡ v .records i) where
@@ -68,32 +68,32 @@ module _ {W : World} {s : State} {v : View} (C : Counted W s v) where
     ua = usesA (r .kind) (holds W (r .c) s) (s .running)
 
     ub : Bool
-    ub = usesB (r .kind) (A .final) (holds W (r .c) s) (isNone (A .steps))
+    ub = usesB (r .kind) (A .final) (holds W (r .c) s) (isNone (A .transitions))
 
-    own : List Move
+    own : List RestTransition
     own = only (ownOf (r .kind) (possible W (r .a) s) (holds W (r .a) s)) ((ownMove r, gone) ∷ [])
 
-    parts : List Move
-    parts = Both (wrapA (tagA (r .kind)) (siblingA r i)) (wrapB (tagB (r .kind)) (r .a)) (A .steps) (B .steps) ua ub
+    parts : List RestTransition
+    parts = Both (wrapA (tagA (r .kind)) (siblingA r i)) (wrapB (tagB (r .kind)) (r .a)) (A .transitions) (B .transitions) ua ub
 
-    steps-are : leafOf W s p i .steps ≡ own ++ parts
+    steps-are : leafOf W s p i .transitions ≡ own ++ parts
     unfolding leafWith A B ua ub own parts
-    steps-are = ap (λ (x : Leaf). x .steps) (subst (λ (r : Program). leafOf W s p i ≡ leafWith W s r i (leafOf W s p (r .a)) (leafOf W s p (r .b))) (sym er) (leaf-step W s p (C .lower) i))
+    steps-are = ap (λ (x : Leaf). x .transitions) (subst (λ (r : Program). leafOf W s p i ≡ leafWith W s r i (leafOf W s p (r .a)) (leafOf W s p (r .b))) (sym er) (leaf-step W s p (C .lower) i))
 
     -- an act or a test: its own
-    pub own-step : (k : ℕ) → k < length (leafOf W s (v .records) i .steps) → r .kind < 3 → getElem? (leafOf W s (v .records) i .steps) k ≡ some (ownMove r, gone)
+    pub own-step : (k : ℕ) → k < length (leafOf W s (v .records) i .transitions) → r .kind < 3 → getElem? (leafOf W s (v .records) i .transitions) k ≡ some (ownMove r, gone)
     unfolding own parts ua ub
     own-step k h l =
-        ap (λ (xs : List Move). getElem? xs k) alone
-        ∙ go (ownOf (r .kind) (possible W (r .a) s) (holds W (r .a) s)) k (subst (λ (xs : List Move). k < length xs) alone h)
+        ap (λ (xs : List RestTransition). getElem? xs k) alone
+        ∙ go (ownOf (r .kind) (possible W (r .a) s) (holds W (r .a) s)) k (subst (λ (xs : List RestTransition). k < length xs) alone h)
       where
-        alone : leafOf W s p i .steps ≡ own ++ []
+        alone : leafOf W s p i .transitions ≡ own ++ []
         alone =
             steps-are
-            ∙ ap₂ (λ (x y : Bool). own ++ Both (wrapA (tagA (r .kind)) (siblingA r i)) (wrapB (tagB (r .kind)) (r .a)) (A .steps) (B .steps) x y)
+            ∙ ap₂ (λ (x y : Bool). own ++ Both (wrapA (tagA (r .kind)) (siblingA r i)) (wrapB (tagB (r .kind)) (r .a)) (A .transitions) (B .transitions) x y)
             (no-first (r .kind) _ _ l) (no-second (r .kind) _ _ _ l)
 
-        go : (b : Bool) (k : ℕ) → k < length (only {A = Move} b ((ownMove r, gone) ∷ []) ++ []) → getElem? (only {A = Move} b ((ownMove r, gone) ∷ []) ++ []) k ≡ some (ownMove r, gone)
+        go : (b : Bool) (k : ℕ) → k < length (only {A = RestTransition} b ((ownMove r, gone) ∷ []) ++ []) → getElem? (only {A = RestTransition} b ((ownMove r, gone) ∷ []) ++ []) k ≡ some (ownMove r, gone)
         go true zero h = refl
         go true (suc k) h = absurd (omega arith)
         go false k h = absurd (omega arith)
@@ -112,22 +112,22 @@ module _ {W : World} {s : State} {v : View} (C : Counted W s v) where
         subst (λ (r : Program). T (hasTwo (r .kind)) → (r .b < i) × (rise p (r .b) < rise p i)) (sym er) (λ u. (lower-b p (C .lower) i u, rise-b p (C .lower) i u)) u
 
     module _ (three : 3 ≤ r .kind) (first : ℕ) (ef : first ≡ firstBy r (v .held) (v .running) (v .counts)) where
-      parts-are : leafOf W s p i .steps ≡ parts
+      parts-are : leafOf W s p i .transitions ≡ parts
       unfolding own
       parts-are = steps-are ∙ ap (λ (b : Bool). only b ((ownMove r, gone) ∷ []) ++ parts) (no-own (r .kind) _ _ three)
 
-      first-is : first ≡ cond ua (length (A .steps)) 0
+      first-is : first ≡ cond ua (length (A .transitions)) 0
       unfolding A ua
       first-is =
           ef
           ∙ ap (firstBy r (v .held) (v .running)) (C .counts-are)
           ∙ subst
-          (λ (r : Program). firstBy r (v .held) (v .running) (countsOf W s p (v .many)) ≡ cond (usesA (r .kind) (holds W (r .c) s) (s .running)) (length (leafOf W s p (r .a) .steps)) 0)
+          (λ (r : Program). firstBy r (v .held) (v .running) (countsOf W s p (v .many)) ≡ cond (usesA (r .kind) (holds W (r .c) s) (s .running)) (length (leafOf W s p (r .a) .transitions)) 0)
           (sym er) (first-exact W s p (C .lower) (v .many) i inside low (C .sees .each i inside) (C .sees .runs))
 
       -- part a's, where k is below how many of a's there are
       module _ (k : ℕ) (below : k < first) where
-        a-goes : T ua × (k < length (A .steps))
+        a-goes : T ua × (k < length (A .transitions))
         a-goes = cond-less ua k _ (subst (λ (n : ℕ). k < n) first-is below)
 
         pub a-falls : r .a < i
@@ -147,7 +147,7 @@ module _ {W : World} {s : State} {v : View} (C : Counted W s v) where
               room = record { inside = omega (arith, R .inside); small = R .small };
             }
 
-        pub a-room : {w w₁ : List ℕ} {to at e n : ℕ} → Room w to (1 + 2 * rise (v .records) i) → Lays (leafOf W s (v .records) (r .a) .steps) k at w w₁ e n → Room w₁ to (n + 2)
+        pub a-room : {w w₁ : List ℕ} {to at e n : ℕ} → Room w to (1 + 2 * rise (v .records) i) → Lays (leafOf W s (v .records) (r .a) .transitions) k at w w₁ e n → Room w₁ to (n + 2)
         a-room {w} {w₁} {to} {at} {e} {n} R L =
             record {
               inside = omega (arith, R .inside, L .kept .len, leaf-few W s p (C .lower) (r .a) k at e n w₁ (L .built), a-lower (a-goes .0) .1);
@@ -155,25 +155,25 @@ module _ {W : World} {s : State} {v : View} (C : Counted W s v) where
                   omega (arith, R .small, L .kept .len);
             }
 
-        pub a-lays : {w w₁ w′ : List ℕ} {to x tag e n n′ : ℕ} → tag ≡ tagA (r .kind) → x ≡ past (eqb tag 0) 3 → Lays (leafOf W s (v .records) (r .a) .steps) k (to + x) w w₁ e n
-            → Wrapped (wrapA (tagA (r .kind)) (siblingA r i)) (to + past (eqb (tagA (r .kind)) 0) 3) to n n′ w₁ w′ → Lays (leafOf W s (v .records) i .steps) k to w w′ e n′
+        pub a-lays : {w w₁ w′ : List ℕ} {to x tag e n n′ : ℕ} → tag ≡ tagA (r .kind) → x ≡ past (eqb tag 0) 3 → Lays (leafOf W s (v .records) (r .a) .transitions) k (to + x) w w₁ e n
+            → Wrapped (wrapA (tagA (r .kind)) (siblingA r i)) (to + past (eqb (tagA (r .kind)) 0) 3) to n n′ w₁ w′ → Lays (leafOf W s (v .records) i .transitions) k to w w′ e n′
         unfolding parts A
         a-lays {w} {w₁} {w′} {to} {x} {tag} {e} {n} {n′} et ex M X =
-            let L = subst (λ (y : ℕ). Lays (leafOf W s p (r .a) .steps) k (to + y) w w₁ e n) (ex ∙ ap (λ (y : ℕ). past (eqb y 0) 3) et) M in
+            let L = subst (λ (y : ℕ). Lays (leafOf W s p (r .a) .transitions) k (to + y) w w₁ e n) (ex ∙ ap (λ (y : ℕ). past (eqb y 0) 3) et) M in
             record {
               built =
-                  wrap-built _ (A .steps) _ k k _ to e n n′ w₁ w′ (L .built) X
-                  (λ x h. ap (λ (xs : List Move). getElem? xs k) parts-are ∙ from-first _ _ (A .steps) (B .steps) ua ub k (a-goes .0) h);
+                  wrap-built _ (A .transitions) _ k k _ to e n n′ w₁ w′ (L .built) X
+                  (λ x h. ap (λ (xs : List RestTransition). getElem? xs k) parts-are ∙ from-first _ _ (A .transitions) (B .transitions) ua ub k (a-goes .0) h);
               kept = kept-trans to to w w₁ w′ (kept-less to _ w w₁ (L .kept) (omega arith)) (X .kept) (omega arith);
             }
 
       -- else part b's, at the difference
       module _ (k : ℕ) (all : k < getD (v .counts) i 0) (above : first ≤ k) where
-        b-goes : T ub × (k - cond ua (length (A .steps)) 0 < length (B .steps))
+        b-goes : T ub × (k - cond ua (length (A .transitions)) 0 < length (B .transitions))
         unfolding parts
         b-goes =
-            second-goes _ _ (A .steps) (B .steps) ua ub k (subst (λ (n : ℕ). n ≤ k) first-is above)
-            (subst (λ (xs : List Move). k < length xs) parts-are (subst (λ (n : ℕ). k < n) (count-is i inside low) all))
+            second-goes _ _ (A .transitions) (B .transitions) ua ub k (subst (λ (n : ℕ). n ≤ k) first-is above)
+            (subst (λ (xs : List RestTransition). k < length xs) parts-are (subst (λ (n : ℕ). k < n) (count-is i inside low) all))
 
         pub b-falls : r .b < i
         b-falls = b-lower (b-goes .0) .0
@@ -192,7 +192,7 @@ module _ {W : World} {s : State} {v : View} (C : Counted W s v) where
               room = record { inside = omega (arith, R .inside); small = R .small };
             }
 
-        pub b-room : {w w₁ : List ℕ} {to at e n : ℕ} → Room w to (1 + 2 * rise (v .records) i) → Lays (leafOf W s (v .records) (r .b) .steps) (k - first) at w w₁ e n → Room w₁ to (n + 2)
+        pub b-room : {w w₁ : List ℕ} {to at e n : ℕ} → Room w to (1 + 2 * rise (v .records) i) → Lays (leafOf W s (v .records) (r .b) .transitions) (k - first) at w w₁ e n → Room w₁ to (n + 2)
         b-room {w} {w₁} {to} {at} {e} {n} R L =
             record {
               inside = omega (arith, R .inside, L .kept .len, leaf-few W s p (C .lower) (r .b) (k - first) at e n w₁ (L .built), b-lower (b-goes .0) .1);
@@ -200,21 +200,21 @@ module _ {W : World} {s : State} {v : View} (C : Counted W s v) where
                   omega (arith, R .small, L .kept .len);
             }
 
-        pub b-lays : {w w₁ w′ : List ℕ} {to x tag e n n′ : ℕ} → tag ≡ tagB (r .kind) → x ≡ past (eqb tag 0) 6 → Lays (leafOf W s (v .records) (r .b) .steps) (k - first) (to + x) w w₁ e n
-            → Wrapped (wrapB (tagB (r .kind)) (r .a)) (to + past (eqb (tagB (r .kind)) 0) 6) to n n′ w₁ w′ → Lays (leafOf W s (v .records) i .steps) k to w w′ e n′
+        pub b-lays : {w w₁ w′ : List ℕ} {to x tag e n n′ : ℕ} → tag ≡ tagB (r .kind) → x ≡ past (eqb tag 0) 6 → Lays (leafOf W s (v .records) (r .b) .transitions) (k - first) (to + x) w w₁ e n
+            → Wrapped (wrapB (tagB (r .kind)) (r .a)) (to + past (eqb (tagB (r .kind)) 0) 6) to n n′ w₁ w′ → Lays (leafOf W s (v .records) i .transitions) k to w w′ e n′
         unfolding parts B
         b-lays {w} {w₁} {w′} {to} {x} {tag} {e} {n} {n′} et ex M X =
-            let L = subst (λ (y : ℕ). Lays (leafOf W s p (r .b) .steps) (k - first) (to + y) w w₁ e n) (ex ∙ ap (λ (y : ℕ). past (eqb y 0) 6) et) M in
+            let L = subst (λ (y : ℕ). Lays (leafOf W s p (r .b) .transitions) (k - first) (to + y) w w₁ e n) (ex ∙ ap (λ (y : ℕ). past (eqb y 0) 6) et) M in
             record {
               built =
-                  wrap-built _ (B .steps) _ k (k - first) _ to e n n′ w₁ w′ (L .built) X
-                  (λ x h. ap (λ (xs : List Move). getElem? xs k) parts-are ∙ from-second _ _ (A .steps) (B .steps) ua ub k (k - first) (b-goes .0) (omega (arith, first-is)) h);
+                  wrap-built _ (B .transitions) _ k (k - first) _ to e n n′ w₁ w′ (L .built) X
+                  (λ x h. ap (λ (xs : List RestTransition). getElem? xs k) parts-are ∙ from-second _ _ (A .transitions) (B .transitions) ua ub k (k - first) (b-goes .0) (omega (arith, first-is)) h);
               kept = kept-trans to to w w₁ w′ (kept-less to _ w w₁ (L .kept) (omega arith)) (X .kept) (omega arith);
             }
 
     -- a transition of its own leaves nothing
     pub own-lays : {w w′ : List ℕ} {to k e : ℕ} → k < getD (v .counts) i 0 → r .kind < 3 → Room w to (1 + 2 * rise (v .records) i) → Put to 0 0 1 w w′ → e ≡ codeOf (ownMove r)
-        → Lays (leafOf W s (v .records) i .steps) k to w w′ e 1
+        → Lays (leafOf W s (v .records) i .transitions) k to w w′ e 1
     unfolding nodes
     own-lays {w} {w′} {to} {k} h l R P ee = record {
       built = record {
@@ -229,6 +229,6 @@ module _ {W : World} {s : State} {v : View} (C : Counted W s v) where
     }
 
 -- the records of a sheet with the four more are few
-pub many-few : (interrupts : Bool) (n i : ℕ) → n ≤ 256 → i < places interrupts n → i < 65536
+pub many-few : (interrupts : Bool) (n i : ℕ) → n ≤ 256 → i < extendedSize interrupts n → i < 65536
 many-few true n i h l = omega arith
 many-few false n i h l = omega arith

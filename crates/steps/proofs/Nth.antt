@@ -9,8 +9,8 @@ use native.Mathlib.Omega.{arith}
 use lib.Dec.{T}
 use lib.ListN.{length, getElem?, length-append, length-map}
 use Rattle.runs.specs.Guide.{only}
-use Rattle.held.specs.Rest.{Rest}
-use Rattle.held.specs.Leaves.{Move, onRest}
+use Rattle.remaining.specs.Rest.{Rest}
+use Rattle.remaining.specs.Leaves.{RestTransition, onRest}
 
 nth-left : {A : Type 0} (xs ys : List A) (k : ℕ) {x : A} → getElem? xs k ≡ some x → getElem? (xs ++ ys) k ≡ some x
 nth-left [] ys k h = cc
@@ -38,23 +38,23 @@ nth-below [] k h = absurd (let z : _≡_ {A = ℕ} 0 1 = cc in omega arith)
 nth-below (a ∷ xs) zero h = omega arith
 nth-below (a ∷ xs) (suc k) h = omega (arith, nth-below xs k h)
 
-module _ (f g : Rest → Rest) (A B : List Move) where
+module _ (f g : Rest → Rest) (A B : List RestTransition) where
   -- under the tests ua and ub
-  abbrev pub Both : (ua ub : Bool) → List Move
+  abbrev pub Both : (ua ub : Bool) → List RestTransition
   Both ua ub = map (onRest f) (only ua A) ++ map (onRest g) (only ub B)
 
-  only-length : (b : Bool) (xs : List Move) → length (only b xs) ≡ cond b (length xs) 0
+  only-length : (b : Bool) (xs : List RestTransition) → length (only b xs) ≡ cond b (length xs) 0
   only-length true xs = refl
   only-length false xs = refl
 
   pub both-length : (ua ub : Bool) → length (Both ua ub) ≡ cond ua (length A) 0 + cond ub (length B) 0
   both-length ua ub = simp (length-append, length-map, only-length)
 
-  pub from-first : (ua ub : Bool) (k : ℕ) {x : Move} → T ua → getElem? A k ≡ some x → getElem? (Both ua ub) k ≡ some (onRest f x)
+  pub from-first : (ua ub : Bool) (k : ℕ) {x : RestTransition} → T ua → getElem? A k ≡ some x → getElem? (Both ua ub) k ≡ some (onRest f x)
   from-first true ub k t h = nth-left (map (onRest f) A) (map (onRest g) (only ub B)) k (nth-map (onRest f) A k h)
   from-first false ub k t h = absurd t
 
-  pub from-second : (ua ub : Bool) (k j : ℕ) {x : Move} → T ub → k ≡ cond ua (length A) 0 + j → getElem? B j ≡ some x → getElem? (Both ua ub) k ≡ some (onRest g x)
+  pub from-second : (ua ub : Bool) (k j : ℕ) {x : RestTransition} → T ub → k ≡ cond ua (length A) 0 + j → getElem? B j ≡ some x → getElem? (Both ua ub) k ≡ some (onRest g x)
   from-second ua true k j t e h =
       nth-right (map (onRest f) (only ua A)) (map (onRest g) B) k j
       (e ∙ ap (λ (n : ℕ). n + j) (sym (length-map (only ua A) (onRest f) ∙ only-length ua A))) (nth-map (onRest g) B j h)

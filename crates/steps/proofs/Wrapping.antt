@@ -6,14 +6,14 @@ use Prim.Native.Nat.{ℕ, _+_, _*_, _<_}
 use native.Mathlib.Omega.{arith}
 use lib.Dec.{eqb}
 use borrow.Author.Tests.{eq-eqb, ne-eqb}
-use Rattle.held.specs.Rest.{Rest, leaf, node, nodes}
-use Rattle.held.specs.Leaves.{wrapA, wrapB}
-use Rattle.words.specs.Words.{At, Kept, Room, Closed, Opened, Headed}
+use Rattle.remaining.specs.Rest.{Rest, leaf, node, nodes}
+use Rattle.remaining.specs.Leaves.{wrapA, wrapB}
+use Rattle.words.specs.Words.{At, Kept, Room, LeafRight, LeafLeft, CopyLeft}
 use Rattle.words.proofs.Written.{kept-refl}
 use Rattle.steps.specs.Laid.{past, Wrapped}
 use Rattle.steps.specs.Stepped.{EndsRight, RoomFor}
 use Rattle.steps.specs.declared.Turn.{Turn}
-use Rattle.steps.specs.declared.Turn.the-variants.{Made, Left}
+use Rattle.steps.specs.declared.Turn.the-variants.{Made, Passed}
 
 -- as it stands, where the test passes; else in the construct f, x words on
 module _ (f : Rest → Rest) (to x n : ℕ) where
@@ -32,20 +32,20 @@ module _ (tag q to n : ℕ) (w : List ℕ) {t : ℕ} (et : t ≡ tag) where
   pub alone-a : t ≡ 0 → Wrapped (wrapA tag q) (to + past (eqb tag 0) 3) to n n w w
   alone-a z = alone (λ (g : Rest). node tag g (leaf q)) to 3 n (eqb tag 0) w (eq-eqb tag 0 (sym et ∙ z))
 
-  pub closed-a : {w′ : List ℕ} {u : ℕ} → (t ≡ 0 → ⊥) → u ≡ q → Closed to t n u w w′ → Wrapped (wrapA tag q) (to + past (eqb tag 0) 3) to n (n + 2) w w′
+  pub closed-a : {w′ : List ℕ} {u : ℕ} → (t ≡ 0 → ⊥) → u ≡ q → LeafRight to t n u w w′ → Wrapped (wrapA tag q) (to + past (eqb tag 0) 3) to n (n + 2) w w′
   unfolding nodes
   closed-a {w′} {u} z eu C =
-      let D : Closed to tag n q w w′ = subst (λ (x : ℕ). Closed to tag n x w w′) eu (subst (λ (x : ℕ). Closed to x n u w w′) et C) in
+      let D : LeafRight to tag n q w w′ = subst (λ (x : ℕ). LeafRight to tag n x w w′) eu (subst (λ (x : ℕ). LeafRight to x n u w w′) et C) in
       inside (λ (g : Rest). node tag g (leaf q)) to 3 n (eqb tag 0) (n + 2) w w′ (ne-eqb tag 0 (λ e. z (et ∙ e))) (D .kept) (λ g A h. (D .closed g A h, omega arith))
 
   -- right of one
   pub alone-b : t ≡ 0 → Wrapped (wrapB tag q) (to + past (eqb tag 0) 6) to n n w w
   alone-b z = alone (λ (g : Rest). node tag (leaf q) g) to 6 n (eqb tag 0) w (eq-eqb tag 0 (sym et ∙ z))
 
-  pub opened-b : {w′ : List ℕ} → (t ≡ 0 → ⊥) → Opened to t n q w w′ → Wrapped (wrapB tag q) (to + past (eqb tag 0) 6) to n (n + 2) w w′
+  pub opened-b : {w′ : List ℕ} → (t ≡ 0 → ⊥) → LeafLeft to t n q w w′ → Wrapped (wrapB tag q) (to + past (eqb tag 0) 6) to n (n + 2) w w′
   unfolding nodes
   opened-b {w′} z C =
-      let D : Opened to tag n q w w′ = subst (λ (x : ℕ). Opened to x n q w w′) et C in
+      let D : LeafLeft to tag n q w w′ = subst (λ (x : ℕ). LeafLeft to x n q w w′) et C in
       inside (λ (g : Rest). node tag (leaf q) g) to 6 n (eqb tag 0) (n + 2) w w′ (ne-eqb tag 0 (λ e. z (et ∙ e))) (D .kept) (λ g A h. (D .opened g A h, omega arith))
 
 -- right of a remaining program
@@ -55,7 +55,7 @@ module _ (tag f to n : ℕ) (done : Bool) (w : List ℕ) {t : Turn} where
       subst (λ (x : Turn). EndsRight tag f to n done w w x (Made e m)) (sym et)
       (m, refl, λ l L h. alone (λ (g : Rest). node tag l g) to (3 + 3 * n) m (eqb tag 3) w (eq-eqb tag 3 z))
 
-  pub ends-beside : {w′ : List ℕ} {e m : ℕ} → t ≡ Made e m → (tag ≡ 3 → ⊥) → Headed f to tag n m w w′ → EndsRight tag f to n done w w′ t (Made e (1 + n + m))
+  pub ends-beside : {w′ : List ℕ} {e m : ℕ} → t ≡ Made e m → (tag ≡ 3 → ⊥) → CopyLeft f to tag n m w w′ → EndsRight tag f to n done w w′ t (Made e (1 + n + m))
   unfolding nodes
   ends-beside {w′} {e} {m} et z H =
       subst (λ (x : Turn). EndsRight tag f to n done w w′ x (Made e (1 + n + m))) (sym et) (
@@ -65,8 +65,8 @@ module _ (tag f to n : ℕ) (done : Bool) (w : List ℕ) {t : Turn} where
             (λ g A k. (H .headed l g L h (subst (At g w) (omega arith) A) k, omega arith)),
       )
 
-  pub ends-none : {j : ℕ} {d : Bool} → t ≡ Left j d → EndsRight tag f to n done w w t (Left j (done && d))
-  ends-none {j} {d} et = subst (λ (x : Turn). EndsRight tag f to n done w w x (Left j (done && d))) (sym et) (refl, refl)
+  pub ends-none : {j : ℕ} {d : Bool} → t ≡ Passed j d → EndsRight tag f to n done w w t (Passed j (done && d))
+  ends-none {j} {d} et = subst (λ (x : Turn). EndsRight tag f to n done w w x (Passed j (done && d))) (sym et) (refl, refl)
 
 pub room-made : (w : List ℕ) (to n : ℕ) (t : Turn) (e m : ℕ) → RoomFor w to n t → t ≡ Made e m → Room w to (n + m)
 room-made w to n t e m h q = subst (λ (u : Turn). RoomFor w to n u) q h

@@ -10,11 +10,11 @@ use Rattle.records.specs.Records.{programAt}
 use Rattle.height.specs.Height.{rise}
 use Rattle.golog.specs.declared.State.{State}
 use Rattle.golog.specs.World.{World}
-use Rattle.held.specs.Rest.{Rest, nodes, AllLower}
-use Rattle.held.specs.Leaves.{Move, leafOf}
-use Rattle.held.specs.Extended.{table}
+use Rattle.remaining.specs.Rest.{Rest, nodes, AllLower}
+use Rattle.remaining.specs.Leaves.{RestTransition, leafOf}
+use Rattle.remaining.specs.Extended.{extended}
 use Rattle.words.specs.Words.{At, Kept, Room}
-use Rattle.leaves.specs.Tallies.{places, countsOf, Sees}
+use Rattle.leaves.specs.Tallies.{extendedSize, countsOf, Sees}
 
 -- an entry of a history, or 65536 where a transition is no move (document 01: "A test is a transition but no move")
 abbrev pub codeOf : Option ℕ → ℕ
@@ -22,26 +22,26 @@ codeOf none = 65536
 codeOf (some a) = a
 
 -- the table that runs, with its number of records; the truths of the formulas; whether interrupts run; how many transitions each record has
-pub record View : Type 0 where
+pub record Sources : Type 0 where
   pub records : ℕ → Program
   pub many : ℕ
   pub held : List Bool
   pub running : Bool
   pub counts : List ℕ
 
-abbrev pub view : (programs : List ℕ) (n : ℕ) (interrupts : Bool) (held : List Bool) (running : Bool) (counts : List ℕ) → View
-view programs n interrupts held running counts =
-    record { records = table interrupts (programAt programs) n; many = places interrupts n; held = held; running = running; counts = counts }
+abbrev pub sourcesOf : (programs : List ℕ) (n : ℕ) (interrupts : Bool) (held : List Bool) (running : Bool) (counts : List ℕ) → Sources
+sourcesOf programs n interrupts held running counts =
+    record { records = extended interrupts (programAt programs) n; many = extendedSize interrupts n; held = held; running = running; counts = counts }
 
 -- it is that of a state
-pub record Counted (W : World) (s : State) (v : View) : Type 0 where
+pub record Counted (W : World) (s : State) (v : Sources) : Type 0 where
   pub can : ℕ → Bool
   pub sees : Sees W s (v .records) (v .many) (v .held) can (v .running)
   pub lower : AllLower (v .records)
   pub counts-are : v .counts ≡ countsOf W s (v .records) (v .many)
 
 -- record i has a k-th transition, and there is room for what it leaves
-pub record CanLay (v : View) (w : List ℕ) (i to k : ℕ) : Type 0 where
+pub record CanLay (v : Sources) (w : List ℕ) (i to k : ℕ) : Type 0 where
   pub world : World
   pub state : State
   pub counted : Counted world state v
@@ -51,7 +51,7 @@ pub record CanLay (v : View) (w : List ℕ) (i to k : ℕ) : Type 0 where
   pub room : Room w to (1 + 2 * rise (v .records) i)
 
 -- the k-th of the transitions xs: the code of its move, and what it leaves stands at `to` in so many nodes
-pub record Built (xs : List Move) (k to entry size : ℕ) (w : List ℕ) : Type 0 where
+pub record Built (xs : List RestTransition) (k to entry size : ℕ) (w : List ℕ) : Type 0 where
   pub move : Option ℕ
   pub rest : Rest
   pub nth : getElem? xs k ≡ some (move, rest)
@@ -60,13 +60,13 @@ pub record Built (xs : List Move) (k to entry size : ℕ) (w : List ℕ) : Type 
   pub size-is : size ≡ nodes rest
 
 -- and the words below are kept; words from `to` on are left open but for what stands there by `built`
-pub record Lays (xs : List Move) (k to : ℕ) (w w′ : List ℕ) (entry size : ℕ) : Type 0 where
+pub record Lays (xs : List RestTransition) (k to : ℕ) (w w′ : List ℕ) (entry size : ℕ) : Type 0 where
   pub built : Built xs k to entry size w′
   pub kept : Kept to w w′
 
 -- in every state that the view is of, the k-th transition of record i
-abbrev pub LaysRecord : View → (i k to : ℕ) (w w′ : List ℕ) (entry size : ℕ) → Type 0
-LaysRecord v i k to w w′ entry size = (W : World) (s : State) → Counted W s v → Lays (leafOf W s (v .records) i .steps) k to w w′ entry size
+abbrev pub LaysRecord : Sources → (i k to : ℕ) (w w′ : List ℕ) (entry size : ℕ) → Type 0
+LaysRecord v i k to w w′ entry size = (W : World) (s : State) → Counted W s v → Lays (leafOf W s (v .records) i .transitions) k to w w′ entry size
 
 -- where what a part leaves is laid: past the words that go before it, none where it stands alone
 abbrev pub past : (alone : Bool) (words : ℕ) → ℕ

@@ -9,38 +9,38 @@ use Rattle.records.specs.declared.Program.{Program}
 use Rattle.height.specs.Height.{rise}
 use Rattle.golog.specs.declared.State.{State}
 use Rattle.golog.specs.World.{World}
-use Rattle.held.specs.Rest.{Rest, nodes, high}
-use Rattle.held.specs.Leaves.{Move, wrapRight, leafOf, restFinal, restSteps}
+use Rattle.remaining.specs.Rest.{Rest, nodes, high}
+use Rattle.remaining.specs.Leaves.{RestTransition, wrapRight, leafOf, restFinal, restTransitions}
 use Rattle.words.specs.Words.{At, Kept, Room}
 use Rattle.leaves.specs.Tallies.{finalsOf}
-use Rattle.ends.specs.Ends.{Within}
-use Rattle.steps.specs.Laid.{View, Counted, Built, Wrapped, past}
+use Rattle.ends.specs.Ends.{InTable}
+use Rattle.steps.specs.Laid.{Sources, Counted, Built, Wrapped, past}
 use Rattle.steps.specs.declared.Turn.{Turn}
-use Rattle.steps.specs.declared.Turn.the-variants.{Made, Left}
+use Rattle.steps.specs.declared.Turn.the-variants.{Made, Passed}
 
 -- the tables are those of a state
-pub record Tabled (W : World) (s : State) (v : View) (finals : List Bool) : Type 0 where
+pub record Tabled (W : World) (s : State) (v : Sources) (finals : List Bool) : Type 0 where
   pub counted : Counted W s v
   pub finals-are : finals ≡ finalsOf W s (v .records) (v .many)
 
 -- a remaining program stands at `from`, below `to`, and there is room for what any of its transitions leaves
-pub record CanStep (v : View) (finals : List Bool) (w : List ℕ) («from» to : ℕ) : Type 0 where
+pub record CanStep (v : Sources) (finals : List Bool) (w : List ℕ) («from» to : ℕ) : Type 0 where
   pub world : World
   pub state : State
   pub tabled : Tabled world state v finals
   pub rest : Rest
   pub at : At rest w «from»
-  pub within : Within (v .records) (v .many) rest
+  pub within : InTable (v .records) (v .many) rest
   pub below : «from» + 3 * nodes rest ≤ to
   pub room : Room w to (nodes rest + 2 * high (v .records) rest)
 
--- Made: the k-th of the transitions xs was laid out. Left: there is none; what is left of k after them, and whether it is final
-abbrev pub Turned : (final : Bool) (xs : List Move) (k to : ℕ) (w : List ℕ) → Turn → Type 0
+-- Made: the k-th of the transitions xs was laid out. Passed: there is none; what is left of k after them, and whether it is final
+abbrev pub Turned : (final : Bool) (xs : List RestTransition) (k to : ℕ) (w : List ℕ) → Turn → Type 0
 Turned final xs k to w (Made entry size) = Built xs k to entry size w
-Turned final xs k to w (Left j done) = (k ≡ length xs + j) × (done ≡ final)
+Turned final xs k to w (Passed j done) = (k ≡ length xs + j) × (done ≡ final)
 
 -- record i is low enough, and there is room for what any of its transitions leaves
-pub record CanStepRecord (v : View) (finals : List Bool) (w : List ℕ) (i to : ℕ) : Type 0 where
+pub record CanStepRecord (v : Sources) (finals : List Bool) (w : List ℕ) (i to : ℕ) : Type 0 where
   pub world : World
   pub state : State
   pub tabled : Tabled world state v finals
@@ -51,20 +51,20 @@ pub record CanStepRecord (v : View) (finals : List Bool) (w : List ℕ) (i to : 
 -- the answer r for record i, in every state that the tables are of: the words below `to` are kept; words from `to` on are left open but for
 -- what stands there by `turned`, which is nothing where there is no k-th transition
 pub record SteppedRecord (W : World) (s : State) (p : ℕ → Program) (i k to : ℕ) (w w′ : List ℕ) (r : Turn) : Type 0 where
-  pub turned : Turned (leafOf W s p i .final) (leafOf W s p i .steps) k to w′ r
+  pub turned : Turned (leafOf W s p i .final) (leafOf W s p i .transitions) k to w′ r
   pub kept : Kept to w w′
 
-abbrev pub StepsRecord : View → (finals : List Bool) (i k to : ℕ) (w w′ : List ℕ) (r : Turn) → Type 0
+abbrev pub StepsRecord : Sources → (finals : List Bool) (i k to : ℕ) (w w′ : List ℕ) (r : Turn) → Type 0
 StepsRecord v finals i k to w w′ r = (W : World) (s : State) → Tabled W s v finals → SteppedRecord W s (v .records) i k to w w′ r
 
 -- the answer r for the remaining program g: the words below `to` are kept; words from `to` on are left open but for what stands there by
 -- `turned`, which is nothing where there is no k-th transition
 pub record Stepped (W : World) (s : State) (p : ℕ → Program) (g : Rest) (k to : ℕ) (w w′ : List ℕ) (r : Turn) : Type 0 where
-  pub turned : Turned (restFinal W s p g) (restSteps W s p g) k to w′ r
+  pub turned : Turned (restFinal W s p g) (restTransitions W s p g) k to w′ r
   pub kept : Kept to w w′
 
 -- in every state that the tables are of, for what stands at `from`
-abbrev pub StepsRest : View → (finals : List Bool) («from» k to : ℕ) (w w′ : List ℕ) (r : Turn) → Type 0
+abbrev pub StepsRest : Sources → (finals : List Bool) («from» k to : ℕ) (w w′ : List ℕ) (r : Turn) → Type 0
 StepsRest v finals «from» k to w w′ r =
     (W : World) (s : State) → Tabled W s v finals → (g : Rest) → At g w «from» → Stepped W s (v .records) g k to w w′ r
 
@@ -73,9 +73,9 @@ StepsRest v finals «from» k to w w′ r =
 abbrev pub EndsRight : (tag «from» to n : ℕ) (done : Bool) (w w′ : List ℕ) (t r : Turn) → Type 0
 EndsRight tag «from» to n done w w′ (Made entry m) r =
     (n′ : ℕ) × (r ≡ Made entry n′) × ((l : Rest) → At l w «from» → nodes l ≡ n → Wrapped (wrapRight tag l) (to + past (eqb tag 3) (3 + 3 * n)) to m n′ w w′)
-EndsRight tag «from» to n done w w′ (Left j final) r = (r ≡ Left j (done && final)) × (w′ ≡ w)
+EndsRight tag «from» to n done w w′ (Passed j final) r = (r ≡ Passed j (done && final)) × (w′ ≡ w)
 
 -- there is room for what was laid out and n nodes more
 abbrev pub RoomFor : (w : List ℕ) (to n : ℕ) → Turn → Type 0
 RoomFor w to n (Made entry m) = Room w to (n + m)
-RoomFor w to n (Left j done) = Unit {0}
+RoomFor w to n (Passed j done) = Unit {0}

@@ -5,12 +5,12 @@ ghost use mathlib.Core.Bool.{_&&_};
 ghost use Prim.Native.Nat.{_+_, _*_, _≤_, _<_};
 ghost use lib.Dec.{eqb};
 ghost use lib.ListN.{length};
-ghost use Rattle.held.specs.Rest.{Rest};
-ghost use Rattle.held.specs.Kinds.{tagA, loops, tagB};
-ghost use Rattle.held.specs.Leaves.{ownMove, siblingA, wrapA, wrapB};
-ghost use Rattle.words.specs.Words.{At, Holds, Room};
-ghost use Rattle.ends.specs.Ends.{finalIn};
-ghost use Rattle.steps.specs.Laid.{codeOf, view, CanLay, LaysRecord, past, Wrapped};
+ghost use Rattle.remaining.specs.Rest.{Rest};
+ghost use Rattle.remaining.specs.Kinds.{tagA, loops, tagB};
+ghost use Rattle.remaining.specs.Leaves.{ownMove, siblingA, wrapA, wrapB};
+ghost use Rattle.words.specs.Words.{At, Stands, Room};
+ghost use Rattle.ends.specs.Ends.{finalByTable};
+ghost use Rattle.steps.specs.Laid.{codeOf, sourcesOf, CanLay, LaysRecord, past, Wrapped};
 ghost use Rattle.steps.specs.Stepped.{CanStepRecord, StepsRecord, CanStep, StepsRest, EndsRight, RoomFor};
 use records::Program;
 
@@ -129,8 +129,8 @@ fn lay_record(
     k: usize,
 ) -> Laid
     requires { ⌜ (8 * v .n ≤ length (now programs)) × (1 ≤ v .n) × (v .n ≤ 256) ⌝ }
-    requires { ⌜ CanLay (view (now programs) (v .n) (v .interrupts) (now held) (v .running) (now counts)) (now work) i to k ⌝ }
-    ensures { λ r. ⌜ LaysRecord (view (now (programs .entry)) (v .n) (v .interrupts) (now (held .entry)) (v .running) (now (counts .entry))) i k to (now (work .entry))
+    requires { ⌜ CanLay (sourcesOf (now programs) (v .n) (v .interrupts) (now held) (v .running) (now counts)) (now work) i to k ⌝ }
+    ensures { λ r. ⌜ LaysRecord (sourcesOf (now (programs .entry)) (v .n) (v .interrupts) (now (held .entry)) (v .running) (now (counts .entry))) i k to (now (work .entry))
         (now (work .exit)) (r .entry) (r .size) ⌝ }
 {
     let r = leaves::record_at(programs, v.n, v.interrupts, i);
@@ -163,7 +163,7 @@ fn lay_record(
 // A transition that was made, with the code of its move and the number of nodes; or none, with what is left of k and whether it is final.
 pub enum Turn {
     Made { entry: u32, size: usize },
-    Left { k: usize, done: bool },
+    Passed { k: usize, done: bool },
 }
 
 fn wide(x: u32) -> usize
@@ -185,8 +185,8 @@ fn step_record(
     k: usize,
 ) -> Turn
     requires { ⌜ (8 * v .n ≤ length (now programs)) × (1 ≤ v .n) × (v .n ≤ 256) ⌝ }
-    requires { ⌜ CanStepRecord (view (now programs) (v .n) (v .interrupts) (now held) (v .running) (now counts)) (now finals) (now work) i to ⌝ }
-    ensures { λ r. ⌜ StepsRecord (view (now (programs .entry)) (v .n) (v .interrupts) (now (held .entry)) (v .running) (now (counts .entry))) (now (finals .entry)) i k to
+    requires { ⌜ CanStepRecord (sourcesOf (now programs) (v .n) (v .interrupts) (now held) (v .running) (now counts)) (now finals) (now work) i to ⌝ }
+    ensures { λ r. ⌜ StepsRecord (sourcesOf (now (programs .entry)) (v .n) (v .interrupts) (now (held .entry)) (v .running) (now (counts .entry))) (now (finals .entry)) i k to
         (now (work .entry)) (now (work .exit)) r ⌝ }
 {
     let count = wide(leaves::count_in(counts, i));
@@ -197,7 +197,7 @@ fn step_record(
             size: x.size,
         };
     }
-    Turn::Left {
+    Turn::Passed {
         k: k - count,
         done: leaves::final_in(finals, i),
     }
@@ -205,8 +205,8 @@ fn step_record(
 
 // Whether a left part that is final or not, and the right part at `at`, are both final.
 fn final_after(done: bool, finals: &[bool], work: &[u32], at: usize) -> bool
-    requires { ⌜ Holds (now work) at ⌝ }
-    ensures { λ r. ⌜ ((g : Rest) → At g (now (work .entry)) at → r ≡ (done && finalIn (now (finals .entry)) g)) ⌝ }
+    requires { ⌜ Stands (now work) at ⌝ }
+    ensures { λ r. ⌜ ((g : Rest) → At g (now (work .entry)) at → r ≡ (done && finalByTable (now (finals .entry)) g)) ⌝ }
 {
     if done {
         return ends::final_rest(finals, work, at);
@@ -239,8 +239,8 @@ fn end_right(
                 size: 1 + n + size,
             };
         }
-        Turn::Left { k, done: ended } => {
-            return Turn::Left {
+        Turn::Passed { k, done: ended } => {
+            return Turn::Passed {
                 k,
                 done: done & ended,
             };
@@ -262,13 +262,13 @@ pub fn step_rest(
     k: usize,
 ) -> Turn
     requires { ⌜ (8 * v .n ≤ length (now programs)) × (1 ≤ v .n) × (v .n ≤ 256) ⌝ }
-    requires { ⌜ CanStep (view (now programs) (v .n) (v .interrupts) (now held) (v .running) (now counts)) (now finals) (now work) from to ⌝ }
-    ensures { λ r. ⌜ StepsRest (view (now (programs .entry)) (v .n) (v .interrupts) (now (held .entry)) (v .running) (now (counts .entry))) (now (finals .entry)) from k to
+    requires { ⌜ CanStep (sourcesOf (now programs) (v .n) (v .interrupts) (now held) (v .running) (now counts)) (now finals) (now work) from to ⌝ }
+    ensures { λ r. ⌜ StepsRest (sourcesOf (now (programs .entry)) (v .n) (v .interrupts) (now (held .entry)) (v .running) (now (counts .entry))) (now (finals .entry)) from k to
         (now (work .entry)) (now (work .exit)) r ⌝ }
 {
     let tag = words::tag_at(work, from);
     if tag == 0 {
-        return Turn::Left { k, done: true };
+        return Turn::Passed { k, done: true };
     }
     if tag == 1 {
         let i = words::record_at(work, from);
@@ -287,9 +287,9 @@ pub fn step_rest(
                 size: 1 + size + m,
             };
         }
-        Turn::Left { k: j, done } => {
+        Turn::Passed { k: j, done } => {
             if !ends::goes_right(tag, done, j == k) {
-                return Turn::Left {
+                return Turn::Passed {
                     k: j,
                     done: final_after(done, finals, work, right),
                 };

@@ -7,30 +7,30 @@ use mathlib.Core.List.{List, [], _∷_}
 use mathlib.Core.Path.{_≡_, sym, _∙_, subst}
 use Rattle.golog.specs.declared.State.{State}
 use Rattle.golog.specs.Prog.{Prog}
-use Rattle.golog.specs.Steps.{Config, Step}
+use Rattle.golog.specs.Transitions.{Configuration, Transition}
 use Rattle.engine.specs.Frames.{Of, Frame, frameOf}
-use Rattle.engine.specs.Going.{Made, Makes, Ahead, CanGoOn, GoesOn, transitionsOf}
+use Rattle.engine.specs.Going.{MadeNext, MakesNext, Ahead, CanGoOn, GoesOn, transitionsOf}
 use Rattle.engine.specs.declared.Cursor.{Cursor}
 use Rattle.engine.specs.declared.Machine.{Machine}
-use Rattle.engine.specs.declared.Transition.{Transition}
+use Rattle.engine.specs.declared.Taken.{Taken}
 use Rattle.engine.proofs.Frames.{frame-kept}
 
 -- one of the transitions was made
-pub record MadeOne (s : List ℕ) (c : Config) (left : ℕ) (w : List ℕ) (at : ℕ) (r : Transition) : Type 0 where
-  pub step : Step
-  pub others : List Step
-  pub made : Made s c left w at r step others
+pub record MadeOne (s : List ℕ) (c : Configuration) (left : ℕ) (w : List ℕ) (at : ℕ) (r : Taken) : Type 0 where
+  pub step : Transition
+  pub others : List Transition
+  pub made : MadeNext s c left w at r step others
 
 made-one :
-    {s : List ℕ} {c : Config} {left : ℕ} {w : List ℕ} {at : ℕ} {r : Transition} (xs : List Step)
-    → Makes s c left w at r xs
+    {s : List ℕ} {c : Configuration} {left : ℕ} {w : List ℕ} {at : ℕ} {r : Taken} (xs : List Transition)
+    → MakesNext s c left w at r xs
     → r .made ≡ true
     → MadeOne s c left w at r
 made-one [] none e = absurd (true≢false (sym e ∙ none))
 made-one (x ∷ ys) M e = record { step = x; others = ys; made = M }
 
 module _
-    {s w w′ : List ℕ} {st : State} {at : ℕ} {k : Cursor} {r : Transition}
+    {s w w′ : List ℕ} {st : State} {at : ℕ} {k : Cursor} {r : Taken}
     (G : GoesOn s st at k w w′ r) (g : CanGoOn s st w at k) (e : r .made ≡ true) where
   pub one : MadeOne s (g .program, st) (g .left) w′ (at + frameOf s) r
   one = made-one (g .ahead) (G .makes g) e

@@ -10,7 +10,7 @@ ghost use Rattle.sheet.specs.declared.Checked.the-variants.{Accepted};
 ghost use Rattle.height.specs.Work.{workWords};
 ghost use Rattle.golog.specs.Prog.{Prog};
 ghost use Rattle.demands.specs.Decoded.{boundOf};
-ghost use Rattle.demands.specs.Held.{levelsOf};
+ghost use Rattle.demands.specs.Compact.{levelsOf};
 ghost use Rattle.engine.specs.Tables.{Prepared, Surveyed};
 ghost use Rattle.engine.specs.Frames.{Of, Frame};
 ghost use Rattle.engine.specs.Going.{Ahead, transitionsOf, CanGoOn};
@@ -19,7 +19,7 @@ mod report;
 
 use engine::Cursor;
 use engine::Machine;
-use engine::Transition;
+use engine::Taken;
 use golog::State;
 use sheet::Checked;
 use sheet::Layout;
@@ -71,7 +71,7 @@ fn make(
     at: usize,
     k: Cursor,
     n: usize,
-) -> Transition
+) -> Taken
     requires { ⌜ Of (now s) m × Surveyed (now s) st (now flags) (now numbers) × CanGoOn (now s) st (now work) at k ⌝ }
     ensures { λ r. ⌜ ((g : CanGoOn (now (s .entry)) st (now (work .entry)) at k) → r .made ≡ true
         → ((p : Prog) × Frame (now (s .entry)) (g .left) (now (work .exit)) (at + m .frame) p)) ⌝ }

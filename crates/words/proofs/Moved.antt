@@ -5,8 +5,8 @@ use mathlib.Core.List.{List}
 use Prim.Native.Nat.{ℕ, _+_, _*_, _≤_}
 use native.Mathlib.Omega.{arith}
 use lib.ListN.{length, getD}
-use Rattle.held.specs.Rest.{Rest, gone, leaf, node, nodes}
-use Rattle.words.specs.Words.{Node, At, Kept, Copied, Put, Closed, Opened, Joined, Headed}
+use Rattle.remaining.specs.Rest.{Rest, gone, leaf, node, nodes}
+use Rattle.words.specs.Words.{Node, At, Kept, Copied, Put, LeafRight, LeafLeft, CopyRight, CopyLeft}
 use Rattle.words.proofs.Standing.{at-room, Same}
 use Rattle.words.proofs.Written.{kept-less, kept-trans, kept-put}
 
@@ -82,7 +82,7 @@ leaf-nodes : (q : ℕ) → nodes (leaf q) ≡ 1
 unfolding nodes
 leaf-nodes q = refl
 
-pub closed-of : (to g n q : ℕ) (w w₁ w′ : List ℕ) → Put (to + 3 + 3 * n) 1 q 1 w w₁ → Put to g 0 (n + 2) w₁ w′ → 3 ≤ g → to + 3 * (n + 2) ≤ length w → Closed to g n q w w′
+pub closed-of : (to g n q : ℕ) (w w₁ w′ : List ℕ) → Put (to + 3 + 3 * n) 1 q 1 w w₁ → Put to g 0 (n + 2) w₁ w′ → 3 ≤ g → to + 3 * (n + 2) ≤ length w → LeafRight to g n q w w′
 closed-of to g n q w w₁ w′ P Q h r = record {
   kept = kept-trans to to w w₁ w′ (kept-put _ to _ _ _ w w₁ P (omega arith)) (kept-put to to _ _ _ w₁ w′ Q (omega arith)) (omega arith);
   closed = λ t A e.
@@ -91,7 +91,7 @@ closed-of to g n q w w₁ w′ P Q h r = record {
       (subst (λ (x : ℕ). At (leaf q) w₁ (to + 3 + 3 * x)) (sym e) (put-leaf (to + 3 + 3 * n) q w w₁ P (omega arith)));
 }
 
-pub opened-of : (to g n q : ℕ) (w w₁ w′ : List ℕ) → Put (to + 3) 1 q 1 w w₁ → Put to g 0 (n + 2) w₁ w′ → 3 ≤ g → to + 3 * (n + 2) ≤ length w → Opened to g n q w w′
+pub opened-of : (to g n q : ℕ) (w w₁ w′ : List ℕ) → Put (to + 3) 1 q 1 w w₁ → Put to g 0 (n + 2) w₁ w′ → 3 ≤ g → to + 3 * (n + 2) ≤ length w → LeafLeft to g n q w w′
 opened-of to g n q w w₁ w′ P Q h r = record {
   kept = kept-trans to to w w₁ w′ (kept-put _ to _ _ _ w w₁ P (omega arith)) (kept-put to to _ _ _ w₁ w′ Q (omega arith)) (omega arith);
   opened = λ t A e.
@@ -101,7 +101,7 @@ opened-of to g n q w w₁ w′ P Q h r = record {
 }
 
 pub joined-of : (f to g n m : ℕ) (w w₁ w′ : List ℕ) → Copied f (to + 3 + 3 * n) (3 * m) w w₁ → Put to g 0 (1 + n + m) w₁ w′ → 3 ≤ g
-    → to + 3 * (1 + n + m) ≤ length w → Joined f to g n m w w′
+    → to + 3 * (1 + n + m) ≤ length w → CopyRight f to g n m w w′
 joined-of f to g n m w w₁ w′ C Q h rm = record {
   kept = kept-trans to to w w₁ w′ (kept-less to _ w w₁ (C .kept) (omega arith)) (kept-put to to _ _ _ w₁ w′ Q (omega arith)) (omega arith);
   joined = λ l r L el R er.
@@ -111,7 +111,7 @@ joined-of f to g n m w w₁ w′ C Q h rm = record {
 }
 
 pub headed-of : (f to g n m : ℕ) (w w₁ w′ : List ℕ) → Copied f (to + 3) (3 * n) w w₁ → Put to g 0 (1 + n + m) w₁ w′ → 3 ≤ g
-    → to + 3 * (1 + n + m) ≤ length w → Headed f to g n m w w′
+    → to + 3 * (1 + n + m) ≤ length w → CopyLeft f to g n m w w′
 headed-of f to g n m w w₁ w′ C Q h rm = record {
   kept = kept-trans to to w w₁ w′ (kept-less to _ w w₁ (C .kept) (omega arith)) (kept-put to to _ _ _ w₁ w′ Q (omega arith)) (omega arith);
   headed = λ l r L el R er.

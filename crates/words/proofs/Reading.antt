@@ -5,8 +5,8 @@ use mathlib.Core.List.{List}
 use Prim.Native.Nat.{ℕ, _+_, _*_, _≤_, _<_}
 use native.Mathlib.Omega.{arith}
 use lib.ListN.{length, getD}
-use Rattle.held.specs.Rest.{Rest, node, nodes}
-use Rattle.words.specs.Words.{At, Holds}
+use Rattle.remaining.specs.Rest.{Rest, node, nodes}
+use Rattle.words.specs.Words.{At, Stands}
 use Rattle.words.proofs.Standing.{nodes-pos, at-size, at-node-room, Inner, inner-at}
 
 -- the measure of a call at i: the number of nodes that stand there
@@ -23,14 +23,14 @@ pub record Parts (g : Rest) (w : List ℕ) (i k m : ℕ) : Type 0 where
   pub is : g ≡ node k l r
   pub three : 3 ≤ k
 
-pub holds-room : {w : List ℕ} {i : ℕ} → Holds w i → i + 3 ≤ length w
+pub holds-room : {w : List ℕ} {i : ℕ} → Stands w i → i + 3 ≤ length w
 holds-room {w} {i} H = at-node-room (H .rest) w i (H .at)
 
-module _ {w : List ℕ} {i : ℕ} (H : Holds w i) {k : ℕ} (e : k ≡ getD w i 0) (n0 : k ≡ 0 → ⊥) (n1 : k ≡ 1 → ⊥) where
+module _ {w : List ℕ} {i : ℕ} (H : Stands w i) {k : ℕ} (e : k ≡ getD w i 0) (n0 : k ≡ 0 → ⊥) (n1 : k ≡ 1 → ⊥) where
   parts : Inner (H .rest) w i k
   parts = inner-at w i k e (H .rest) (H .at) n0 n1
 
-  pub holds-left : Holds w (i + 3)
+  pub holds-left : Stands w (i + 3)
   holds-left = record { rest = parts .l; at = parts .l-at }
 
   pub left-room : i + 3 + 3 ≤ length w
@@ -44,7 +44,7 @@ module _ {w : List ℕ} {i : ℕ} (H : Holds w i) {k : ℕ} (e : k ≡ getD w i 
     left-is : m ≡ nodes (parts .l)
     left-is = em ∙ at-size (parts .l) w (i + 3) (parts .l-at)
 
-    pub holds-right : Holds w (i + 3 + 3 * m)
+    pub holds-right : Stands w (i + 3 + 3 * m)
     holds-right = record { rest = parts .r; at = subst (λ (j : ℕ). At (parts .r) w (i + 3 + 3 * j)) (sym left-is) (parts .r-at) }
 
     pub right-room : i + 3 + 3 * m + 3 ≤ length w

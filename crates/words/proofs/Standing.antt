@@ -7,7 +7,7 @@ use Prim.Native.Nat.{ℕ, zero, suc, _+_, _*_, _-_, _≤_, _<_}
 use native.Mathlib.Omega.{arith}
 use native.Mathlib.Decide.{decLt}
 use lib.ListN.{length, getD}
-use Rattle.held.specs.Rest.{Rest, gone, leaf, node, nodes}
+use Rattle.remaining.specs.Rest.{Rest, gone, leaf, node, nodes}
 use Rattle.words.specs.Words.{Node, At}
 
 pub nodes-pos : (t : Rest) → 1 ≤ nodes t

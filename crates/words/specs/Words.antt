@@ -5,7 +5,7 @@ use mathlib.Core.Path.{_≡_}
 use mathlib.Core.List.{List}
 use Prim.Native.Nat.{ℕ, _+_, _*_, _^_, _≤_, _<_}
 use lib.ListN.{length, getD}
-use Rattle.held.specs.Rest.{Rest, gone, leaf, node, nodes}
+use Rattle.remaining.specs.Rest.{Rest, gone, leaf, node, nodes}
 
 -- the node at i, which stands for n nodes, all of them inside
 pub record Node (w : List ℕ) (i tag number n : ℕ) : Type 0 where
@@ -21,7 +21,7 @@ At (leaf p) w i = Node w i 1 p 1
 At (node tag l r) w i = Node w i tag 0 (nodes (node tag l r)) × (3 ≤ tag) × At l w (i + 3) × At r w (i + 3 + 3 * nodes l)
 
 -- some remaining program stands there
-pub record Holds (w : List ℕ) (i : ℕ) : Type 0 where
+pub record Stands (w : List ℕ) (i : ℕ) : Type 0 where
   pub rest : Rest
   pub at : At rest w i
 
@@ -52,24 +52,24 @@ pub record Room (w : List ℕ) (i n : ℕ) : Type 0 where
 
 -- a construct was put around the n nodes that stand after it, left of record q; words from `to` on are left open but for what stands there
 -- by `closed`
-pub record Closed (to tag n q : ℕ) (w w′ : List ℕ) : Type 0 where
+pub record LeafRight (to tag n q : ℕ) (w w′ : List ℕ) : Type 0 where
   pub kept : Kept to w w′
   pub closed : (g : Rest) → At g w (to + 3) → nodes g ≡ n → At (node tag g (leaf q)) w′ to
 
 -- a construct was put around the n nodes that stand six words on, right of record q; words from `to` on are left open but for what stands
 -- there by `opened`
-pub record Opened (to tag n q : ℕ) (w w′ : List ℕ) : Type 0 where
+pub record LeafLeft (to tag n q : ℕ) (w w′ : List ℕ) : Type 0 where
   pub kept : Kept to w w′
   pub opened : (g : Rest) → At g w (to + 6) → nodes g ≡ n → At (node tag (leaf q) g) w′ to
 
 -- a construct was put around the n nodes that stand after it, left of a copy of the m nodes at `from`; words from `to` on are left open but
 -- for what stands there by `joined`
-pub record Joined («from» to tag n m : ℕ) (w w′ : List ℕ) : Type 0 where
+pub record CopyRight («from» to tag n m : ℕ) (w w′ : List ℕ) : Type 0 where
   pub kept : Kept to w w′
   pub joined : (l r : Rest) → At l w (to + 3) → nodes l ≡ n → At r w «from» → nodes r ≡ m → At (node tag l r) w′ to
 
 -- a construct was put around a copy of the n nodes at `from`, left of the m nodes that stand after where the copy ends; words from `to` on
 -- are left open but for what stands there by `headed`
-pub record Headed («from» to tag n m : ℕ) (w w′ : List ℕ) : Type 0 where
+pub record CopyLeft («from» to tag n m : ℕ) (w w′ : List ℕ) : Type 0 where
   pub kept : Kept to w w′
   pub headed : (l r : Rest) → At l w «from» → nodes l ≡ n → At r w (to + 3 + 3 * n) → nodes r ≡ m → At (node tag l r) w′ to

@@ -2,7 +2,7 @@
 ghost use mathlib.Core.Path.{_≡_};
 ghost use Prim.Native.Nat.{_+_, _*_, _^_, _≤_, _<_};
 ghost use lib.ListN.{length, getD};
-ghost use Rattle.words.specs.Words.{Copied, Put, Room, Closed, Opened, Joined, Headed};
+ghost use Rattle.words.specs.Words.{Copied, Put, Room, LeafRight, LeafLeft, CopyRight, CopyLeft};
 
 fn wide(x: u32) -> usize
     ensures { λ r. ⌜ (r ≡ x) × (r < 2 ^ 32) ⌝ }
@@ -58,7 +58,7 @@ pub fn put_node(work: &mut [u32], at: usize, tag: u32, number: usize, size: usiz
 pub fn close_leaf(work: &mut [u32], to: usize, tag: u32, n: usize, q: usize)
     requires { ⌜ Room (now work) to (n + 2) ⌝ }
     requires { ⌜ (3 ≤ tag) × (q < 2 ^ 32) ⌝ }
-    ensures { λ _. ⌜ Closed to tag n q (now (work .entry)) (now (work .exit)) ⌝ }
+    ensures { λ _. ⌜ LeafRight to tag n q (now (work .entry)) (now (work .exit)) ⌝ }
 {
     put_node(work, to + 3 + 3 * n, 1, q, 1);
     put_node(work, to, tag, 0, n + 2);
@@ -68,7 +68,7 @@ pub fn close_leaf(work: &mut [u32], to: usize, tag: u32, n: usize, q: usize)
 pub fn open_leaf(work: &mut [u32], to: usize, tag: u32, n: usize, q: usize)
     requires { ⌜ Room (now work) to (n + 2) ⌝ }
     requires { ⌜ (3 ≤ tag) × (q < 2 ^ 32) ⌝ }
-    ensures { λ _. ⌜ Opened to tag n q (now (work .entry)) (now (work .exit)) ⌝ }
+    ensures { λ _. ⌜ LeafLeft to tag n q (now (work .entry)) (now (work .exit)) ⌝ }
 {
     put_node(work, to + 3, 1, q, 1);
     put_node(work, to, tag, 0, n + 2);
@@ -78,7 +78,7 @@ pub fn open_leaf(work: &mut [u32], to: usize, tag: u32, n: usize, q: usize)
 pub fn join(work: &mut [u32], from: usize, to: usize, tag: u32, n: usize, m: usize)
     requires { ⌜ Room (now work) to (1 + n + m) ⌝ }
     requires { ⌜ (3 ≤ tag) × (from + 3 * m ≤ to) ⌝ }
-    ensures { λ _. ⌜ Joined from to tag n m (now (work .entry)) (now (work .exit)) ⌝ }
+    ensures { λ _. ⌜ CopyRight from to tag n m (now (work .entry)) (now (work .exit)) ⌝ }
 {
     copy_words(work, from, to + 3 + 3 * n, 3 * m);
     put_node(work, to, tag, 0, 1 + n + m);
@@ -88,7 +88,7 @@ pub fn join(work: &mut [u32], from: usize, to: usize, tag: u32, n: usize, m: usi
 pub fn head(work: &mut [u32], from: usize, to: usize, tag: u32, n: usize, m: usize)
     requires { ⌜ Room (now work) to (1 + n + m) ⌝ }
     requires { ⌜ (3 ≤ tag) × (from + 3 * n ≤ to) ⌝ }
-    ensures { λ _. ⌜ Headed from to tag n m (now (work .entry)) (now (work .exit)) ⌝ }
+    ensures { λ _. ⌜ CopyLeft from to tag n m (now (work .entry)) (now (work .exit)) ⌝ }
 {
     copy_words(work, from, to + 3, 3 * n);
     put_node(work, to, tag, 0, 1 + n + m);

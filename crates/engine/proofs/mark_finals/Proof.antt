@@ -11,9 +11,9 @@ use lib.Seq.{getD-set-other}
 use Rattle.records.specs.Records.{programAt}
 use Rattle.golog.specs.declared.State.{State}
 use Rattle.golog.specs.World.{World}
-use Rattle.held.specs.Extended.{table}
-use Rattle.leaves.specs.Tallies.{places, Sees, finalBy}
-use Rattle.leaves.specs.Endable.{Decides}
+use Rattle.remaining.specs.Extended.{extended}
+use Rattle.leaves.specs.Tallies.{extendedSize, Sees, finalBy}
+use Rattle.leaves.specs.Endable.{FinalsKnown}
 use Rattle.leaves.proofs.Skipping.{Done, first, next}
 use Rattle.engine.specs.Tables.{truthsIn, finalsIn, OnlyFinals}
 use Rattle.engine.proofs.Tables.{finals-long, only-same, final-set, only-more}
@@ -25,9 +25,9 @@ abbrev Inv-loop : tie.InvT-loop
 Inv-loop flags₀ programs n interrupts skips running m i₀ flags i =
     (length flags ≡ 1032)
     × OnlyFinals flags₀ flags
-    × ((a : ℕ) → places interrupts n ≤ a → getD (finalsIn flags) a true ≡ getD (finalsIn flags₀) a true)
-    × ((W : World) (s : State) (can : ℕ → Bool) → Sees W s (table interrupts (programAt programs) n) (places interrupts n) (truthsIn flags₀) can running →
-    Done W s (table interrupts (programAt programs) n) (places interrupts n) (finalsIn flags₀) (finalsIn flags) i)
+    × ((a : ℕ) → extendedSize interrupts n ≤ a → getD (finalsIn flags) a true ≡ getD (finalsIn flags₀) a true)
+    × ((W : World) (s : State) (can : ℕ → Bool) → Sees W s (extended interrupts (programAt programs) n) (extendedSize interrupts n) (truthsIn flags₀) can running →
+    Done W s (extended interrupts (programAt programs) n) (extendedSize interrupts n) (finalsIn flags₀) (finalsIn flags) i)
 
 abbrev μ-loop : tie.MeasureT-loop
 μ-loop flags₀ programs n interrupts skips running m i₀ flags i = m - i
@@ -96,7 +96,7 @@ loop-again c =
     let flags = at-loop .loop .flags in
     let finals = finalsIn flags in
     let few : i < 260 = omega (arith, at-places-of .places-of .ensures .1) in
-    let l : i < places (at-start .args .interrupts) (at-start .args .n) = omega (arith, e) in
+    let l : i < extendedSize (at-start .args .interrupts) (at-start .args .n) = omega (arith, e) in
     let by = at-final-by .final-by .ensures ∙ ap (λ (held : List Bool). finalBy (at-record-at .record-at .result) held (at-start .args .running) finals) (v .1 .truths-kept) in (
       simp length-set (v .0),
       only-more flags i f few (v .1),
@@ -113,7 +113,7 @@ returns c =
     let at-loop = c .before in
     let at-start = start-from-loop at-loop in
     let v = at-loop .loop .inv in
-    let D : Decides _ _ (truthsIn (now (at-start .args .flags))) _ (finalsIn (at-loop .loop .flags)) = λ W s can S i h. v .3 W s can S .right i (omega arith) h in
+    let D : FinalsKnown _ _ (truthsIn (now (at-start .args .flags))) _ (finalsIn (at-loop .loop .flags)) = λ W s can S i h. v .3 W s can S .right i (omega arith) h in
     (rw (v .1 .truths-kept) D, (v .1, v .2))
 
 pub mark-finals-spec : {M : Type 1} → statement M

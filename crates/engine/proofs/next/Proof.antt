@@ -4,7 +4,7 @@ use native.Mathlib.Omega.{arith}
 use mathlib.Core.Bool.{true≢false}
 use mathlib.Core.Path.{sym, _∙_, subst}
 use Rattle.words.proofs.Written.{kept-refl}
-use Rattle.engine.specs.Going.{Makes}
+use Rattle.engine.specs.Going.{MakesNext}
 use Rattle.engine.proofs.Tables.{truths-long}
 use Rattle.engine.proofs.Going.{ahead-none}
 use Rattle.engine.proofs.Made.{none-left, made-coded, made-next, step-kept}
@@ -39,7 +39,7 @@ returns c =
     let at-start = start-from-then1 (c .before) in
     let r = c .none-made .ensures in
     record {
-      makes = λ g. subst (Makes (now (at-start .args .s)) (g .program, at-start .args .st) (g .left) _ _ (c .none-made .result)) (sym (ahead-none (g .listed) (c .before .if1 .taken))) r;
+      makes = λ g. subst (MakesNext (now (at-start .args .s)) (g .program, at-start .args .st) (g .left) _ _ (c .none-made .result)) (sym (ahead-none (g .listed) (c .before .if1 .taken))) r;
       kept = kept-refl _ _;
       falls = λ e. absurd (true≢false (sym e ∙ r));
     }

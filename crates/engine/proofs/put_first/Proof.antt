@@ -5,8 +5,8 @@ use native.Mathlib.Omega.{arith}
 use mathlib.Core.Bool.{Bool}
 use mathlib.Core.Path.{_∙_, ap₂, subst}
 use Rattle.sheet.specs.declared.Layout.{Layout}
-use Rattle.held.specs.Rest.{leaf}
-use Rattle.held.specs.Extended.{top}
+use Rattle.remaining.specs.Rest.{leaf}
+use Rattle.remaining.specs.Extended.{top}
 use Rattle.words.specs.Words.{At}
 use Rattle.words.proofs.Moved.{put-leaf}
 use Rattle.engine.proofs.Parts.{fits-in}

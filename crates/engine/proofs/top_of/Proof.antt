@@ -2,7 +2,7 @@
 use native.Mathlib.Omega.{arith}
 use mathlib.Core.Bool.{Bool}
 use mathlib.Core.Path.{sym, ap}
-use Rattle.held.specs.Extended.{top}
+use Rattle.remaining.specs.Extended.{top}
 use borrow.Author.Needs.{needs}
 use Rattle.engine.proofs.top_of.Statement.{statement}
 use Rattle.engine.proofs.top_of.Tie as tie

@@ -8,7 +8,7 @@ use Rattle.records.specs.Table.{upTo}
 use Rattle.records.specs.declared.Program.{Program}
 use Rattle.records.specs.Records.{programAt}
 use Rattle.records.proofs.Fills.{Filled, start, full, at, more, up-at}
-use Rattle.height.specs.Height.{heightAt, links, over, rise}
+use Rattle.height.specs.Height.{heightAt, links, heightOver, rise}
 use Rattle.height.proofs.Heights.{heights-le}
 use Rattle.height.proofs.Links.{over-same}
 use borrow.Author.Needs.{needs}
@@ -54,7 +54,7 @@ loop-again c =
     let p = programAt (now (at-start .args .t)) in
     let i = at-loop .loop .i in
     let b = at-loop .loop .inv .1 in
-    let read : c .height-over .result ≡ over (at-loop .loop .h) (links (p i)) = c .height-over .ensures ∙ ap (λ (r : Program). over (at-loop .loop .h) (links r))
+    let read : c .height-over .result ≡ heightOver (at-loop .loop .h) (links (p i)) = c .height-over .ensures ∙ ap (λ (r : Program). heightOver (at-loop .loop .h) (links r))
     (c .before .program-at .ensures .0) in
     (omega arith, more 0 (heightAt p) (λ (x : ℕ). x) 256 b (omega arith) (read ∙ over-same (at-loop .loop .h) (upTo (heightAt p) i) (at 0 (heightAt p) (λ (x : ℕ). x) 256 b) (links (p i))))
 

@@ -4,9 +4,9 @@ use mathlib.Core.Path.{_≡_, refl}
 use mathlib.Core.Bool.{true}
 use Prim.Native.Nat.{ℕ}
 use denote.Ref.{now}
-use Rattle.held.proofs.Columns.{by-kind}
-use Rattle.held.proofs.Entries.{fields}
-use Rattle.leaves.specs.Endable.{boundOf, boundBy}
+use Rattle.remaining.proofs.Columns.{by-kind}
+use Rattle.remaining.proofs.Entries.{fields}
+use Rattle.leaves.specs.Endable.{finalBoundOf, finalBoundBy}
 use borrow.Author.Needs.{needs}
 use Rattle.leaves.proofs.bound_at.Statement.{statement}
 use Rattle.leaves.proofs.bound_at.Tie as tie
@@ -39,47 +39,47 @@ both-final-requires-4 : tie.Need-both-final-requires-4
 both-final-requires-4 c κs = search needs
 
 returns : tie.Need-returns
-unfolding boundBy boundOf
+unfolding finalBoundBy finalBoundOf
 returns c = rw (c .match .keys1) (cc)
 
 returns-2 : tie.Need-returns-2
-unfolding boundBy boundOf
+unfolding finalBoundBy finalBoundOf
 returns-2 c = rw (c .match .keys2) (cc)
 
 returns-3 : tie.Need-returns-3
-unfolding boundBy boundOf
+unfolding finalBoundBy finalBoundOf
 returns-3 c = rw (c .before .match .keys3) cc
 
 returns-4 : tie.Need-returns-4
-unfolding boundBy boundOf
+unfolding finalBoundBy finalBoundOf
 returns-4 c = rw (c .before .before .match .keys4) cc
 
 returns-5 : tie.Need-returns-5
-unfolding boundBy boundOf
+unfolding finalBoundBy finalBoundOf
 returns-5 c = rw (c .before .before .before .match .keys5) cc
 
 returns-6 : tie.Need-returns-6
-unfolding boundBy boundOf
+unfolding finalBoundBy finalBoundOf
 returns-6 c = rw (c .before .match .keys6) cc
 
 returns-7 : tie.Need-returns-7
-unfolding boundBy boundOf
+unfolding finalBoundBy finalBoundOf
 returns-7 c = rw (c .before .match .keys7) cc
 
 returns-8 : tie.Need-returns-8
-unfolding boundBy boundOf
+unfolding finalBoundBy finalBoundOf
 returns-8 c = rw (c .before .match .keys8) cc
 
 returns-9 : tie.Need-returns-9
-unfolding boundBy boundOf
+unfolding finalBoundBy finalBoundOf
 returns-9 c = rw (c .match .keys9) (cc)
 
 returns-10 : tie.Need-returns-10
-unfolding boundBy boundOf
+unfolding finalBoundBy finalBoundOf
 returns-10 c =
     let a = c .before .before .args in
     let r = c .match .rest in
-    by-kind (λ (k : ℕ). a .r .kind ≡ k → true ≡ boundBy (a .most) (fields k (a .r .a) (a .r .b) (a .r .c)) (now (a .marks)))
+    by-kind (λ (k : ℕ). a .r .kind ≡ k → true ≡ finalBoundBy (a .most) (fields k (a .r .a) (a .r .b) (a .r .c)) (now (a .marks)))
     (λ e. refl) (λ e. absurd (r .0 .0 .0 .0 .0 .0 .0 .0 .1 e)) (λ e. absurd (r .0 .0 .0 .0 .0 .0 .0 .1 e)) (λ e. absurd (r .0 .0 .0 .0 .0 .0 .1 e)) (λ e. absurd (r .0 .0 .0 .0 .0 .1 e))
     (λ e. refl)
     (λ e. absurd (r .0 .0 .0 .0 .1 e)) (λ e. absurd (r .0 .0 .0 .1 e)) (λ e. absurd (r .0 .0 .1 e)) (λ e. absurd (r .0 .1 e)) (λ e. refl) (λ e. absurd (r .1 e)) (λ k e. refl)

@@ -8,14 +8,14 @@ use native.Mathlib.Omega.{arith}
 use borrow.Author.Needs.{needs}
 use Rattle.records.specs.Records.{programAt}
 use Rattle.records.proofs.Fills.{Filled, start, full, at, more}
-use Rattle.held.specs.Extended.{table}
-use Rattle.leaves.specs.Endable.{boundAt, boundsOf}
+use Rattle.remaining.specs.Extended.{extended}
+use Rattle.leaves.specs.Endable.{finalBoundAt, finalBoundsOf}
 use Rattle.leaves.proofs.Marking.{bound-same}
 use Rattle.leaves.proofs.bounds.Statement.{statement}
 use Rattle.leaves.proofs.bounds.Tie as tie
 
 abbrev Inv-loop : tie.InvT-loop
-Inv-loop programs n interrupts most m marks₀ i₀ marks i = (i ≤ m) × Filled true (boundAt most (table interrupts (programAt programs) n)) (λ (b : Bool). b) 260 marks i
+Inv-loop programs n interrupts most m marks₀ i₀ marks i = (i ≤ m) × Filled true (finalBoundAt most (extended interrupts (programAt programs) n)) (λ (b : Bool). b) 260 marks i
 
 abbrev μ-loop : tie.MeasureT-loop
 μ-loop programs n interrupts most m marks₀ i₀ marks i = m - i
@@ -50,7 +50,7 @@ loop-again c =
     (omega arith, more _ _ _ _ b (omega arith) (rw (c .before .before .record-at .ensures .0) at (c .bound-at .ensures) ∙ bound-same _ _ _ _ (at _ _ _ _ b)))
 
 returns : tie.Need-returns Inv-loop μ-loop
-unfolding boundsOf
+unfolding finalBoundsOf
 returns c =
     let at-loop = c .before in
     let e = le-antisymm (at-loop .loop .inv .0) (c .loop-test .left) ∙ c .before .before .places-of .ensures .0 in

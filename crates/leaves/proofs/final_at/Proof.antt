@@ -3,10 +3,10 @@ use denote.Ref.{now}
 use mathlib.Core.Path.{_≡_, refl}
 use mathlib.Core.Bool.{true}
 use Prim.Native.Nat.{ℕ}
-use Rattle.held.specs.Kinds.{finalOf}
+use Rattle.remaining.specs.Kinds.{finalOf}
 use Rattle.leaves.specs.Tallies.{finalBy}
-use Rattle.held.proofs.Columns.{by-kind}
-use Rattle.held.proofs.Entries.{fields}
+use Rattle.remaining.proofs.Columns.{by-kind}
+use Rattle.remaining.proofs.Entries.{fields}
 use borrow.Author.Needs.{needs}
 use Rattle.leaves.proofs.final_at.Statement.{statement}
 use Rattle.leaves.proofs.final_at.Tie as tie

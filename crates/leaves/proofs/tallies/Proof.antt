@@ -10,9 +10,9 @@ use Rattle.records.specs.Records.{programAt}
 use Rattle.records.proofs.Fills.{Refilled, refill-start}
 use Rattle.golog.specs.declared.State.{State}
 use Rattle.golog.specs.World.{World}
-use Rattle.held.specs.Extended.{table}
-use Rattle.held.specs.Leaves.{leafAt}
-use Rattle.leaves.specs.Tallies.{counted, places, possibleIn, Sees}
+use Rattle.remaining.specs.Extended.{extended}
+use Rattle.remaining.specs.Leaves.{leafAt}
+use Rattle.leaves.specs.Tallies.{cappedCount, extendedSize, possibleIn, Sees}
 use Rattle.leaves.proofs.Filling.{next}
 use Rattle.leaves.proofs.tallies.Statement.{statement}
 use Rattle.leaves.proofs.tallies.Tie as tie
@@ -20,8 +20,8 @@ use Rattle.leaves.proofs.tallies.Tie as tie
 abbrev Inv-loop : tie.InvT-loop
 Inv-loop counts₀ programs n interrupts actions na held running finals m i₀ counts i =
     (i ≤ m) × (length counts ≡ 260)
-    × ((W : World) (s : State) → Sees W s (table interrupts (programAt programs) n) (places interrupts n) held (possibleIn actions na held) running →
-    Refilled (leafAt W s (table interrupts (programAt programs) n)) counted counts₀ counts i)
+    × ((W : World) (s : State) → Sees W s (extended interrupts (programAt programs) n) (extendedSize interrupts n) held (possibleIn actions na held) running →
+    Refilled (leafAt W s (extended interrupts (programAt programs) n)) cappedCount counts₀ counts i)
 
 abbrev μ-loop : tie.MeasureT-loop
 μ-loop counts₀ programs n interrupts actions na held running finals m i₀ counts i = m - i
@@ -37,7 +37,7 @@ abbrev start-from-loop : tie.At-loop Inv-loop μ-loop → tie.Start Inv-loop μ-
 start-from-loop c = start-from-places-of (c .before)
 
 loop-holds : tie.Need-loop-holds Inv-loop μ-loop
-loop-holds c = (omega arith, start-from-places-of c .pre .0 .4, λ W s S. refill-start _ counted _)
+loop-holds c = (omega arith, start-from-places-of c .pre .0 .4, λ W s S. refill-start _ cappedCount _)
 
 record-at-requires : tie.Need-record-at-requires Inv-loop μ-loop
 record-at-requires c κs = search needs

@@ -5,9 +5,9 @@ use mathlib.Core.Logic.{inl, inr}
 use Prim.Native.Nat.{ℕ}
 use Rattle.leaves.specs.Tallies.{possibleIn, countBy}
 use Rattle.leaves.proofs.Rows.{totalOf, count-rows, sum-row, part-row}
-use Rattle.held.specs.Kinds.{ownOf, usesA, usesB, countOf}
-use Rattle.held.proofs.Columns.{by-kind}
-use Rattle.held.proofs.Entries.{fields}
+use Rattle.remaining.specs.Kinds.{ownOf, usesA, usesB, countOf}
+use Rattle.remaining.proofs.Columns.{by-kind}
+use Rattle.remaining.proofs.Entries.{fields}
 use borrow.Author.Needs.{needs}
 use Rattle.leaves.proofs.total_at.Statement.{statement}
 use Rattle.leaves.proofs.total_at.Tie as tie

@@ -2,8 +2,8 @@
 use mathlib.Core.Path.{_≡_, refl}
 use mathlib.Core.Bool.{false}
 use Prim.Native.Nat.{ℕ}
-use Rattle.held.specs.Kinds.{usesA}
-use Rattle.held.proofs.Columns.{by-kind}
+use Rattle.remaining.specs.Kinds.{usesA}
+use Rattle.remaining.proofs.Columns.{by-kind}
 use Rattle.leaves.proofs.uses_first.Statement.{statement}
 use Rattle.leaves.proofs.uses_first.Tie as tie
 

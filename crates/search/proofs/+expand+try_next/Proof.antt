@@ -10,14 +10,14 @@ use native.Mathlib.Omega.{arith}
 use borrow.Author.Tests.{not-true, not-false}
 use borrow.Author.Needs.{needs}
 use lib.ListN.{length}
-use Rattle.golog.specs.Steps.{isNone}
+use Rattle.golog.specs.Transitions.{isNone}
 use Rattle.engine.specs.Frames.{Of}
 use Rattle.engine.specs.Going.{aheadOf}
-use Rattle.golog.specs.Steps.{Step}
+use Rattle.golog.specs.Transitions.{Transition}
 use Rattle.words.proofs.Written.{kept-trans}
 use Rattle.search.specs.Outcome.{Reported}
 use Rattle.engine.proofs.Frames.{in-frame}
-use Rattle.search.specs.Searching.{Going, Tries, Leaves, Expanded, branchesAt, withCursor}
+use Rattle.search.specs.Searching.{Going, Tries, Preserves, Expanded, branchesAt, withCursor}
 use Rattle.search.proofs.Coded.{code-bound}
 use Rattle.search.specs.declared.Outcome.{Outcome}
 use Rattle.search.specs.declared.Visit.{Visit}
@@ -256,11 +256,11 @@ expand-returns t c =
     (at-refresh .refresh .last .0) (at-refresh .refresh .last .1 .0)
     (at-try-next .try-next .last .1 .1 .0) (at-try-next .try-next .last .1 .1 .1 .0) (at-try-next .try-next .result)) e (at-try-next .try-next .ensures .0) in
     let K =
-    subst (λ (v : Visit). Leaves s (at-loop .loop .work) (at-try-next .try-next .last .0) v (at-try-next .try-next .last .1 .1 .0) (at-try-next .try-next .last .1 .1 .1 .0)
+    subst (λ (v : Visit). Preserves s (at-loop .loop .work) (at-try-next .try-next .last .0) v (at-try-next .try-next .last .1 .1 .0) (at-try-next .try-next .last .1 .1 .1 .0)
     (at-try-next .try-next .last .1 .1 .1 .1 .0)
     (at-try-next .try-next .last .1 .1 .1 .1 .1 .0)) e (at-try-next .try-next .ensures .1) in
     let trace = now (at-start .args .trace) in (
-      λ h. subst (λ (l : List Step). Reported (q .n) (q .d) trace (at-try-next .try-next .last .1 .0) (at-try-next .try-next .result .outcome) (branchesAt s moves (at-start .args .t) q l))
+      λ h. subst (λ (l : List Transition). Reported (q .n) (q .d) trace (at-try-next .try-next .last .1 .0) (at-try-next .try-next .result .outcome) (branchesAt s moves (at-start .args .t) q l))
           (ahead-same g h)
           (plan-found trace g L (at-refresh .refresh .ensures) T some (sym (c .before .found .ensures) ∙ c .if2 .taken)),
       record { mine = K .mine; spare = K .spare; kept = kept-trans _ _ _ _ _ (L .leaves .kept) (K .kept) (omega arith) },
@@ -298,7 +298,7 @@ expand-loop-again t c =
     (at-refresh .refresh .last .0) (at-refresh .refresh .last .1 .0)
     (at-try-next .try-next .last .1 .1 .0) (at-try-next .try-next .last .1 .1 .1 .0) (at-try-next .try-next .result)) e (at-try-next .try-next .ensures .0) in
     let K =
-    subst (λ (v : Visit). Leaves s (at-loop .loop .work) (at-try-next .try-next .last .0) v (at-try-next .try-next .last .1 .1 .0) (at-try-next .try-next .last .1 .1 .1 .0)
+    subst (λ (v : Visit). Preserves s (at-loop .loop .work) (at-try-next .try-next .last .0) v (at-try-next .try-next .last .1 .1 .0) (at-try-next .try-next .last .1 .1 .1 .0)
     (at-try-next .try-next .last .1 .1 .1 .1 .0)
     (at-try-next .try-next .last .1 .1 .1 .1 .1 .0)) e (at-try-next .try-next .ensures .1) in
     let N = none-found (now (at-start .args .trace)) g L (at-refresh .refresh .ensures) T some (record { mine = K .mine; spare = K .spare; kept = K .kept })
@@ -349,7 +349,7 @@ expand-returns-2 t c =
     let L = at-loop .loop .inv .7 .1 in
     let trace = now (at-start .args .trace) in
     let none = sym (c .before .before .is-spent .ensures _ _ _ (L .listed)) ∙ not-false _ (c .before .if1 .left) in (
-      λ h. subst (λ (l : List Step). Reported (q .n) (q .d) trace (at-loop .loop .trace) (c .unfound .result)
+      λ h. subst (λ (l : List Transition). Reported (q .n) (q .d) trace (at-loop .loop .trace) (c .unfound .result)
           (branchesAt (now (at-start .args .s)) (now (at-start .args .moves)) (at-start .args .t) q l)) (ahead-same g h)
           (all-tried trace g L none (c .unfound .ensures)),
       L .leaves,

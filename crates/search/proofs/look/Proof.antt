@@ -7,9 +7,9 @@ use Prim.Native.Nat.{ℕ}
 use native.Mathlib.Omega.{arith}
 use Rattle.golog.specs.Prog.{Prog}
 use Rattle.runs.specs.Guide.{isNil}
-use Rattle.runs.specs.Outcome.{join, flagged}
+use Rattle.runs.specs.Bounded.{join, flagged}
 use Rattle.search.specs.Outcome.{Reported}
-use Rattle.search.specs.Searching.{Ready, visited, toMake, verdictAt, Looked}
+use Rattle.search.specs.Searching.{Ready, visited, toMake, verdictAt, LookedAt}
 use Rattle.search.specs.declared.Outcome.{Outcome}
 use Rattle.search.proofs.Looking.{over, at-last, at-bound, on-ward, ends-next}
 use borrow.Author.Needs.{needs}

@@ -11,7 +11,7 @@ use Rattle.golog.specs.declared.State.{State}
 use Rattle.demands.specs.Decoded.{firstOf, boundOf}
 use Rattle.engine.specs.Frames.{Frame}
 use Rattle.search.specs.Outcome.{Reported}
-use Rattle.search.specs.Searching.{Ready, outcomeOf}
+use Rattle.search.specs.Searching.{Ready, verdictFrom}
 use Rattle.search.specs.declared.Task.{Task}
 use Rattle.search.specs.declared.Visit.{Visit}
 use borrow.Author.Needs.{needs}
@@ -127,7 +127,7 @@ returns c =
     let Z = at-explore .explore .ensures .0 p R in
     let trace = now (at-start .args .trace) in
     let moves = now (at-start .args .moves) in
-    let X : State → ℕ → Type 0 = λ st n. Reported 0 0 trace (at-explore .explore .last .1 .0) (at-explore .explore .result) (outcomeOf s (at-start .args .free) n ((p, st), moves)) in (
+    let X : State → ℕ → Type 0 = λ st n. Reported 0 0 trace (at-explore .explore .last .1 .0) (at-explore .explore .result) (verdictFrom s (at-start .args .free) n ((p, st), moves)) in (
       subst (λ (n : ℕ). X (firstOf s .1) n) (sym e) (subst (λ (st : State). X st (l .d)) (at-initial-of .initial-of .ensures) Z),
       c .before .before .clear .ensures ∙ ap (λ (n : ℕ). replicate n 0) (at-explore .explore .ensures .1 ∙ at-put-first .put-first .ensures .1),
     )

@@ -2,8 +2,8 @@
 use mathlib.Core.Path.{_≡_, refl}
 use mathlib.Core.Bool.{false}
 use Prim.Native.Nat.{ℕ}
-use Rattle.held.specs.Kinds.{loops}
-use Rattle.held.proofs.Columns.{by-kind}
+use Rattle.remaining.specs.Kinds.{loops}
+use Rattle.remaining.proofs.Columns.{by-kind}
 use Rattle.steps.proofs.is_loop.Statement.{statement}
 use Rattle.steps.proofs.is_loop.Tie as tie
 

@@ -1,8 +1,8 @@
 -- In each arm the kind is known, so the column has one entry there; the kinds that no arm names stand at 0 or past it. Assumes nothing.
 use mathlib.Core.Path.{_≡_, refl}
 use Prim.Native.Nat.{ℕ}
-use Rattle.held.specs.Kinds.{tagB}
-use Rattle.held.proofs.Columns.{by-kind}
+use Rattle.remaining.specs.Kinds.{tagB}
+use Rattle.remaining.proofs.Columns.{by-kind}
 use Rattle.steps.proofs.tag_b.Statement.{statement}
 use Rattle.steps.proofs.tag_b.Tie as tie
 

@@ -5,18 +5,18 @@ use mathlib.Core.List.{List}
 use Rattle.records.specs.declared.Program.{Program}
 use Rattle.height.specs.Work.{levels}
 use Rattle.sheet.specs.Layout.{layoutOf}
-use Rattle.held.specs.Rest.{leaf}
-use Rattle.held.specs.Leaves.{Held}
-use Rattle.held.specs.Extended.{table, top}
+use Rattle.remaining.specs.Rest.{leaf}
+use Rattle.remaining.specs.Leaves.{Compact}
+use Rattle.remaining.specs.Extended.{extended, top}
 use Rattle.demands.specs.Decoded.{recordsOf, interruptsIn, initialOf}
 
 -- the sheet's records, and the four above them where there are interrupts
-abbrev pub heldRecords : List ℕ → ℕ → Program
-heldRecords s = table (interruptsIn s) (recordsOf s) (layoutOf s .p)
+abbrev pub extendedRecords : List ℕ → ℕ → Program
+extendedRecords s = extended (interruptsIn s) (recordsOf s) (layoutOf s .p)
 
 -- the first configuration
-abbrev pub heldFirst : List ℕ → Held
-heldFirst s = (leaf (top (interruptsIn s) (layoutOf s .p)), initialOf s)
+abbrev pub compactFirst : List ℕ → Compact
+compactFirst s = (leaf (top (interruptsIn s) (layoutOf s .p)), initialOf s)
 
 -- document 01's h, "the height, plus 2 if any record has kind 11"
 abbrev pub levelsOf : List ℕ → ℕ

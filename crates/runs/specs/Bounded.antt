@@ -5,14 +5,14 @@ use Prim.Native.Nat.{ℕ, zero, suc}
 use mathlib.Core.Bool.{Bool, true, false}
 use mathlib.Core.List.{List}
 use mathlib.Core.Option.{Option}
-use Rattle.runs.specs.Search.{Verdict, plan, nothing, more, orMore, tries, anyStep, unless}
-use Rattle.runs.specs.Guide.{movesG, finG}
+use Rattle.runs.specs.Search.{Verdict, plan, nothing, more, orMore, tries, anyTransition, unless}
+use Rattle.runs.specs.Guide.{guidedTransitions, guidedFinal}
 
-module _ {C : Type 0} (moves : C → List (Option ℕ × C)) (fin : C → Bool) (free : Bool) where
+module _ {C : Type 0} (transitions : C → List (Option ℕ × C)) (final : C → Bool) (free : Bool) where
   -- within k transitions from c, while the moves g are still to be made
-  abbrev pub outcome : ℕ → C × List ℕ → Verdict
-  outcome zero c = unless (finG fin c) (anyStep (moves (c .0)))
-  outcome (suc k) c = let r = tries (λ (d : C × List ℕ). outcome k d) (movesG free moves c) in unless (finG fin c) r
+  abbrev pub verdictWithin : ℕ → C × List ℕ → Verdict
+  verdictWithin zero c = unless (guidedFinal final c) (anyTransition (transitions (c .0)))
+  verdictWithin (suc k) c = let r = tries (λ (d : C × List ℕ). verdictWithin k d) (guidedTransitions free transitions c) in unless (guidedFinal final c) r
 
 -- a verdict on earlier transitions, then one on later ones: the first plan, else what the two say together
 abbrev pub join : Verdict → Verdict → Verdict

@@ -6,7 +6,7 @@ use mathlib.Core.List.{List·Memᴰ}
 use lib.Dec.{eqb}
 use Rattle.records.specs.declared.Program.{Program}
 use Rattle.height.specs.Height.{links, rise}
-use Rattle.golog.specs.Prog.{Prog, nil, seq, conc, prio, programOf}
+use Rattle.golog.specs.Prog.{Prog, nil, sequence, together, over, programOf}
 
 -- nothing (nil); a record; a construct by its kind, 3 sequence, 8 together, 9 over, with its two parts
 pub data Rest : Type 0 where
@@ -16,13 +16,13 @@ pub data Rest : Type 0 where
 
 -- a construct by its kind
 abbrev pub combine : ℕ → Prog → Prog → Prog
-combine tag a b = cond (eqb tag 3) (seq a b) (cond (eqb tag 8) (conc a b) (prio a b))
+combine tag a b = cond (eqb tag 3) (sequence a b) (cond (eqb tag 8) (together a b) (over a b))
 
 -- the program that it stands for, over the table p
-unfoldable pub full : (ℕ → Program) → Rest → Prog
-full p gone = nil
-full p (leaf i) = programOf p i
-full p (node tag l r) = combine tag (full p l) (full p r)
+unfoldable pub unfolded : (ℕ → Program) → Rest → Prog
+unfolded p gone = nil
+unfolded p (leaf i) = programOf p i
+unfolded p (node tag l r) = combine tag (unfolded p l) (unfolded p r)
 
 -- how many nodes hold it (document 01, "Work area": three words each)
 unfoldable pub nodes : Rest → ℕ
@@ -41,7 +41,7 @@ abbrev pub high : (ℕ → Program) → Rest → ℕ
 high p g = largest (rise p) g
 
 -- what it keeps to after n transitions from a record of height h (document 01's 1 + 2 × h × D)
-pub record Fits (p : ℕ → Program) (h n : ℕ) (g : Rest) : Type 0 where
+pub record WithinFigure (p : ℕ → Program) (h n : ℕ) (g : Rest) : Type 0 where
   pub size : nodes g ≤ 1 + 2 * h * n
   pub height : high p g ≤ h
 

@@ -11,16 +11,16 @@ use Rattle.records.specs.Table.{entryOf}
 use Rattle.golog.specs.declared.State.{State}
 use Rattle.golog.specs.World.{World, holds, possible, after}
 use Rattle.runs.specs.Guide.{only}
-use Rattle.golog.specs.Steps.{Step, isNone}
-use Rattle.held.specs.Rest.{Rest, gone, leaf, node, full}
-use Rattle.held.specs.Kinds.{finalOf, ownOf, usesA, usesB, tagA, loops, tagB}
+use Rattle.golog.specs.Transitions.{Transition, isNone}
+use Rattle.remaining.specs.Rest.{Rest, gone, leaf, node, unfolded}
+use Rattle.remaining.specs.Kinds.{finalOf, ownOf, usesA, usesB, tagA, loops, tagB}
 
 -- a transition: the move, none for a test, and what it leaves. The move gives the state
-abbrev pub Move : Type 0
-Move = Option ℕ × Rest
+abbrev pub RestTransition : Type 0
+RestTransition = Option ℕ × Rest
 
 -- the same move, leaving f of what it left
-abbrev pub onRest : (Rest → Rest) → Move → Move
+abbrev pub onRest : (Rest → Rest) → RestTransition → RestTransition
 onRest f x = (x .0, f (x .1))
 
 -- what a transition of a part leaves, in a construct with a record beside it
@@ -33,11 +33,11 @@ wrapB tag sibling g = cond (eqb tag 0) g (node tag (leaf sibling) g)
 -- one record in a state: whether it is final, and its transitions in listed order
 pub record Leaf : Type 0 where
   pub final : Bool
-  pub steps : List Move
+  pub transitions : List RestTransition
 
 -- kind 0, nil: what is read where a record names no lower one
 abbrev pub nilLeaf : Leaf
-nilLeaf = record { final = true; steps = [] }
+nilLeaf = record { final = true; transitions = [] }
 
 -- the move of a record's own transition: that of an act, none of a test
 abbrev pub ownMove : Program → Option ℕ
@@ -51,10 +51,10 @@ siblingA r i = cond (loops (r .kind)) i (r .b)
 unfoldable pub leafWith : World → State → Program → ℕ → (A B : Leaf) → Leaf
 leafWith W s r i A B = record {
   final = finalOf (r .kind) (A .final) (B .final) (holds W (r .c) s) (s .running);
-  steps =
+  transitions =
       only (ownOf (r .kind) (possible W (r .a) s) (holds W (r .a) s)) ((ownMove r, gone) ∷ [])
-      ++ (map (onRest (wrapA (tagA (r .kind)) (siblingA r i))) (only (usesA (r .kind) (holds W (r .c) s) (s .running)) (A .steps))
-      ++ map (onRest (wrapB (tagB (r .kind)) (r .a))) (only (usesB (r .kind) (A .final) (holds W (r .c) s) (isNone (A .steps))) (B .steps)));
+      ++ (map (onRest (wrapA (tagA (r .kind)) (siblingA r i))) (only (usesA (r .kind) (holds W (r .c) s) (s .running)) (A .transitions))
+      ++ map (onRest (wrapB (tagB (r .kind)) (r .a))) (only (usesB (r .kind) (A .final) (holds W (r .c) s) (isNone (A .transitions))) (B .transitions)));
 }
 
 -- record i of the table p, given the lower ones
@@ -80,24 +80,24 @@ abbrev pub wrapRight : (tag : ℕ) → (l g : Rest) → Rest
 wrapRight tag l g = cond (eqb tag 3) g (node tag l g)
 
 -- those of the left part, then those of the right one
-unfoldable pub restSteps : World → State → (ℕ → Program) → Rest → List Move
-restSteps W s p gone = []
-restSteps W s p (leaf i) = leafOf W s p i .steps
-restSteps W s p (node tag l r) =
-    map (onRest (λ (g : Rest). node tag g r)) (restSteps W s p l)
-    ++ map (onRest (wrapRight tag l)) (only (goesRight tag (restFinal W s p l) (isNone (restSteps W s p l))) (restSteps W s p r))
+unfoldable pub restTransitions : World → State → (ℕ → Program) → Rest → List RestTransition
+restTransitions W s p gone = []
+restTransitions W s p (leaf i) = leafOf W s p i .transitions
+restTransitions W s p (node tag l r) =
+    map (onRest (λ (g : Rest). node tag g r)) (restTransitions W s p l)
+    ++ map (onRest (wrapRight tag l)) (only (goesRight tag (restFinal W s p l) (isNone (restTransitions W s p l))) (restTransitions W s p r))
 
 -- document 01: "A configuration is a remaining program and the values", as it is held
-abbrev pub Held : Type 0
-Held = Rest × State
+abbrev pub Compact : Type 0
+Compact = Rest × State
 
 -- its transitions, and whether it is final
-abbrev pub movesHeld : World → (ℕ → Program) → Held → List (Option ℕ × Held)
-movesHeld W p c = map (λ (x : Move). (x .0, (x .1, after W (x .0) (c .1)))) (restSteps W (c .1) p (c .0))
+abbrev pub compactTransitions : World → (ℕ → Program) → Compact → List (Option ℕ × Compact)
+compactTransitions W p c = map (λ (x : RestTransition). (x .0, (x .1, after W (x .0) (c .1)))) (restTransitions W (c .1) p (c .0))
 
-abbrev pub finalHeld : World → (ℕ → Program) → Held → Bool
-finalHeld W p c = restFinal W (c .1) p (c .0)
+abbrev pub compactFinal : World → (ℕ → Program) → Compact → Bool
+compactFinal W p c = restFinal W (c .1) p (c .0)
 
 -- the transition that it stands for
-abbrev pub fullStep : (ℕ → Program) → Option ℕ × Held → Step
-fullStep p x = (x .0, (full p (x .1 .0), x .1 .1))
+abbrev pub unfoldedTransition : (ℕ → Program) → Option ℕ × Compact → Transition
+unfoldedTransition p x = (x .0, (unfolded p (x .1 .0), x .1 .1))

@@ -11,30 +11,30 @@ use native.Mathlib.Omega.{arith}
 use lib.ListN.{getD}
 use borrow.Author.Tests.{lt-ltb, le-ltb}
 use Rattle.records.specs.declared.Program.{Program}
-use Rattle.height.specs.Height.{links, over, heightAt, rise}
+use Rattle.height.specs.Height.{links, heightOver, heightAt, rise}
 use Rattle.height.proofs.Paths.{Lower, above, rise-above}
-use Rattle.golog.specs.Prog.{nil, seq, prio, construct, progAt, programOf, started}
-use Rattle.held.specs.Rest.{leaf, full, AllLower}
-use Rattle.held.specs.Extended.{empty, virtual, table, top}
-use Rattle.held.proofs.Entries.{entry-same, program-step}
+use Rattle.golog.specs.Prog.{nil, sequence, over, construct, progAt, programOf, started}
+use Rattle.remaining.specs.Rest.{leaf, unfolded, AllLower}
+use Rattle.remaining.specs.Extended.{empty, virtual, extended, top}
+use Rattle.remaining.proofs.Entries.{entry-same, program-step}
 
 module _ (b : Bool) (p : ℕ → Program) (n : ℕ) where
-  pub table-below : (i : ℕ) → i < n → table b p n i ≡ p i
-  unfolding table
+  pub table-below : (i : ℕ) → i < n → extended b p n i ≡ p i
+  unfolding extended
   table-below i h = simp (lt-ltb i n h)
 
-  pub table-above : (k : ℕ) → table b p n (n + k) ≡ getD (virtual b n) k empty
-  unfolding table
+  pub table-above : (k : ℕ) → extended b p n (n + k) ≡ getD (virtual b n) k empty
+  unfolding extended
   table-above k = let e : n + k - n ≡ k = omega arith in simp (le-ltb (n + k) n (omega arith), e)
 
   -- the records of the sheet unfold as before, and have their heights
-  pub program-below : (i : ℕ) → i < n → programOf (table b p n) i ≡ programOf p i
+  pub program-below : (i : ℕ) → i < n → programOf (extended b p n) i ≡ programOf p i
   unfolding programOf
-  program-below i h = entry-same nil (progAt (table b p n)) (progAt p) i (λ j k l. ap (λ (r : Program). construct r (getD l (r .a) nil) (getD l (r .b) nil)) (table-below j (omega arith)))
+  program-below i h = entry-same nil (progAt (extended b p n)) (progAt p) i (λ j k l. ap (λ (r : Program). construct r (getD l (r .a) nil) (getD l (r .b) nil)) (table-below j (omega arith)))
 
-  pub rise-below : (i : ℕ) → i < n → rise (table b p n) i ≡ rise p i
+  pub rise-below : (i : ℕ) → i < n → rise (extended b p n) i ≡ rise p i
   unfolding rise heightAt
-  rise-below i h = entry-same 0 (heightAt (table b p n)) (heightAt p) i (λ j k l. ap (λ (r : Program). over l (links r)) (table-below j (omega arith)))
+  rise-below i h = entry-same 0 (heightAt (extended b p n)) (heightAt p) i (λ j k l. ap (λ (r : Program). heightOver l (links r)) (table-below j (omega arith)))
 
 -- what the four records name is lower
 pair-lower : (m x y a : ℕ) → x < m → y < m → List·Memᴰ a (x ∷ y ∷ []) → a < m
@@ -51,7 +51,7 @@ virtual-lower true n (suc (suc (suc (suc k)))) a h = absurd (List·Memᴰ·not-n
 
 module _ (b : Bool) (p : ℕ → Program) (n : ℕ) (low : Lower p n) where
   -- so every record of the table names lower ones
-  pub table-lower : AllLower (table b p n)
+  pub table-lower : AllLower (extended b p n)
   table-lower i a h = go (decLt i n)
     where
       go : Dec (i < n) → a < i
@@ -59,27 +59,27 @@ module _ (b : Bool) (p : ℕ → Program) (n : ℕ) (low : Lower p n) where
       go (no l) =
           let k : ℕ = i - n in
           let e : i ≡ n + k = omega arith in
-          let m : List·Memᴰ a (links (getD (virtual b n) k empty)) = subst (λ (r : Program). List·Memᴰ a (links r)) (ap (table b p n) e ∙ table-above b p n k) h in
+          let m : List·Memᴰ a (links (getD (virtual b n) k empty)) = subst (λ (r : Program). List·Memᴰ a (links r)) (ap (extended b p n) e ∙ table-above b p n k) h in
           omega (arith, virtual-lower b n k a m)
 
-  program-above : (k : ℕ) → let r = getD (virtual b n) k empty in programOf (table b p n) (n + k) ≡ construct r (programOf (table b p n) (r .a)) (programOf (table b p n) (r .b))
-  program-above k = program-step (table b p n) table-lower (n + k) ∙ ap (λ (r : Program). construct r (programOf (table b p n) (r .a)) (programOf (table b p n) (r .b))) (table-above b p n k)
+  program-above : (k : ℕ) → let r = getD (virtual b n) k empty in programOf (extended b p n) (n + k) ≡ construct r (programOf (extended b p n) (r .a)) (programOf (extended b p n) (r .b))
+  program-above k = program-step (extended b p n) table-lower (n + k) ∙ ap (λ (r : Program). construct r (programOf (extended b p n) (r .a)) (programOf (extended b p n) (r .b))) (table-above b p n k)
 
 module _ (p : ℕ → Program) (n : ℕ) (low : Lower p n) (some-record : 1 ≤ n) where
   -- what runs, as one record
-  pub top-started : (b : Bool) → full (table b p n) (leaf (top b n)) ≡ started b (programOf p (n - 1))
-  unfolding full construct
+  pub top-started : (b : Bool) → unfolded (extended b p n) (leaf (top b n)) ≡ started b (programOf p (n - 1))
+  unfolding unfolded construct
   top-started true =
       program-above true p n low 3
-      ∙ ap₂ seq (ap (programOf (table true p n)) (sym (add-zero n)) ∙ program-above true p n low 0)
-      (program-above true p n low 2 ∙ ap₂ prio (program-below true p n (n - 1) (omega arith)) (program-above true p n low 1))
+      ∙ ap₂ sequence (ap (programOf (extended true p n)) (sym (add-zero n)) ∙ program-above true p n low 0)
+      (program-above true p n low 2 ∙ ap₂ over (program-below true p n (n - 1) (omega arith)) (program-above true p n low 1))
   top-started false = program-below false p n (n - 1) (omega arith)
 
   -- its height: two levels above the root's where there are interrupts
-  pub top-rise : (b : Bool) → rise (table b p n) (top b n) ≡ rise p (n - 1) + cond b 2 0
+  pub top-rise : (b : Bool) → rise (extended b p n) (top b n) ≡ rise p (n - 1) + cond b 2 0
   unfolding links above
   top-rise true =
-      let t : ℕ → Program = table true p n in
+      let t : ℕ → Program = extended true p n in
       let at : (k : ℕ) → rise t (n + k) ≡ above (rise t) (links (getD (virtual true n) k empty)) =
       λ k. rise-above t (suc (n + k)) (λ j a l. table-lower true p n low j a) (n + k) (omega arith) ∙ ap (λ (r : Program). above (rise t) (links r)) (table-above true p n k) in
       omega (arith, ap (rise t) (add-zero n), at 0, at 1, at 2, at 3, rise-below true p n (n - 1) (omega arith))

@@ -14,34 +14,34 @@ use Rattle.height.specs.Height.{hasTwo, rise}
 use Rattle.golog.specs.declared.State.{State}
 use Rattle.golog.specs.World.{World, holds, possible}
 use Rattle.runs.specs.Guide.{only}
-use Rattle.golog.specs.Steps.{isNone}
-use Rattle.held.specs.Rest.{Rest, gone, leaf, node, nodes, largest, high, AllLower}
-use Rattle.held.specs.Kinds.{ownOf, usesA, usesB, countOf}
-use Rattle.held.specs.Leaves.{Move, Leaf, nilLeaf, leafWith, leafAt, leafOf, goesRight, restFinal, restSteps}
-use Rattle.held.proofs.Columns.{by-kind}
-use Rattle.held.proofs.Entries.{entry-rule, hasA, lower-a, lower-b, rise-a, rise-b}
+use Rattle.golog.specs.Transitions.{isNone}
+use Rattle.remaining.specs.Rest.{Rest, gone, leaf, node, nodes, largest, high, AllLower}
+use Rattle.remaining.specs.Kinds.{ownOf, usesA, usesB, countOf}
+use Rattle.remaining.specs.Leaves.{RestTransition, Leaf, nilLeaf, leafWith, leafAt, leafOf, goesRight, restFinal, restTransitions}
+use Rattle.remaining.proofs.Columns.{by-kind}
+use Rattle.remaining.proofs.Entries.{entry-rule, hasA, lower-a, lower-b, rise-a, rise-b}
 
-only-length : (b : Bool) (xs : List Move) → length (only b xs) ≡ cond b (length xs) 0
+only-length : (b : Bool) (xs : List RestTransition) → length (only b xs) ≡ cond b (length xs) 0
 only-length true xs = refl
 only-length false xs = refl
 
 -- a list is empty where its length is 0
-pub none-length : (xs : List Move) → isNone xs ≡ eqb (length xs) 0
+pub none-length : (xs : List RestTransition) → isNone xs ≡ eqb (length xs) 0
 none-length [] = refl
 none-length (x ∷ xs) = sym (ne-eqb (suc (length xs)) 0 (λ e. omega arith))
 
 -- the transitions of a record, counted
 pub leaf-count : (W : World) (s : State) (r : Program) (i : ℕ) (A B : Leaf)
-    → length (leafWith W s r i A B .steps)
-    ≡ countOf (r .kind) (possible W (r .a) s) (holds W (r .a) s) (A .final) (holds W (r .c) s) (s .running) (length (A .steps)) (length (B .steps))
+    → length (leafWith W s r i A B .transitions)
+    ≡ countOf (r .kind) (possible W (r .a) s) (holds W (r .a) s) (A .final) (holds W (r .c) s) (s .running) (length (A .transitions)) (length (B .transitions))
 unfolding leafWith countOf
 leaf-count W s r i A B = simp (length-append, length-map, only-length, none-length)
 
 -- those of a node
 pub node-count : (W : World) (s : State) (p : ℕ → Program) (tag : ℕ) (l r : Rest)
-    → length (restSteps W s p (node tag l r))
-    ≡ length (restSteps W s p l) + cond (goesRight tag (restFinal W s p l) (eqb (length (restSteps W s p l)) 0)) (length (restSteps W s p r)) 0
-unfolding restSteps
+    → length (restTransitions W s p (node tag l r))
+    ≡ length (restTransitions W s p l) + cond (goesRight tag (restFinal W s p l) (eqb (length (restTransitions W s p l)) 0)) (length (restTransitions W s p r)) 0
+unfolding restTransitions
 node-count W s p tag l r = simp (length-append, length-map, only-length, none-length)
 
 -- counting up to M, what is cut in the parts is cut in the whole
@@ -77,10 +77,10 @@ doubled m kind can held fa h running ca cb l =
     (λ p q. omega (arith, p tt)) (λ p q. omega (arith, p tt, part (running && h) ca)) (λ k p q. omega arith) kind
 
 -- a record of height h has at most 2 ^ h transitions
-pub leaf-few : (W : World) (s : State) (p : ℕ → Program) → AllLower p → (i : ℕ) → length (leafOf W s p i .steps) ≤ 2 ^ rise p i
+pub leaf-few : (W : World) (s : State) (p : ℕ → Program) → AllLower p → (i : ℕ) → length (leafOf W s p i .transitions) ≤ 2 ^ rise p i
 unfolding leafOf
 leaf-few W s p low =
-    entry-rule nilLeaf (leafAt W s p) (λ (i : ℕ) (x : Leaf). length (x .steps) ≤ 2 ^ rise p i)
+    entry-rule nilLeaf (leafAt W s p) (λ (i : ℕ) (x : Leaf). length (x .transitions) ≤ 2 ^ rise p i)
     (λ i lower h.
     rw (leaf-count W s (p i) i _ _)
     (doubled (2 ^ rise p i) (p i .kind) _ _ _ _ _ _ _ (one-le-pow (rise p i) 2 (omega arith))
@@ -91,8 +91,8 @@ leaf-few W s p low =
     twice i a l k h = let u : 2 ^ suc (rise p a) ≤ 2 ^ rise p i = pow-le-pow-right (omega arith) l in omega (arith, pow-succ' 2 (rise p a))
 
 -- a tree, as many for each node
-pub rest-few : (W : World) (s : State) (p : ℕ → Program) → AllLower p → (g : Rest) → length (restSteps W s p g) ≤ nodes g * 2 ^ high p g
-unfolding restSteps nodes largest
+pub rest-few : (W : World) (s : State) (p : ℕ → Program) → AllLower p → (g : Rest) → length (restTransitions W s p g) ≤ nodes g * 2 ^ high p g
+unfolding restTransitions nodes largest
 rest-few W s p low gone = omega arith
 rest-few W s p low (leaf i) = omega (arith, leaf-few W s p low i, one-mul (2 ^ rise p i))
 rest-few W s p low (node tag l r) =
@@ -101,7 +101,7 @@ rest-few W s p low (node tag l r) =
     omega (
       arith,
       node-count W s p tag l r,
-      part (goesRight tag (restFinal W s p l) (eqb (length (restSteps W s p l)) 0)) (length (restSteps W s p r)),
+      part (goesRight tag (restFinal W s p l) (eqb (length (restTransitions W s p l)) 0)) (length (restTransitions W s p r)),
       rest-few W s p low l,
       rest-few W s p low r,
       grown (high p l) (omega arith) (nodes l),

@@ -11,34 +11,34 @@ use Rattle.height.specs.Height.{hasTwo}
 use Rattle.golog.specs.declared.State.{State}
 use Rattle.golog.specs.World.{World, holds, possible}
 use Rattle.runs.specs.Guide.{only}
-use Rattle.held.specs.Rest.{Rest, gone, AllLower}
-use Rattle.held.specs.Kinds.{ownOf, usesA, usesB, tagA, loops, tagB}
-use Rattle.held.specs.Leaves.{Move, onRest, wrapA, wrapB, Leaf, nilLeaf, ownMove, siblingA, leafWith, leafAt, leafOf}
-use Rattle.held.proofs.Columns.{by-kind}
-use Rattle.held.proofs.Entries.{entry-rule, hasA, lower-a, lower-b}
+use Rattle.remaining.specs.Rest.{Rest, gone, AllLower}
+use Rattle.remaining.specs.Kinds.{ownOf, usesA, usesB, tagA, loops, tagB}
+use Rattle.remaining.specs.Leaves.{RestTransition, onRest, wrapA, wrapB, Leaf, nilLeaf, ownMove, siblingA, leafWith, leafAt, leafOf}
+use Rattle.remaining.proofs.Columns.{by-kind}
+use Rattle.remaining.proofs.Entries.{entry-rule, hasA, lower-a, lower-b}
 
 -- all transitions of a list have P
-pub data Every (P : Move → Type 0) : List Move → Type 0 where
+pub data Every (P : RestTransition → Type 0) : List RestTransition → Type 0 where
   nobody : Every P []
-  also : {x : Move} {xs : List Move} → P x → Every P xs → Every P (x ∷ xs)
+  also : {x : RestTransition} {xs : List RestTransition} → P x → Every P xs → Every P (x ∷ xs)
 
-pub every-append : {P : Move → Type 0} {xs ys : List Move} → Every P xs → Every P ys → Every P (xs ++ ys)
+pub every-append : {P : RestTransition → Type 0} {xs ys : List RestTransition} → Every P xs → Every P ys → Every P (xs ++ ys)
 every-append nobody q = q
 every-append (also a p) q = also a (every-append p q)
 
-pub every-only : {P : Move → Type 0} {xs : List Move} (b : Bool) → Every P xs → Every P (only b xs)
+pub every-only : {P : RestTransition → Type 0} {xs : List RestTransition} (b : Bool) → Every P xs → Every P (only b xs)
 every-only true p = p
 every-only false p = nobody
 
-pub every-map : {P Q : Move → Type 0} {xs : List Move} (f : Rest → Rest) → ((x : Move) → P x → Q (onRest f x)) → Every P xs → Every Q (map (onRest f) xs)
+pub every-map : {P Q : RestTransition → Type 0} {xs : List RestTransition} (f : Rest → Rest) → ((x : RestTransition) → P x → Q (onRest f x)) → Every P xs → Every Q (map (onRest f) xs)
 every-map f h nobody = nobody
 every-map f h (also {x = x} a p) = also (h x a) (every-map f h p)
 
-pub every-part : {P Q : Move → Type 0} {xs : List Move} (b : Bool) (f : Rest → Rest) → (T b → (x : Move) → P x → Q (onRest f x)) → (T b → Every P xs) → Every Q (map (onRest f) (only b xs))
+pub every-part : {P Q : RestTransition → Type 0} {xs : List RestTransition} (b : Bool) (f : Rest → Rest) → (T b → (x : RestTransition) → P x → Q (onRest f x)) → (T b → Every P xs) → Every Q (map (onRest f) (only b xs))
 every-part true f h k = every-map f (h tt) (k tt)
 every-part false f h k = nobody
 
-pub every-at : {P : Move → Type 0} {xs : List Move} {y : Move} → Every P xs → List·Memᴰ y xs → P y
+pub every-at : {P : RestTransition → Type 0} {xs : List RestTransition} {y : RestTransition} → Every P xs → List·Memᴰ y xs → P y
 every-at nobody k = absurd (List·Memᴰ·not-nil k)
 every-at {P} (also a p) k = ⊎-elim (λ e. subst P (sym e) a) (λ k. every-at p k) (List·Memᴰ·cases-cons k)
 
@@ -60,13 +60,13 @@ pub has-sibling : (kind : ℕ) → T (eqb (tagA kind) 0 || (loops kind || hasTwo
 unfolding tagA loops
 has-sibling = by-kind (λ (kind : ℕ). T (eqb (tagA kind) 0 || (loops kind || hasTwo kind))) tt tt tt tt tt tt tt tt tt tt tt tt (λ k. tt)
 
-module _ (W : World) (s : State) (p : ℕ → Program) (low : AllLower p) (R : ℕ → Move → Type 0) (own : (i : ℕ) → R i (ownMove (p i), gone))
-    (by-a : (i : ℕ) (x : Move) → T (hasA (p i .kind)) → R (p i .a) x → R i (onRest (wrapA (tagA (p i .kind)) (siblingA (p i) i)) x))
-    (by-b : (i : ℕ) (x : Move) → T (hasTwo (p i .kind)) → R (p i .b) x → R i (onRest (wrapB (tagB (p i .kind)) (p i .a)) x)) where
-  pub leaf-every : (i : ℕ) → Every (R i) (leafOf W s p i .steps)
+module _ (W : World) (s : State) (p : ℕ → Program) (low : AllLower p) (R : ℕ → RestTransition → Type 0) (own : (i : ℕ) → R i (ownMove (p i), gone))
+    (by-a : (i : ℕ) (x : RestTransition) → T (hasA (p i .kind)) → R (p i .a) x → R i (onRest (wrapA (tagA (p i .kind)) (siblingA (p i) i)) x))
+    (by-b : (i : ℕ) (x : RestTransition) → T (hasTwo (p i .kind)) → R (p i .b) x → R i (onRest (wrapB (tagB (p i .kind)) (p i .a)) x)) where
+  pub leaf-every : (i : ℕ) → Every (R i) (leafOf W s p i .transitions)
   unfolding leafOf leafWith
   leaf-every =
-      entry-rule nilLeaf (leafAt W s p) (λ (i : ℕ) (x : Leaf). Every (R i) (x .steps))
+      entry-rule nilLeaf (leafAt W s p) (λ (i : ℕ) (x : Leaf). Every (R i) (x .transitions))
       (λ i lower h.
       every-append (every-only (ownOf (p i .kind) (possible W (p i .a) s) (holds W (p i .a) s)) (also (own i) nobody))
       (every-append

@@ -12,41 +12,41 @@ use Rattle.sheet.specs.Layout.{layoutOf}
 use Rattle.sheet.specs.Check.{Accepts}
 use Rattle.sheet.proofs.Accepted.{laid}
 use Rattle.sheet.proofs.Lower.{lower}
-use Rattle.golog.specs.Steps.{Config}
-use Rattle.held.specs.Rest.{leaf, full, nodes, AllLower}
-use Rattle.held.specs.Leaves.{Held}
-use Rattle.held.specs.Extended.{table, top}
-use Rattle.held.proofs.Started.{table-lower, top-started, top-rise}
-use Rattle.held.proofs.Nodes.{Reaches, reached-nodes}
+use Rattle.golog.specs.Transitions.{Configuration}
+use Rattle.remaining.specs.Rest.{leaf, unfolded, nodes, AllLower}
+use Rattle.remaining.specs.Leaves.{Compact}
+use Rattle.remaining.specs.Extended.{extended, top}
+use Rattle.remaining.proofs.Started.{table-lower, top-started, top-rise}
+use Rattle.remaining.proofs.Nodes.{Reaches, reached-nodes}
 use Rattle.demands.specs.Decoded.{worldOf, recordsOf, interruptsIn, initialOf, firstOf, boundOf}
-use Rattle.demands.specs.Held.{heldRecords, heldFirst, levelsOf}
+use Rattle.demands.specs.Compact.{extendedRecords, compactFirst, levelsOf}
 
 -- the configuration that a held one stands for
-abbrev pub fullOf : (ℕ → Program) → Held → Config
-fullOf p c = (full p (c .0), c .1)
+abbrev pub fullOf : (ℕ → Program) → Compact → Configuration
+fullOf p c = (unfolded p (c .0), c .1)
 
 module _ (s : List ℕ) (accepted : Accepts s) where
-  pub all-lower : AllLower (heldRecords s)
+  pub all-lower : AllLower (extendedRecords s)
   all-lower = table-lower (interruptsIn s) (recordsOf s) (layoutOf s .p) (lower s accepted)
 
   some-record : 1 ≤ layoutOf s .p
   some-record = laid s accepted .some-record
 
-  pub starts : fullOf (heldRecords s) (heldFirst s) ≡ firstOf s
+  pub starts : fullOf (extendedRecords s) (compactFirst s) ≡ firstOf s
   starts = λ i. (top-started (recordsOf s) (layoutOf s .p) (lower s accepted) some-record (interruptsIn s) i, initialOf s)
 
   -- document 01's h is the height of the record that runs
-  pub top-levels : rise (heldRecords s) (top (interruptsIn s) (layoutOf s .p)) ≡ levelsOf s
+  pub top-levels : rise (extendedRecords s) (top (interruptsIn s) (layoutOf s .p)) ≡ levelsOf s
   unfolding levels
   top-levels = top-rise (recordsOf s) (layoutOf s .p) (lower s accepted) some-record (interruptsIn s)
 
   -- after n transitions, at most D, a held program and a header of 64 words fit one frame: document 01's figure is enough
   pub frame-enough :
-      (n : ℕ) (d : Held)
+      (n : ℕ) (d : Compact)
       → n ≤ boundOf s
-      → Reaches (worldOf s) (heldRecords s) n (heldFirst s) d
+      → Reaches (worldOf s) (extendedRecords s) n (compactFirst s) d
       → 64 + 3 * nodes (d .0) ≤ frameWords (levelsOf s) (boundOf s)
   frame-enough n d l r =
       let h = levelsOf s in
-      let e = subst (λ (k : ℕ). nodes (d .0) ≤ 1 + 2 * k * n) top-levels (reached-nodes (worldOf s) (heldRecords s) all-lower _ n (initialOf s) d r) in
+      let e = subst (λ (k : ℕ). nodes (d .0) ≤ 1 + 2 * k * n) top-levels (reached-nodes (worldOf s) (extendedRecords s) all-lower _ n (initialOf s) d r) in
       omega (arith, e, mul-le-mul {n₁ = 2 * h} {m₁ = n} {n₂ = 2 * h} {m₂ = boundOf s} (omega arith) l)

@@ -11,14 +11,14 @@ use Rattle.records.specs.Table.{upTo, entryOf}
 use Rattle.records.proofs.Fills.{up-at, entry-is}
 use Rattle.height.specs.Height.{hasTwo, hasOne, links, rise}
 use Rattle.height.proofs.Paths.{rise-less}
-use Rattle.golog.specs.Prog.{Prog, seq, alt, conc, prio, star, iter, ite, while, intr, construct, programOf}
+use Rattle.golog.specs.Prog.{Prog, sequence, choice, together, over, star, iteration, ifThenElse, while, interrupt, construct, programOf}
 use Rattle.golog.proofs.Truths.{program-at, program-is}
 use Rattle.golog.specs.declared.State.{State}
 use Rattle.golog.specs.World.{World}
-use Rattle.held.specs.Rest.{AllLower}
-use Rattle.held.specs.Kinds.{finalOf, usesA, usesB}
-use Rattle.held.specs.Leaves.{Leaf, nilLeaf, leafWith, leafAt, leafOf}
-use Rattle.held.proofs.Columns.{by-kind}
+use Rattle.remaining.specs.Rest.{AllLower}
+use Rattle.remaining.specs.Kinds.{finalOf, usesA, usesB}
+use Rattle.remaining.specs.Leaves.{Leaf, nilLeaf, leafWith, leafAt, leafOf}
+use Rattle.remaining.proofs.Columns.{by-kind}
 
 -- what each entry has, given that the lower ones have it, every entry has
 pub entry-rule : {A : Type 0} (z : A) (f : ℕ → List A → A) (Q : ℕ → A → Type 0)
@@ -93,9 +93,9 @@ construct-same : (kind a b c : ℕ) (P P′ Q Q′ : Prog) → (T (hasA kind) �
 unfolding construct
 construct-same kind a b c P P′ Q Q′ =
     by-kind (λ (kind : ℕ). (T (hasA kind) → P ≡ P′) → (T (hasTwo kind) → Q ≡ Q′) → construct (fields kind a b c) P Q ≡ construct (fields kind a b c) P′ Q′)
-    (λ p q. refl) (λ p q. refl) (λ p q. refl) (λ p q. ap₂ seq (p tt) (q tt)) (λ p q. ap₂ alt (p tt) (q tt)) (λ p q. ap star (p tt))
-    (λ p q. ap₂ (ite c) (p tt) (q tt)) (λ p q. ap (while c) (p tt)) (λ p q. ap₂ conc (p tt) (q tt)) (λ p q. ap₂ prio (p tt) (q tt))
-    (λ p q. ap iter (p tt)) (λ p q. ap (intr c) (p tt)) (λ k p q. refl) kind
+    (λ p q. refl) (λ p q. refl) (λ p q. refl) (λ p q. ap₂ sequence (p tt) (q tt)) (λ p q. ap₂ choice (p tt) (q tt)) (λ p q. ap star (p tt))
+    (λ p q. ap₂ (ifThenElse c) (p tt) (q tt)) (λ p q. ap (while c) (p tt)) (λ p q. ap₂ together (p tt) (q tt)) (λ p q. ap₂ over (p tt) (q tt))
+    (λ p q. ap iteration (p tt)) (λ p q. ap (interrupt c) (p tt)) (λ k p q. refl) kind
 
 -- the program of a record is made of those of the records that it names
 pub program-step : (p : ℕ → Program) → AllLower p → (i : ℕ) → programOf p i ≡ construct (p i) (programOf p (p i .a)) (programOf p (p i .b))

@@ -23,8 +23,8 @@ virtual true n =
 virtual false n = []
 
 -- the first n records of p, and then those; none beyond
-unfoldable pub table : (interrupts : Bool) → (ℕ → Program) → (n : ℕ) → ℕ → Program
-table interrupts p n i = cond (ltb i n) (p i) (getD (virtual interrupts n) (i - n) empty)
+unfoldable pub extended : (interrupts : Bool) → (ℕ → Program) → (n : ℕ) → ℕ → Program
+extended interrupts p n i = cond (ltb i n) (p i) (getD (virtual interrupts n) (i - n) empty)
 
 -- the record that runs
 abbrev pub top : (interrupts : Bool) → (n : ℕ) → ℕ

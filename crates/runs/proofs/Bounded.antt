@@ -1,0 +1,114 @@
+-- The search over frames serves planning and replay: with a free guide and no moves it is the plain search, and with a closed guide
+-- what it says at the bound does not matter, since no plan comes of it. Assumes nothing.
+use Prim.Native.Nat.{ℕ, zero, suc}
+use mathlib.Core.Bool.{Bool, true, false, _&&_, _||_}
+use mathlib.Core.List.{List, [], _∷_, _++_, List·Memᴰ, List·Memᴰ·head, List·Memᴰ·tail}
+use mathlib.Core.Option.{Option, none, some}
+use mathlib.Core.Path.{_≡_, refl, sym, _∙_, ap, ap₂}
+use lib.Dec.{eqb}
+use Rattle.runs.specs.Search.{Verdict, plan, nothing, more, isPlan, before, tries, anyTransition, unless, search}
+use Rattle.runs.specs.Guide.{isNil, only, follow1, follow, guidedTransitions, guidedFinal, accepts}
+use Rattle.runs.specs.Bounded.{verdictWithin, join}
+
+-- the verdict on two rows of transitions, one after the other
+before-join : (m : Option ℕ) (v r t : Verdict) → before m v (join r t) ≡ join (before m v r) t
+before-join m (plan h u) r t = refl
+before-join m nothing r t = refl
+before-join m more (plan h u) t = refl
+before-join m more nothing t = refl
+before-join m more more (plan h u) = refl
+before-join m more more nothing = refl
+before-join m more more more = refl
+
+module _ {C : Type 0} where
+  pub tries-append : (f : C → Verdict) (xs ys : List (Option ℕ × C)) → tries f (xs ++ ys) ≡ join (tries f xs) (tries f ys)
+  tries-append f [] ys = refl
+  tries-append f (x ∷ xs) ys =
+      ap (before (x .0) (f (x .1))) (tries-append f xs ys) ∙ before-join (x .0) (f (x .1)) (tries f xs) (tries f ys)
+
+  tries-free : (f : C × List ℕ → Verdict) (g : C → Verdict) → ((d : C) → f (d, []) ≡ g d) → (xs : List (Option ℕ × C)) → tries f (follow true [] xs) ≡ tries g xs
+  tries-free f g e [] = refl
+  tries-free f g e ((none, d) ∷ xs) = ap₂ (before none) (e d) (tries-free f g e xs)
+  tries-free f g e ((some a, d) ∷ xs) = ap₂ (before (some a)) (e d) (tries-free f g e xs)
+
+  -- planning
+  pub outcome-free :
+      (transitions : C → List (Option ℕ × C)) (final : C → Bool) (k : ℕ) (c : C) → verdictWithin transitions final true k (c, []) ≡ search transitions final k c
+  outcome-free transitions final zero c = refl
+  outcome-free transitions final (suc k) c =
+      ap (unless (final c))
+      (tries-free (λ (d : C × List ℕ). verdictWithin transitions final true k d) (λ (d : C). search transitions final k d) (λ d. outcome-free transitions final k d) (transitions c))
+
+-- whether there is a plan among two rows
+plan-before : (m : Option ℕ) (v r : Verdict) → isPlan (before m v r) ≡ (isPlan v || isPlan r)
+plan-before m (plan h t) r = refl
+plan-before m nothing r = refl
+plan-before m more (plan h t) = refl
+plan-before m more nothing = refl
+plan-before m more more = refl
+
+plan-join : (v w : Verdict) → isPlan v ≡ false → isPlan w ≡ false → isPlan (join v w) ≡ false
+plan-join (plan h t) w e f = e
+plan-join nothing w e f = f
+plan-join more (plan h t) e f = f
+plan-join more nothing e f = refl
+plan-join more more e f = refl
+
+pub plan-any : {C : Type 0} (xs : List (Option ℕ × C)) → isPlan (anyTransition xs) ≡ false
+plan-any [] = refl
+plan-any (x ∷ xs) = refl
+
+plan-unless : (b : Bool) (v w : Verdict) → isPlan v ≡ isPlan w → isPlan (unless b v) ≡ isPlan (unless b w)
+plan-unless true v w e = refl
+plan-unless false v w e = e
+
+module _ {C : Type 0} (transitions : C → List (Option ℕ × C)) (final : C → Bool) (free : Bool) where
+  plan-tries : {D : Type 0} (f g : D → Verdict) → ((d : D) → isPlan (f d) ≡ isPlan (g d)) → (xs : List (Option ℕ × D)) → isPlan (tries f xs) ≡ isPlan (tries g xs)
+  plan-tries f g e [] = refl
+  plan-tries f g e (x ∷ xs) =
+      plan-before (x .0) (f (x .1)) (tries f xs)
+      ∙ ap₂ _||_ (e (x .1)) (plan-tries f g e xs)
+      ∙ sym (plan-before (x .0) (g (x .1)) (tries g xs))
+
+  outcome-plan : (k : ℕ) (c : C × List ℕ) → isPlan (verdictWithin transitions final free k c) ≡ isPlan (search (guidedTransitions free transitions) (guidedFinal final) k c)
+  outcome-plan zero c = plan-unless (guidedFinal final c) _ _ (plan-any (transitions (c .0)) ∙ sym (plan-any (guidedTransitions free transitions c)))
+  outcome-plan (suc k) c =
+      plan-unless (guidedFinal final c) _ _
+      (plan-tries (λ (d : C × List ℕ). verdictWithin transitions final free k d) (λ (d : C × List ℕ). search (guidedTransitions free transitions) (guidedFinal final) k d)
+      (λ d. outcome-plan k d) (guidedTransitions free transitions c))
+
+  -- at the bound, and one transition before it, there is no plan where nothing final is reached
+  final-plan : (c : C) (g : List ℕ) → final c ≡ false → isPlan (verdictWithin transitions final free 0 (c, g)) ≡ false
+  final-plan c g e = go (isNil g) (final c) e ∙ plan-any (transitions c)
+    where
+      go : (a b : Bool) → b ≡ false → isPlan (unless (a && b) (anyTransition (transitions c))) ≡ isPlan (anyTransition (transitions c))
+      go true b e = ap (λ (b : Bool). isPlan (unless b (anyTransition (transitions c)))) e
+      go false b e = refl
+
+  one-plan : (g : List ℕ) (x : Option ℕ × C) → final (x .1) ≡ false → isPlan (tries (λ (d : C × List ℕ). verdictWithin transitions final free 0 d) (follow1 free g (x .0) (x .1))) ≡ false
+  one-plan g (none, d) e = plan-before none (verdictWithin transitions final free 0 (d, g)) nothing ∙ ap (λ (b : Bool). b || false) (final-plan d g e)
+  one-plan [] (some a, d) e = go free
+    where
+      go : (b : Bool) → isPlan (tries (λ (d : C × List ℕ). verdictWithin transitions final free 0 d) (only b ((some a, (d, [])) ∷ []))) ≡ false
+      go true = plan-before (some a) (verdictWithin transitions final free 0 (d, [])) nothing ∙ ap (λ (b : Bool). b || false) (final-plan d [] e)
+      go false = refl
+  one-plan (b ∷ g) (some a, d) e = go (eqb b a)
+    where
+      go : (b : Bool) → isPlan (tries (λ (d : C × List ℕ). verdictWithin transitions final free 0 d) (only b ((some a, (d, g)) ∷ []))) ≡ false
+      go true = plan-before (some a) (verdictWithin transitions final free 0 (d, g)) nothing ∙ ap (λ (b : Bool). b || false) (final-plan d g e)
+      go false = refl
+
+  pub next-plan :
+      (g : List ℕ) (xs : List (Option ℕ × C)) → ((x : Option ℕ × C) → List·Memᴰ x xs → final (x .1) ≡ false)
+      → isPlan (tries (λ (d : C × List ℕ). verdictWithin transitions final free 0 d) (follow free g xs)) ≡ false
+  next-plan g [] h = refl
+  next-plan g (x ∷ xs) h =
+      let f : C × List ℕ → Verdict = λ d. verdictWithin transitions final free 0 d in
+      ap isPlan (tries-append f (follow1 free g (x .0) (x .1)) (follow free g xs))
+      ∙ plan-join (tries f (follow1 free g (x .0) (x .1))) (tries f (follow free g xs)) (one-plan g x (h x (List·Memᴰ·head refl))) (next-plan g xs (λ y k. h y (List·Memᴰ·tail k)))
+
+-- replay
+pub outcome-closed :
+    {C : Type 0} (transitions : C → List (Option ℕ × C)) (final : C → Bool) (k : ℕ) (c : C) (h : List ℕ)
+    → isPlan (verdictWithin transitions final false k (c, h)) ≡ accepts transitions final k c h
+outcome-closed transitions final k c h = outcome-plan transitions final false k (c, h)
