@@ -1,19 +1,31 @@
--- The code of a move tells which it is: 65536 a test, any other number that action. Assumes nothing.
-use Prim.Native.Nat.{ℕ}
+-- The code of a transition tells its move: 65536 a test, any other number that action. Assumes nothing.
+use Prim.Native.Nat.{ℕ, _≤_}
 use native.Mathlib.Omega.{arith}
+use mathlib.Core.Bool.{Bool, cond}
 use mathlib.Core.List.{List}
+use mathlib.Core.Logic.{⊎-elim}
 use mathlib.Core.Option.{Option, none, some}
-use mathlib.Core.Path.{_≡_, refl, sym, ap, subst}
-use Rattle.engine.specs.Going.{Known, IsAction, Coded}
+use mathlib.Core.Path.{_≡_, sym, _∙_, ap, subst}
+use borrow.Author.Tests.{eq-eqb, ne-eqb}
+use Rattle.records.proofs.Truth.{line}
+use Rattle.steps.specs.Laid.{testCode, codeOf}
+use Rattle.engine.specs.Going.{Known, IsAction, moveOf}
 
-module _ {s : List ℕ} {e : ℕ} where
-  pub test-of : (m : Option ℕ) → Coded s e m → e ≡ 65536 → m ≡ none
-  test-of none c z = refl
-  test-of (some a) c z = absurd (omega (arith, c .known .0, c .entry-is))
+module _ (e : ℕ) where
+  pub is-test : e ≡ testCode → moveOf e ≡ none
+  is-test z = ap (λ (b : Bool). cond b none (some e)) (eq-eqb e testCode z)
 
-  pub move-of : (m : Option ℕ) → Coded s e m → ¬ (e ≡ 65536) → m ≡ some e
-  move-of none c z = absurd (z (c .entry-is))
-  move-of (some a) c z = ap some (sym (c .entry-is))
+  pub is-move : ¬ (e ≡ testCode) → moveOf e ≡ some e
+  is-move z = ap (λ (b : Bool). cond b none (some e)) (ne-eqb e testCode z)
 
-  pub action-of-code : (m : Option ℕ) → Coded s e m → ¬ (e ≡ 65536) → IsAction s e
-  action-of-code m c z = subst (Known (IsAction s)) (move-of m c z) (c .known)
+module _ (s : List ℕ) (e : ℕ) where
+  pub decoded : (m : Option ℕ) → Known (IsAction s) m → e ≡ codeOf m → moveOf e ≡ m
+  decoded none k q = is-test e q
+  decoded (some a) k q = is-move e (λ z. omega (arith, k .0)) ∙ ap some q
+
+  module _ (m : Option ℕ) (k : Known (IsAction s) m) (q : moveOf e ≡ m) where
+    pub action-of-code : ¬ (e ≡ testCode) → IsAction s e
+    action-of-code z = subst (Known (IsAction s)) (sym q ∙ is-move e z) k
+
+    pub code-bound : e ≤ testCode
+    code-bound = ⊎-elim (λ r. r) (λ r. r) (line e testCode (λ z. omega arith) (λ z. omega (arith, action-of-code z .0)))

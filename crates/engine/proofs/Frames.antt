@@ -1,11 +1,11 @@
 -- Room: where a frame has room for one transition more, there is room for what it leaves in the next frame, and that has room for one
 -- fewer. What stands in a frame stays while only later frames are written. Assumes nothing.
 use Prim.Native.Nat.{ℕ, suc, _+_, _*_, _≤_, _<_}
-use native.Mathlib.Nat.{mul-le-mul, mul-suc, add-mul, one-mul, mul-comm}
+use native.Mathlib.Nat.{mul-le-mul, mul-suc, add-mul, zero-mul, one-mul, mul-comm}
 use native.Mathlib.Omega.{arith}
 use mathlib.Core.Bool.{Bool, true, false, cond}
 use mathlib.Core.List.{List, List·Memᴰ}
-use mathlib.Core.Path.{_≡_, refl, sym, _∙_, ap}
+use mathlib.Core.Path.{_≡_, refl, sym, _∙_, ap, subst}
 use lib.Dec.{lit≤}
 use lib.ListN.{length}
 use Rattle.height.specs.Work.{levels, workWords}
@@ -24,27 +24,43 @@ use Rattle.demands.specs.Decoded.{interruptsIn, firstOf, boundOf}
 use Rattle.demands.specs.Compact.{extendedRecords, compactFirst, levelsOf}
 use Rattle.demands.proofs.Compact.{all-lower, starts, top-levels}
 use Rattle.leaves.specs.Tallies.{extendedSize}
-use Rattle.words.specs.Words.{At, Stands, Kept, Room}
+use Rattle.words.specs.Words.{At, Stands, Room}
 use Rattle.words.proofs.Standing.{at-unique}
 use Rattle.words.proofs.Moved.{at-kept}
-use Rattle.engine.specs.Frames.{frameOf, Frame}
+use Rattle.engine.specs.declared.Machine.{Machine}
+use Rattle.engine.specs.Frames.{Of, header, frameOf, frameAt, nodesAt, Frame, KeptFrames}
 
-module _ {s w : List ℕ} {left at : ℕ} {p : Prog} (F : Frame s left w at p) where
+-- where frames begin
+module _ (s : List ℕ) where
+  first-at : frameAt s 0 ≡ 0
+  unfolding frameAt
+  first-at = zero-mul (frameOf s)
+
+  pub next-at : (d : ℕ) → frameAt s (d + 1) ≡ frameAt s d + frameOf s
+  unfolding frameAt
+  next-at d = add-mul d 1 (frameOf s) ∙ ap (λ (n : ℕ). d * frameOf s + n) (one-mul (frameOf s))
+
+-- where a frame begins, as it is computed
+pub frame-by : {s : List ℕ} {m : Machine} → Of s m → (d : ℕ) → d * m .frame ≡ frameAt s d
+unfolding frameAt
+frame-by O d = ap (λ (n : ℕ). d * n) (O .frame-is)
+
+module _ {s w : List ℕ} {left d : ℕ} {p : Prog} (F : Frame s left w d p) where
   -- the program lies in its frame, and the frame in the words
-  pub in-frame : (at + 64 + 3 * nodes (F .rest) ≤ at + frameOf s) × (at + frameOf s ≤ length w)
+  pub in-frame : (nodesAt s d + 3 * nodes (F .rest) ≤ frameAt s d + frameOf s) × (frameAt s d + frameOf s ≤ length w)
   in-frame = let r = F .roomy in (omega (arith, r .large), omega (arith, r .inside))
 
-  pub frame-holds : Stands w (at + 64)
+  pub frame-holds : Stands w (nodesAt s d)
   frame-holds = record { rest = F .rest; at = F .words-are }
 
   -- words of later frames do not matter
-  pub frame-kept : (w′ : List ℕ) → Kept (at + frameOf s) w w′ → Frame s left w′ at p
+  pub frame-kept : (w′ : List ℕ) → KeptFrames s d w w′ → Frame s left w′ d p
   frame-kept w′ K =
       let r = F .roomy in
       record {
         rest = F .rest;
         stands-for = F .stands-for;
-        words-are = at-kept (F .rest) (at + 64) (at + frameOf s) w w′ K (in-frame .0) (F .words-are);
+        words-are = at-kept (F .rest) (nodesAt s d) (frameAt s d + frameOf s) w w′ K (in-frame .0) (F .words-are);
         roomy =
             record {
               large = r .large;
@@ -56,19 +72,19 @@ module _ {s w : List ℕ} {left at : ℕ} {p : Prog} (F : Frame s left w at p) w
       }
 
   -- one program stands in a frame
-  pub frame-same : {left′ : ℕ} {q : Prog} → Frame s left′ w at q → p ≡ q
+  pub frame-same : {left′ : ℕ} {q : Prog} → Frame s left′ w d q → p ≡ q
   frame-same G =
-      sym (F .stands-for) ∙ ap (unfolded (extendedRecords s)) (at-unique (F .rest) (G .rest) w (at + 64) (F .words-are) (G .words-are)) ∙ G .stands-for
+      sym (F .stands-for) ∙ ap (unfolded (extendedRecords s)) (at-unique (F .rest) (G .rest) w (nodesAt s d) (F .words-are) (G .words-are)) ∙ G .stands-for
 
-module _ {s w : List ℕ} {left at : ℕ} {p : Prog} (F : Frame s (suc left) w at p) where
+module _ {s w : List ℕ} {left d : ℕ} {p : Prog} (F : Frame s (suc left) w d p) where
   -- the next frame lies in the words
-  pub next-inside : at + frameOf s + frameOf s ≤ length w
+  pub next-inside : frameAt s d + frameOf s + frameOf s ≤ length w
   next-inside = omega (arith, F .roomy .inside, mul-suc (frameOf s) left)
 
   one-step : 64 + 3 * (nodes (F .rest) + 2 * levelsOf s) ≤ frameOf s
   one-step = omega (arith, F .roomy .large, mul-suc (2 * levelsOf s) left)
 
-  pub step-room : Room w (at + frameOf s + 64) (nodes (F .rest) + 2 * high (extendedRecords s) (F .rest))
+  pub step-room : Room w (frameAt s d + frameOf s + header) (nodes (F .rest) + 2 * high (extendedRecords s) (F .rest))
   step-room =
       let r = F .roomy in
       record { inside = omega (arith, one-step, next-inside, r .high-is); small = r .small }
@@ -78,8 +94,8 @@ module _ {s w : List ℕ} {left at : ℕ} {p : Prog} (F : Frame s (suc left) w a
       (accepted : Accepts s) (W : World) (st : State) (x : RestTransition) (w′ : List ℕ)
       → List·Memᴰ x (restTransitions W st (extendedRecords s) (F .rest))
       → length w′ ≡ length w
-      → At (x .1) w′ (at + frameOf s + 64)
-      → Frame s left w′ (at + frameOf s) (unfolded (extendedRecords s) (x .1))
+      → At (x .1) w′ (frameAt s d + frameOf s + header)
+      → Frame s left w′ (d + 1) (unfolded (extendedRecords s) (x .1))
   next-frame accepted W st x w′ mem len a =
       let r = F .roomy in
       let records = extendedRecords s in
@@ -90,11 +106,11 @@ module _ {s w : List ℕ} {left at : ℕ} {p : Prog} (F : Frame s (suc left) w a
       record {
         rest = x .1;
         stands-for = refl;
-        words-are = a;
+        words-are = subst (λ (i : ℕ). At (x .1) w′ (i + header)) (sym (next-at s d)) a;
         roomy =
             record {
               large = omega (arith, r .large, few, r .high-is, mul-suc (2 * levelsOf s) left);
-              inside = omega (arith, r .inside, len, mul-suc (frameOf s) left);
+              inside = omega (arith, r .inside, len, mul-suc (frameOf s) left, next-at s d);
               small = omega (arith, r .small, len);
               high-is = omega (arith, lower, r .high-is);
               within = record { number = omega (arith, number, r .within .number); height = omega (arith, lower, r .within .height) };
@@ -115,7 +131,7 @@ top-inside false n l = omega arith
 
 -- the first frame has room for as many transitions as the bound, by document 01's figure
 pub first-frame :
-    {s w : List ℕ} → Accepts s → length w ≡ workWords (levelsOf s) (boundOf s) → At (compactFirst s .0) w 64 → Frame s (boundOf s) w 0 (firstOf s .0)
+    {s w : List ℕ} → Accepts s → length w ≡ workWords (levelsOf s) (boundOf s) → At (compactFirst s .0) w header → Frame s (boundOf s) w 0 (firstOf s .0)
 unfolding nodes largest
 first-frame {s} {w} accepted len a =
     let f = laid s accepted in
@@ -129,11 +145,11 @@ first-frame {s} {w} accepted len a =
     record {
       rest = compactFirst s .0;
       stands-for = ap (λ (c : Configuration). c .0) (starts s accepted);
-      words-are = a;
+      words-are = subst (λ (i : ℕ). At (compactFirst s .0) w (i + header)) (sym (first-at s)) a;
       roomy =
           record {
             large = omega arith;
-            inside = omega (arith, all, len);
+            inside = omega (arith, all, len, first-at s);
             small = omega (arith, words, len);
             high-is = omega (arith, top-high);
             within = record { number = top-inside (interruptsIn s) (layoutOf s .p) (f .some-record); height = omega (arith, top-high, low) };

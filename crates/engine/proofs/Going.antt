@@ -39,7 +39,7 @@ heldMoves s st g = restTransitions (worldOf s) st (extendedRecords s) g
 abbrev pub stepOf : List ℕ → State → RestTransition → Transition
 stepOf s st x = (x .0, (unfolded (extendedRecords s) (x .1), after (worldOf s) (x .0) st))
 
-module _ {s w : List ℕ} {left at : ℕ} {p : Prog} (accepted : Accepts s) (F : Frame s left w at p) (st : State) where
+module _ {s w : List ℕ} {left d : ℕ} {p : Prog} (accepted : Accepts s) (F : Frame s left w d p) (st : State) where
   pub listed : map (stepOf s st) (heldMoves s st (F .rest)) ≡ transitionsOf s (p, st)
   listed = rest-steps (worldOf s) st (extendedRecords s) (all-lower s accepted) (F .rest) ∙ ap (λ (q : Prog). transitions (worldOf s) q st) (F .stands-for)
 

@@ -28,12 +28,12 @@ use Rattle.leaves.specs.Endable.{Endable, finalBoundsOf, skipsOf, Skips, Finals
 use Rattle.leaves.proofs.Marking.{bounds-above, bounds-after, places-few}
 use Rattle.leaves.proofs.Skipping.{skips-settled}
 use Rattle.leaves.proofs.Entries.{finals-whole, counts-whole}
-use Rattle.engine.specs.Tables.{truthsIn, finalsIn, endableIn, countsIn, skipsIn, extendedSizeOf, Prepared, Judged, Surveyed}
+use Rattle.engine.specs.Tables.{Only, flagPlaces, endableIn, truthsFrom, truthsAt, finalsAt, numberPlaces, skipsIn, countsFrom, countsAt, extendedSizeOf, Prepared, Judged, Surveyed}
 use Rattle.engine.specs.Frames.{Of}
 use Rattle.engine.specs.declared.Machine.{Machine}
 use Rattle.engine.proofs.Parts.{by-machine, of-machine}
 use Rattle.engine.proofs.Seen.{sees}
-use Rattle.engine.proofs.Tables.{finals-long, counts-long}
+use Rattle.engine.proofs.Tables.{finals-long, counts-long, endable-kept, skips-kept, none-by}
 
 -- the table that runs and its number of records, by the names of a layout
 abbrev pub runs : List ℕ → Layout → (interrupts : Bool) → ℕ → Program
@@ -60,10 +60,10 @@ module _ {s : List ℕ} {m : Machine} (O : Of s m) where
   -- once told of a sheet
   pub prepared :
       {flags : List Bool} {numbers : List ℕ} (marks : List Bool)
-      → length flags ≡ 1032 → length numbers ≡ 521
+      → length flags ≡ flagPlaces → length numbers ≡ numberPlaces
       → endableIn flags ≡ marks
       → marks ≡ finalBoundsOf true (runs s (m .layout) (m .interrupts)) (many (m .layout) (m .interrupts))
-      → countsIn numbers ≡ replicate 260 0
+      → ((d i : ℕ) → getD (countsAt d numbers) i 0 ≡ 0)
       → skipsIn numbers ≡ skipsOf (runs s (m .layout) (m .interrupts)) (many (m .layout) (m .interrupts)) marks
       → Prepared s flags numbers
   prepared {flags} {numbers} marks n k e eb ec es =
@@ -78,7 +78,7 @@ module _ {s : List ℕ} {m : Machine} (O : Of s m) where
         numbers-long = k;
         endable = E;
         none-final = λ i l. ap (λ (x : List Bool). getD x i true) e₂ ∙ bounds-after true (extendedRecords s) (extendedSizeOf s) i l;
-        none-counted = λ i l. ap (λ (x : List ℕ). getD x i 0) ec ∙ getD-same 0 260 i;
+        none-counted = λ d i l. ec d i;
         skipping = subst (Skips (extendedRecords s) (extendedSizeOf s) (endableIn flags)) (sym e₄) S;
       }
 
@@ -92,9 +92,10 @@ module _ {s : List ℕ} {m : Machine} (O : Of s m) where
         (subst (λ (x : List Bool). Skips (extendedRecords s) (extendedSizeOf s) x skips) (sym e)
         (subst (Skips (extendedRecords s) (extendedSizeOf s) (endableIn flags)) (sym k) (P .skipping)))
 
-    prepared-kept : (flags′ : List Bool) → length flags′ ≡ 1032 → endableIn flags′ ≡ endableIn flags → Prepared s flags′ numbers
+    -- what is told of the sheet stands while only tables of a state are filled
+    prepared-kept : (flags′ : List Bool) → length flags′ ≡ length flags → endableIn flags′ ≡ endableIn flags → Prepared s flags′ numbers
     prepared-kept flags′ n e = record {
-      flags-long = n;
+      flags-long = n ∙ P .flags-long;
       numbers-long = P .numbers-long;
       endable = subst (Endable (extendedRecords s) (extendedSizeOf s)) (sym e) (P .endable);
       none-final = λ i l. ap (λ (x : List Bool). getD x i true) e ∙ P .none-final i l;
@@ -104,38 +105,39 @@ module _ {s : List ℕ} {m : Machine} (O : Of s m) where
 
     -- told of a state
     pub judged :
-        (st : State) (flags′ : List Bool) → length flags′ ≡ 1032 → endableIn flags′ ≡ endableIn flags
-        → truths.AreTruths (worldOf s) st (layoutOf s .q) (truthsIn flags′)
-        → FinalsKnown (runs s (m .layout) (m .interrupts)) (many (m .layout) (m .interrupts)) (truthsIn flags′) (st .running) (finalsIn flags′)
-        → ((i : ℕ) → many (m .layout) (m .interrupts) ≤ i → getD (finalsIn flags′) i true ≡ getD (endableIn flags) i true)
-        → Judged s st flags′ numbers
-    judged st flags′ n e H D A =
+        (st : State) (d : ℕ) (flags′ : List Bool) → length flags′ ≡ length flags → Only (truthsFrom d) 772 flags flags′
+        → truths.AreTruths (worldOf s) st (layoutOf s .q) (truthsAt d flags′)
+        → FinalsKnown (runs s (m .layout) (m .interrupts)) (many (m .layout) (m .interrupts)) (truthsAt d flags′) (st .running) (finalsAt d flags′)
+        → ((i : ℕ) → many (m .layout) (m .interrupts) ≤ i → getD (finalsAt d flags′) i true ≡ getD (endableIn flags) i true)
+        → Judged s st d flags′ numbers
+    judged st d flags′ n K H D A =
         let W = worldOf s in
-        let D₂ = of-machine O (λ (l : Layout) (b : Bool) (f : ℕ). FinalsKnown (runs s l b) (many l b) (truthsIn flags′) (st .running) (finalsIn flags′)) D in
-        let A₂ = of-machine O (λ (l : Layout) (b : Bool) (f : ℕ). (i : ℕ) → many l b ≤ i → getD (finalsIn flags′) i true ≡ getD (endableIn flags) i true) A in
-        let F = D₂ W st _ (sees s (O .accepted) st (truthsIn flags′) H) in
+        let Q = prepared-kept flags′ n (endable-kept (omega arith) K) in
+        let D₂ = of-machine O (λ (l : Layout) (b : Bool) (f : ℕ). FinalsKnown (runs s l b) (many l b) (truthsAt d flags′) (st .running) (finalsAt d flags′)) D in
+        let A₂ = of-machine O (λ (l : Layout) (b : Bool) (f : ℕ). (i : ℕ) → many l b ≤ i → getD (finalsAt d flags′) i true ≡ getD (endableIn flags) i true) A in
+        let F = D₂ W st _ (sees s (O .accepted) st (truthsAt d flags′) H) in
         record {
-          prepared = prepared-kept flags′ n e;
+          prepared = Q;
           truths-are = H;
           decides = D₂;
-          finals-are = finals-whole W st (extendedRecords s) (extendedSizeOf s) (few-places O) (finalsIn flags′) (finals-long flags′ n) F (λ i l. A₂ i l ∙ P .none-final i l);
+          finals-are = finals-whole W st (extendedRecords s) (extendedSizeOf s) (few-places O) (finalsAt d flags′) (finals-long Q d) F (λ i l. A₂ i l ∙ P .none-final i l);
         }
 
-  module _ {st : State} {flags : List Bool} {numbers : List ℕ} (J : Judged s st flags numbers) where
+  module _ {st : State} {d : ℕ} {flags : List Bool} {numbers : List ℕ} (J : Judged s st d flags numbers) where
     abbrev pub seenBy : Layout → ℕ → Bool
-    seenBy l = possibleIn (actionsIn s l) (l .a) (truthsIn flags)
+    seenBy l = possibleIn (actionsIn s l) (l .a) (truthsAt d flags)
 
-    pub decides-by : FinalsKnown (runs s (m .layout) (m .interrupts)) (many (m .layout) (m .interrupts)) (truthsIn flags) (st .running) (finalsIn flags)
-    decides-by = by-machine O (λ (l : Layout) (b : Bool) (f : ℕ). FinalsKnown (runs s l b) (many l b) (truthsIn flags) (st .running) (finalsIn flags)) (J .decides)
+    pub decides-by : FinalsKnown (runs s (m .layout) (m .interrupts)) (many (m .layout) (m .interrupts)) (truthsAt d flags) (st .running) (finalsAt d flags)
+    decides-by = by-machine O (λ (l : Layout) (b : Bool) (f : ℕ). FinalsKnown (runs s l b) (many l b) (truthsAt d flags) (st .running) (finalsAt d flags)) (J .decides)
 
     -- behind the records no transition is counted
-    nil-counts : drop (extendedSizeOf s) (countsIn numbers) ≡ replicate (260 - extendedSizeOf s) 0
+    nil-counts : drop (extendedSizeOf s) (countsAt d numbers) ≡ replicate (260 - extendedSizeOf s) 0
     nil-counts =
         let m = extendedSizeOf s in
-        let n = length-drop m (countsIn numbers) in
-        let k = counts-long (J .prepared) in
-        ext-getD 0 (drop m (countsIn numbers)) (replicate (260 - m) 0) (omega (arith, n, k, length-replicate {A = ℕ} (260 - m) 0))
-        (λ i l. getD-drop m (countsIn numbers) i 0 ∙ J .prepared .none-counted _ (omega arith) ∙ sym (getD-same 0 (260 - m) i))
+        let n = length-drop m (countsAt d numbers) in
+        let k = counts-long (J .prepared) d in
+        ext-getD 0 (drop m (countsAt d numbers)) (replicate (260 - m) 0) (omega (arith, n, k, length-replicate {A = ℕ} (260 - m) 0))
+        (λ i l. getD-drop m (countsAt d numbers) i 0 ∙ J .prepared .none-counted d _ (omega arith) ∙ sym (getD-same 0 (260 - m) i))
 
     counts-after : (i : ℕ) → extendedSizeOf s ≤ i → getD (countsOf (worldOf s) st (extendedRecords s) (extendedSizeOf s)) i 0 ≡ 0
     unfolding countsOf
@@ -146,24 +148,25 @@ module _ {s : List ℕ} {m : Machine} (O : Of s m) where
 
     -- counted in a state
     pub surveyed :
-        (numbers′ : List ℕ) → length numbers′ ≡ 521 → skipsIn numbers′ ≡ skipsIn numbers
-        → Tallied (runs s (m .layout) (m .interrupts)) (many (m .layout) (m .interrupts)) (truthsIn flags) (seenBy (m .layout)) (st .running) (countsIn numbers) (countsIn numbers′)
-        → Surveyed s st flags numbers′
-    surveyed numbers′ n e T =
+        (numbers′ : List ℕ) → length numbers′ ≡ length numbers → Only (countsFrom d) 260 numbers numbers′
+        → Tallied (runs s (m .layout) (m .interrupts)) (many (m .layout) (m .interrupts)) (truthsAt d flags) (seenBy (m .layout)) (st .running) (countsAt d numbers) (countsAt d numbers′)
+        → Surveyed s st d flags numbers′
+    surveyed numbers′ n K T =
         let W = worldOf s in
         let P = J .prepared in
-        let T₂ = of-machine O (λ (l : Layout) (b : Bool) (f : ℕ). Tallied (runs s l b) (many l b) (truthsIn flags) (seenBy l) (st .running) (countsIn numbers) (countsIn numbers′)) T in
-        let S = sees s (O .accepted) st (truthsIn flags) (J .truths-are) in
-        let c = T₂ W st S ∙ counts-whole W st (extendedRecords s) (extendedSizeOf s) (countsIn numbers) nil-counts in
+        let T₂ = of-machine O (λ (l : Layout) (b : Bool) (f : ℕ). Tallied (runs s l b) (many l b) (truthsAt d flags) (seenBy l) (st .running) (countsAt d numbers) (countsAt d numbers′)) T in
+        let S = sees s (O .accepted) st (truthsAt d flags) (J .truths-are) in
+        let c = T₂ W st S ∙ counts-whole W st (extendedRecords s) (extendedSizeOf s) (countsAt d numbers) nil-counts in
+        let here : (i : ℕ) → extendedSizeOf s ≤ i → getD (countsAt d numbers′) i 0 ≡ 0 = λ i l. ap (λ (x : List ℕ). getD x i 0) c ∙ counts-after i l in
         record {
           prepared =
               record {
                 flags-long = P .flags-long;
-                numbers-long = n;
+                numbers-long = n ∙ P .numbers-long;
                 endable = P .endable;
                 none-final = P .none-final;
-                none-counted = λ i l. ap (λ (x : List ℕ). getD x i 0) c ∙ counts-after i l;
-                skipping = subst (Skips (extendedRecords s) (extendedSizeOf s) (endableIn flags)) (sym e) (P .skipping);
+                none-counted = λ e i l. none-by d e i (P .numbers-long) K n (P .none-counted e i l) (here i l);
+                skipping = subst (Skips (extendedRecords s) (extendedSizeOf s) (endableIn flags)) (sym (skips-kept (omega arith) K)) (P .skipping);
               };
           truths-are = J .truths-are;
           tabled =

@@ -4,6 +4,7 @@ pub mod Seen
 pub mod Actions
 pub mod Moves
 pub mod Copied
+pub mod Windows
 pub mod Tables
 pub mod Frames
 pub mod Judging

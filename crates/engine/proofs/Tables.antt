@@ -1,58 +1,106 @@
--- The tables are as long as they are read, and writing in one of them leaves the others. Assumes nothing.
-use mathlib.Core.Path.{_≡_, refl, sym, _∙_, ap}
+-- The tables are as long as they are read, and writing in one of them leaves the others: those of another depth too, unless it is as many
+-- deeper as there are sets. Assumes nothing.
+use mathlib.Core.Path.{_≡_, refl, sym, _∙_, ap, subst}
 use mathlib.Core.Bool.{Bool}
-use mathlib.Core.List.{List, _++_, append-nil}
-use Prim.Native.Nat.{ℕ, _+_, _-_, _≤_, _<_}
+use mathlib.Core.List.{List}
+use mathlib.Core.Logic.{⊎-elim}
+use Prim.Native.Nat.{ℕ, _+_, _*_, _≤_, _<_}
+use native.Mathlib.Decide.{decLt}
+use native.Mathlib.Nat.{mul-suc, mul-le-mul-left}
 use native.Mathlib.Omega.{arith}
-use borrow.Rule.Slice.PartMut.{postOf, putMid}
-use lib.ListN.{length, replicate, length-replicate, replicate-append-replicate, set, take, drop, length-drop, drop-of-length-le}
-use lib.Seq.{length-take-le, take-all, take-at, drop-at, drop-drop, take-set-le, take-set-lt, drop-set-lt, drop-set-add}
-use Rattle.engine.specs.Tables.{truthsIn, finalsIn, endableIn, countsIn, OnlyFinals, Prepared}
+use lib.ListN.{length, getD, replicate}
+use Rattle.records.proofs.Fills.{getD-same}
+use Rattle.records.proofs.Truth.{line}
+use Rattle.sheet.specs.Layout.{layoutOf}
+use Rattle.golog.specs.declared.State.{State}
+use Rattle.demands.specs.Decoded.{worldOf}
+use Rattle.state.specs.Truths.{AreTruths}
+use Rattle.engine.specs.Tables.{window, Only, setOf, endableIn, truthsFrom, finalsFrom, truthsAt, finalsAt, skipsIn, numberPlaces, countsFrom, countsAt, Prepared, Surveyed, SameTables, Filled}
+use Rattle.engine.proofs.Windows.{window-long, earlier, window-before, window-behind}
 
 module _ {s : List ℕ} {flags : List Bool} {numbers : List ℕ} (P : Prepared s flags numbers) where
-  pub truths-long : 512 ≡ length (truthsIn flags)
-  truths-long = sym (length-take-le 512 flags (omega (arith, P .flags-long)))
+  pub truths-long : (d : ℕ) → length (truthsAt d flags) ≡ 512
+  truths-long d = window-long (truthsFrom d) 512 flags (omega (arith, P .flags-long))
 
-  pub counts-long : 260 ≡ length (countsIn numbers)
-  counts-long = sym (length-take-le 260 numbers (omega (arith, P .numbers-long)))
+  pub finals-long : (d : ℕ) → length (finalsAt d flags) ≡ 260
+  finals-long d = window-long (finalsFrom d) 260 flags (omega (arith, P .flags-long))
 
--- numbers that are all 0 count nothing
-pub none-counted : countsIn (replicate 521 0) ≡ replicate 260 0
-none-counted = ap (take 260) (sym (replicate-append-replicate 260 261 0)) ∙ take-at (replicate 260 0) (replicate 261 0) 260 (length-replicate {A = ℕ} 260 0)
+  pub counts-long : (d : ℕ) → length (countsAt d numbers) ≡ 260
+  counts-long d = window-long (countsFrom d) 260 numbers (omega (arith, P .numbers-long))
 
--- a part to the end is what is behind it
-pub to-end : {A : Type 0} (k : ℕ) (l : List A) → take (length l - k) (drop k l) ≡ drop k l
-to-end k l = take-all (length l - k) (drop k l) (omega (arith, length-drop k l))
+-- an array of zeros may be prepared
+pub blank : (i : ℕ) → getD {A = ℕ} (replicate numberPlaces 0) i 0 ≡ 0
+blank i = getD-same 0 numberPlaces i
 
--- a part to the end that is written anew is what is behind it
-pub end-put : {A : Type 0} (k : ℕ) (l x : List A) → k ≤ length l → drop k (putMid k (length l - k) l x) ≡ x
-end-put {A} k l x h =
-    drop-at (take k l) (x ++ postOf k (length l - k) l) k (length-take-le k l h)
-    ∙ ap (λ (y : List A). x ++ y) (drop-of-length-le (drop k l) {i = length l - k} (omega (arith, length-drop k l)))
-    ∙ append-nil x
+-- what is told of the sheet is in front of every set
+pub endable-kept : {flags flags′ : List Bool} {o n : ℕ} → 260 ≤ o → Only o n flags flags′ → endableIn flags′ ≡ endableIn flags
+endable-kept {flags} {flags′} {o} h P = earlier o 260 flags flags′ h (P .before)
 
--- the truths written anew: what may be final is as it was
-pub endable-behind : (flags x : List Bool) → length x ≡ 512 → endableIn (x ++ drop 512 flags) ≡ endableIn flags
-endable-behind flags x n =
-    sym (drop-drop 260 512 (x ++ drop 512 flags)) ∙ ap (drop 260) (drop-at x (drop 512 flags) 512 n) ∙ drop-drop 260 512 flags
+pub skips-kept : {numbers numbers′ : List ℕ} {o n : ℕ} → 261 ≤ o → Only o n numbers numbers′ → skipsIn numbers′ ≡ skipsIn numbers
+skips-kept {numbers} {numbers′} {o} h P = earlier o 261 numbers numbers′ h (P .before)
 
-module _ (flags : List Bool) (n : length flags ≡ 1032) where
-  pub finals-long : length (finalsIn flags) ≡ 260
-  finals-long = length-take-le 260 (drop 512 flags) (omega (arith, n, length-drop 512 flags))
+-- depths less than eight apart have sets of their own
+apart : (d e : ℕ) → d < e → e < d + 8 → ¬ (setOf d ≡ setOf e)
+apart d e l h z = omega arith
 
-  pub endable-long : length (endableIn flags) ≡ 260
-  endable-long = omega (arith, n, length-drop 772 flags)
+-- m places for each of eight sets, from place b on: where those of the set j are written, a window in those of another stands
+module _ {A : Type 0} (b m j : ℕ) {l l′ : List A} (P : Only (b + m * j) m l l′) (n : length l′ ≡ length l) where
+  below : (i k : ℕ) → i < k → m * i + m ≤ m * k
+  below i k h = omega (arith, mul-suc m i, mul-le-mul-left m h)
 
-pub only-same : (flags : List Bool) → OnlyFinals flags flags
-only-same flags = record { truths-kept = refl; endable-kept = refl }
+  pub other : (i o k : ℕ) → ¬ (i ≡ j) → b + m * i ≤ o → o + k ≤ b + m * i + m → o ≤ length l → window o k l′ ≡ window o k l
+  other i o k z h g f = go (decLt i j)
+    where
+      go : Dec (i < j) → window o k l′ ≡ window o k l
+      go (yes x) = window-before P n o k (omega (arith, below i j x)) f
+      go (no x) = window-behind P n o k (omega (arith, below j i (omega (arith, z))))
 
--- whether record i is final is written
-module _ (flags : List Bool) (i : ℕ) (f : Bool) (l : i < 260) where
-  pub final-set : finalsIn (set flags (512 + i) f) ≡ set (finalsIn flags) i f
-  final-set = ap (take 260) (drop-set-add 512 flags i f) ∙ take-set-lt 260 (drop 512 flags) i f l
+module _
+    {flags flags′ : List Bool} {numbers numbers′ : List ℕ} (d : ℕ) (fl : length flags ≡ 6436) (nl : length numbers ≡ 2341)
+    (F : Only (truthsFrom d) 772 flags flags′) (f : length flags′ ≡ length flags)
+    (N : Only (countsFrom d) 260 numbers numbers′) (n : length numbers′ ≡ length numbers) where
+  -- the tables for depth d were filled, and no others
+  pub filled : Filled d d flags flags′ numbers numbers′
+  filled e l h =
+      let z = apart e d l h in
+      record {
+        same-truths = other 260 772 (setOf d) F f (setOf e) (truthsFrom e) 512 z (omega arith) (omega arith) (omega arith);
+        same-finals = other 260 772 (setOf d) F f (setOf e) (finalsFrom e) 260 z (omega arith) (omega arith) (omega arith);
+        same-counts = other 261 260 (setOf d) N n (setOf e) (countsFrom e) 260 z (omega arith) (omega arith) (omega arith);
+      }
 
-  pub only-more : {old : List Bool} → OnlyFinals old flags → OnlyFinals old (set flags (512 + i) f)
-  only-more K = record {
-    truths-kept = take-set-le 512 flags (512 + i) f (omega arith) ∙ K .truths-kept;
-    endable-kept = drop-set-lt 772 flags (512 + i) f (omega arith) ∙ K .endable-kept;
-  }
+-- a place of the counts for depth e, where those for depth d were written anew: it is 0 where it was, or where that is
+pub none-by :
+    (d e i : ℕ) {numbers numbers′ : List ℕ} → length numbers ≡ 2341 → Only (countsFrom d) 260 numbers numbers′ → length numbers′ ≡ length numbers
+    → getD (countsAt e numbers) i 0 ≡ 0 → getD (countsAt d numbers′) i 0 ≡ 0 → getD (countsAt e numbers′) i 0 ≡ 0
+none-by d e i {numbers} {numbers′} l N n old new =
+    ⊎-elim (λ r. r) (λ r. r)
+    (line (setOf e) (setOf d) (λ z. ap (λ (j : ℕ). getD (window (261 + 260 * j) 260 numbers′) i 0) z ∙ new)
+    (λ z. ap (λ (x : List ℕ). getD x i 0) (other 261 260 (setOf d) N n (setOf e) (countsFrom e) 260 z (omega arith) (omega arith) (omega arith)) ∙ old))
+
+-- tables that stand are still those of the state
+pub stands :
+    {s : List ℕ} {st : State} {d : ℕ} {flags flags′ : List Bool} {numbers numbers′ : List ℕ}
+    → Surveyed s st d flags numbers → Prepared s flags′ numbers′ → SameTables d flags flags′ numbers numbers′ → Surveyed s st d flags′ numbers′
+stands {s} {st} {d} S P E = record {
+  prepared = P;
+  truths-are = subst (AreTruths (worldOf s) st (layoutOf s .q)) (sym (E .same-truths)) (S .truths-are);
+  tabled = rw (E .same-truths, E .same-finals, E .same-counts) (S .tabled);
+}
+
+-- nothing filled, and one filling after another
+pub filled-none : {flags : List Bool} {numbers : List ℕ} (lo hi : ℕ) → Filled lo hi flags flags numbers numbers
+filled-none lo hi d l h = record { same-truths = refl; same-finals = refl; same-counts = refl }
+
+pub filled-then :
+    {flags flags′ flags″ : List Bool} {numbers numbers′ numbers″ : List ℕ} {lo hi lo′ hi′ : ℕ}
+    → Filled lo hi flags flags′ numbers numbers′ → Filled lo′ hi′ flags′ flags″ numbers′ numbers″
+    → (lo″ hi″ : ℕ) → lo″ ≤ lo → lo″ ≤ lo′ → hi ≤ hi″ → hi′ ≤ hi″ → Filled lo″ hi″ flags flags″ numbers numbers″
+filled-then F G lo″ hi″ a b c e d l h =
+    let P = F d (omega arith) (omega arith) in
+    let Q = G d (omega arith) (omega arith) in
+    record {
+      same-truths = Q .same-truths ∙ P .same-truths;
+      same-finals = Q .same-finals ∙ P .same-finals;
+      same-counts = Q .same-counts ∙ P .same-counts;
+    }

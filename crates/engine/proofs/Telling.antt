@@ -19,12 +19,12 @@ use Rattle.ends.specs.Ends.{finalByTable, countByTable, soonByTable, Totalled}
 use Rattle.ends.specs.declared.Totals.{Totals}
 use Rattle.ends.proofs.Tabled.{final-in, count-in}
 use Rattle.ends.proofs.Endings.{soon-in}
-use Rattle.engine.specs.Tables.{finalsIn, endableIn, countsIn, extendedSizeOf, Surveyed}
+use Rattle.engine.specs.Tables.{finalsAt, endableIn, countsAt, extendedSizeOf, Surveyed}
 use Rattle.engine.specs.Frames.{Frame}
 use Rattle.engine.specs.Going.{transitionsOf, isFinal, NoneEnds, Tells}
 use Rattle.engine.proofs.Going.{heldMoves, stepOf, listed, listed-length}
 
-module _ {s w : List ℕ} {left at : ℕ} {p : Prog} (accepted : Accepts s) (F : Frame s left w at p) (st : State) where
+module _ {s w : List ℕ} {left d : ℕ} {p : Prog} (accepted : Accepts s) (F : Frame s left w d p) (st : State) where
   pub final-told :
       {finals : List Bool} → finals ≡ finalsOf (worldOf s) st (extendedRecords s) (extendedSizeOf s) → finalByTable finals (F .rest) ≡ isFinal s (p, st)
   final-told e =
@@ -33,8 +33,8 @@ module _ {s w : List ℕ} {left at : ℕ} {p : Prog} (accepted : Accepts s) (F :
       ∙ rest-final (worldOf s) st (extendedRecords s) (all-lower s accepted) (F .rest)
       ∙ ap (λ (q : Prog). final (worldOf s) q st) (F .stands-for)
 
-  module _ {flags : List Bool} {numbers : List ℕ} (S : Surveyed s st flags numbers) where
-    count-told : countByTable (finalsIn flags) (countsIn numbers) (F .rest) ≡ length (transitionsOf s (p, st))
+  module _ {flags : List Bool} {numbers : List ℕ} (S : Surveyed s st d flags numbers) where
+    count-told : countByTable (finalsAt d flags) (countsAt d numbers) (F .rest) ≡ length (transitionsOf s (p, st))
     count-told =
         let c = S .tabled .counted in
         ap₂ (λ (l : List Bool) (k : List ℕ). countByTable l k (F .rest)) (S .tabled .finals-are) (c .counts-are)
@@ -42,7 +42,7 @@ module _ {s w : List ℕ} {left at : ℕ} {p : Prog} (accepted : Accepts s) (F :
         ∙ listed-length accepted F st
 
     -- what the table of what may be final tells of the transitions
-    none-told : soonByTable (finalsIn flags) (endableIn flags) (countsIn numbers) (F .rest) ≡ false → NoneEnds s (p, st)
+    none-told : soonByTable (finalsAt d flags) (endableIn flags) (countsAt d numbers) (F .rest) ≡ false → NoneEnds s (p, st)
     none-told z x k =
         let W = worldOf s in
         let c = S .tabled .counted in
@@ -55,7 +55,7 @@ module _ {s w : List ℕ} {left at : ℕ} {p : Prog} (accepted : Accepts s) (F :
         ∙ is-false _ (λ f. true≢false (sym (soon (y .0) (y .1) t f) ∙ sym e ∙ z))
 
     pub tells :
-        {x : Totals} → Totalled (finalsIn flags) (endableIn flags) (countsIn numbers) (F .rest) x
+        {x : Totals} → Totalled (finalsAt d flags) (endableIn flags) (countsAt d numbers) (F .rest) x
         → Tells s (p, st) record { done = x .done; soon = x .soon; first = record { next = 0; end = x .count } }
     tells T = record {
       final-is = T .done-is ∙ final-told (S .tabled .finals-are);

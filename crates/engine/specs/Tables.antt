@@ -1,6 +1,7 @@
--- The tables by which a configuration is surveyed, in two lent slices. The engine's own vocabulary: nothing above it looks into them.
--- Assumes nothing.
-use Prim.Native.Nat.{ℕ, _≤_}
+-- The tables by which a configuration is surveyed, in two lent slices: what is told once of the sheet, and sets of what is told of a state.
+-- A set serves the configuration at one depth of a search; there are eight, so that what was told at a depth stands until one eight
+-- deeper is surveyed. The engine's own vocabulary: nothing above it looks into them. Assumes nothing.
+use Prim.Native.Nat.{ℕ, _+_, _*_, _%_, _≤_, _<_}
 use mathlib.Core.Path.{_≡_}
 use mathlib.Core.Bool.{Bool, true}
 use mathlib.Core.List.{List}
@@ -15,27 +16,55 @@ use Rattle.leaves.specs.Endable.{Endable, Skips, FinalsKnown}
 use Rattle.steps.specs.Laid.{sourcesOf}
 use Rattle.steps.specs.Stepped.{Tabled}
 
--- flags: what the 512 formulas say; whether each of 260 records is final; whether it may be in some state
-abbrev pub truthsIn : List Bool → List Bool
-truthsIn flags = take 512 flags
+-- n places of a list from place o on
+abbrev pub window : {A : Type 0} → (o n : ℕ) → List A → List A
+window o n l = take n (drop o l)
 
-abbrev pub finalsIn : List Bool → List Bool
-finalsIn flags = take 260 (drop 512 flags)
+-- of a list that became another only the n places from place o on were written
+pub record Only {A : Type 0} (o n : ℕ) (l l′ : List A) : Type 0 where
+  pub before : take o l′ ≡ take o l
+  pub behind : drop (o + n) l′ ≡ drop (o + n) l
+
+-- how many sets there are, and the one that serves depth d
+abbrev pub sets : ℕ
+sets = 8
+
+abbrev pub setOf : ℕ → ℕ
+setOf d = d % sets
+
+-- flags: whether each of 260 records may be final in some state; then for each set what the 512 formulas say and whether each record is
+-- final
+abbrev pub flagPlaces : ℕ
+flagPlaces = 6436
 
 abbrev pub endableIn : List Bool → List Bool
-endableIn flags = drop 772 flags
+endableIn flags = take 260 flags
 
--- numbers: how many transitions each of 260 records has; from each on, the first whose finality depends on the state
-abbrev pub countsIn : List ℕ → List ℕ
-countsIn numbers = take 260 numbers
+abbrev pub truthsFrom : (d : ℕ) → ℕ
+truthsFrom d = 260 + 772 * setOf d
+
+abbrev pub finalsFrom : (d : ℕ) → ℕ
+finalsFrom d = 772 + 772 * setOf d
+
+abbrev pub truthsAt : (d : ℕ) → List Bool → List Bool
+truthsAt d flags = window (truthsFrom d) 512 flags
+
+abbrev pub finalsAt : (d : ℕ) → List Bool → List Bool
+finalsAt d flags = window (finalsFrom d) 260 flags
+
+-- numbers: from each of 261 places on, the first record whose finality depends on the state; then for each set how many transitions each
+-- of 260 records has
+abbrev pub numberPlaces : ℕ
+numberPlaces = 2341
 
 abbrev pub skipsIn : List ℕ → List ℕ
-skipsIn numbers = drop 260 numbers
+skipsIn numbers = take 261 numbers
 
--- of the flags only which records are final was written
-pub record OnlyFinals (flags flags′ : List Bool) : Type 0 where
-  pub truths-kept : truthsIn flags′ ≡ truthsIn flags
-  pub endable-kept : endableIn flags′ ≡ endableIn flags
+abbrev pub countsFrom : (d : ℕ) → ℕ
+countsFrom d = 261 + 260 * setOf d
+
+abbrev pub countsAt : (d : ℕ) → List ℕ → List ℕ
+countsAt d numbers = window (countsFrom d) 260 numbers
 
 -- the records of a sheet that run
 abbrev pub extendedSizeOf : List ℕ → ℕ
@@ -43,23 +72,33 @@ extendedSizeOf s = extendedSize (interruptsIn s) (layoutOf s .p)
 
 -- what is told once of a sheet stands in the tables, and behind the records nil
 pub record Prepared (s : List ℕ) (flags : List Bool) (numbers : List ℕ) : Type 0 where
-  pub flags-long : length flags ≡ 1032
-  pub numbers-long : length numbers ≡ 521
+  pub flags-long : length flags ≡ flagPlaces
+  pub numbers-long : length numbers ≡ numberPlaces
   pub endable : Endable (extendedRecords s) (extendedSizeOf s) (endableIn flags)
   pub none-final : (i : ℕ) → extendedSizeOf s ≤ i → getD (endableIn flags) i true ≡ true
-  pub none-counted : (i : ℕ) → extendedSizeOf s ≤ i → getD (countsIn numbers) i 0 ≡ 0
+  pub none-counted : (d i : ℕ) → extendedSizeOf s ≤ i → getD (countsAt d numbers) i 0 ≡ 0
   pub skipping : Skips (extendedRecords s) (extendedSizeOf s) (endableIn flags) (skipsIn numbers)
 
--- what the formulas say in the state st, and which records are final in it, stands there too
-pub record Judged (s : List ℕ) (st : State) (flags : List Bool) (numbers : List ℕ) : Type 0 where
+-- what the formulas say in the state st, and which records are final in it, stands there too, for depth d
+pub record Judged (s : List ℕ) (st : State) (d : ℕ) (flags : List Bool) (numbers : List ℕ) : Type 0 where
   pub prepared : Prepared s flags numbers
-  pub truths-are : truths.AreTruths (worldOf s) st (layoutOf s .q) (truthsIn flags)
-  pub decides : FinalsKnown (extendedRecords s) (extendedSizeOf s) (truthsIn flags) (st .running) (finalsIn flags)
-  pub finals-are : finalsIn flags ≡ finalsOf (worldOf s) st (extendedRecords s) (extendedSizeOf s)
+  pub truths-are : truths.AreTruths (worldOf s) st (layoutOf s .q) (truthsAt d flags)
+  pub decides : FinalsKnown (extendedRecords s) (extendedSizeOf s) (truthsAt d flags) (st .running) (finalsAt d flags)
+  pub finals-are : finalsAt d flags ≡ finalsOf (worldOf s) st (extendedRecords s) (extendedSizeOf s)
 
--- and how many transitions each has: the tables are those of the state st
-pub record Surveyed (s : List ℕ) (st : State) (flags : List Bool) (numbers : List ℕ) : Type 0 where
+-- and how many transitions each has: the tables for depth d are those of the state st
+pub record Surveyed (s : List ℕ) (st : State) (d : ℕ) (flags : List Bool) (numbers : List ℕ) : Type 0 where
   pub prepared : Prepared s flags numbers
-  pub truths-are : truths.AreTruths (worldOf s) st (layoutOf s .q) (truthsIn flags)
+  pub truths-are : truths.AreTruths (worldOf s) st (layoutOf s .q) (truthsAt d flags)
   pub tabled :
-      Tabled (worldOf s) st (sourcesOf (programsIn s (layoutOf s)) (layoutOf s .p) (interruptsIn s) (truthsIn flags) (st .running) (countsIn numbers)) (finalsIn flags)
+      Tabled (worldOf s) st (sourcesOf (programsIn s (layoutOf s)) (layoutOf s .p) (interruptsIn s) (truthsAt d flags) (st .running) (countsAt d numbers)) (finalsAt d flags)
+
+-- the tables for a depth are as they were
+pub record SameTables (d : ℕ) (flags flags′ : List Bool) (numbers numbers′ : List ℕ) : Type 0 where
+  pub same-truths : truthsAt d flags′ ≡ truthsAt d flags
+  pub same-finals : finalsAt d flags′ ≡ finalsAt d flags
+  pub same-counts : countsAt d numbers′ ≡ countsAt d numbers
+
+-- only tables for the depths from lo to hi were filled: those for lesser depths stand, unless eight sets are too few
+abbrev pub Filled : (lo hi : ℕ) (flags flags′ : List Bool) (numbers numbers′ : List ℕ) → Type 0
+Filled lo hi flags flags′ numbers numbers′ = (d : ℕ) → d < lo → hi < d + sets → SameTables d flags flags′ numbers numbers′

@@ -6,10 +6,10 @@ use Rattle.demands.specs.Decoded.{worldOf}
 use Rattle.demands.specs.Compact.{extendedRecords}
 use Rattle.steps.specs.Stepped.{Stepped}
 use Rattle.steps.specs.declared.Turn.{Turn}
-use Rattle.engine.specs.Frames.{frameOf}
+use Rattle.engine.specs.Frames.{frameOf, frameAt, header}
 use Rattle.engine.specs.Going.{CanGoOn}
 use Rattle.engine.specs.declared.Cursor.{Cursor}
 
--- what it leaves stands in the frame after that at `at`, or it has none
-abbrev pub Turns : (s : List ℕ) (st : State) (at : ℕ) (k : Cursor) (w w′ : List ℕ) → Turn → Type 0
-Turns s st at k w w′ t = (g : CanGoOn s st w at k) → Stepped (worldOf s) st (extendedRecords s) (g .frame .rest) (k .next) (at + frameOf s + 64) w w′ t
+-- what it leaves stands in the frame after frame d, or it has none
+abbrev pub Turns : (s : List ℕ) (st : State) (d : ℕ) (k : Cursor) (w w′ : List ℕ) → Turn → Type 0
+Turns s st d k w w′ t = (g : CanGoOn s st w d k) → Stepped (worldOf s) st (extendedRecords s) (g .frame .rest) (k .next) (frameAt s d + frameOf s + header) w w′ t

@@ -4,9 +4,8 @@
 ghost use mathlib.Core.Path.{_≡_};
 ghost use mathlib.Core.Bool.{true, false};
 ghost use mathlib.Core.List.{List};
-ghost use mathlib.Core.Option.{Option};
-ghost use Prim.Native.Nat.{ℕ, _*_, _^_, _≤_, _<_};
-ghost use lib.ListN.{length, getD, replicate};
+ghost use Prim.Native.Nat.{ℕ, _+_, _*_, _^_, _≤_, _<_};
+ghost use lib.ListN.{length, getD};
 ghost use Rattle.height.specs.Work.{workWords};
 ghost use Rattle.sheet.specs.Check.{Accepts};
 ghost use Rattle.sheet.specs.Layout.{layoutOf};
@@ -24,9 +23,9 @@ ghost use Rattle.leaves.specs.Endable.{Skips, FinalsKnown};
 ghost use Rattle.words.specs.Words.{At, Stands};
 ghost use Rattle.ends.specs.Ends.{Totalled};
 ghost use Rattle.state.specs.Truths.{AreTruths};
-ghost use Rattle.engine.specs.Tables.{truthsIn, finalsIn, endableIn, countsIn, OnlyFinals, Prepared, Judged, Surveyed};
+ghost use Rattle.engine.specs.Tables.{window, Only, flagPlaces, endableIn, truthsFrom, finalsAt, numberPlaces, countsFrom, countsAt, Prepared, Judged, Surveyed, Filled};
 ghost use Rattle.engine.specs.Frames.{Of, Frame};
-ghost use Rattle.engine.specs.Going.{isFinal, Ahead, Tells, Coded, CanGoOn, GoesOn};
+ghost use Rattle.engine.specs.Going.{isFinal, Ahead, Tells, Known, IsAction, moveOf, CanGoOn, GoesOn};
 ghost use Rattle.engine.specs.Turns.{Turns};
 use ends::Totals;
 use golog::State;
@@ -34,6 +33,27 @@ use records::Program;
 use sheet::Layout;
 use steps::Setting;
 use steps::Turn;
+
+// The code of a transition that is no move, above every entry of a history.
+const TEST: u32 = 65536;
+
+// The words of a frame before its nodes.
+pub const HEADER: usize = 64;
+
+// Places of the tables: formulas, records that run, and the records from each of which on one is skipped to.
+const FORMULAS: usize = 512;
+
+const RECORDS: usize = 260;
+
+const SKIPS: usize = 261;
+
+// How many sets of tables there are: those for a depth stand until a configuration so much deeper is surveyed.
+pub const SETS: usize = 8;
+
+// The places of the two slices that hold the tables.
+pub const FLAGS: usize = RECORDS + SETS * (FORMULAS + RECORDS);
+
+pub const NUMBERS: usize = SKIPS + SETS * RECORDS;
 
 // What stays the same for a sheet: where its tables lie, whether there are interrupts, and the words of a frame.
 pub struct Machine {
@@ -124,14 +144,14 @@ fn top_of(n: usize, interrupts: bool) -> usize
     if interrupts { n + 3 } else { n - 1 }
 }
 
-// Puts what runs at first, whatever the state, into the first frame of a work area that is as long as required.
+// Puts what runs at first, whatever the state, into frame 0 of a work area that is as long as required.
 pub fn put_first(work: &mut [u32], s: &[u8], m: Machine)
     requires { ⌜ Of (now s) m × (length (now work) ≡ workWords (levelsOf (now s)) (boundOf (now s))) ⌝ }
     ensures { λ _. ⌜ Frame (now (s .entry)) (boundOf (now (s .entry))) (now (work .exit)) 0 (firstOf (now (s .entry)) .0) ⌝ }
     ensures { λ _. ⌜ length (now (work .exit)) ≡ length (now (work .entry)) ⌝ }
 {
     let l = m.layout;
-    words::put_node(work, 64, 1, top_of(l.p, m.interrupts), 1);
+    words::put_node(work, HEADER, 1, top_of(l.p, m.interrupts), 1);
 }
 
 // Makes one table the same as another.
@@ -159,7 +179,7 @@ fn copy_numbers(to: &mut [u32], from: &[u32])
 
 // Fills in once what depends on the sheet alone: which records may be final in some state, and which depend on it.
 pub fn prepare(flags: &mut [bool], numbers: &mut [u32], s: &[u8], m: Machine)
-    requires { ⌜ Of (now s) m × (length (now flags) ≡ 1032) × (now numbers ≡ replicate 521 0) ⌝ }
+    requires { ⌜ Of (now s) m × (length (now flags) ≡ flagPlaces) × (length (now numbers) ≡ numberPlaces) × ((i : ℕ) → getD (now numbers) i 0 ≡ 0) ⌝ }
     ensures { λ _. ⌜ Prepared (now (s .entry)) (now (flags .exit)) (now (numbers .exit)) ⌝ }
 {
     let l = m.layout;
@@ -168,75 +188,105 @@ pub fn prepare(flags: &mut [bool], numbers: &mut [u32], s: &[u8], m: Machine)
     let t = &s[a..b];
     let endable = leaves::bounds(t, l.p, m.interrupts, true);
     let skips = leaves::skips(t, l.p, m.interrupts, &endable);
-    copy_flags(&mut flags[772..], &endable);
-    copy_numbers(&mut numbers[260..], &skips);
+    copy_flags(&mut flags[..RECORDS], &endable);
+    copy_numbers(&mut numbers[..SKIPS], &skips);
+}
+
+// Where the tables for depth d begin: among the flags what the formulas say, and behind it which records are final.
+fn flags_from(d: usize) -> usize
+    ensures { λ r. ⌜ (r ≡ truthsFrom d) × (r + 772 ≤ flagPlaces) ⌝ }
+{
+    RECORDS + (FORMULAS + RECORDS) * (d % SETS)
+}
+
+// Among the numbers how many transitions each record has.
+fn counts_from(d: usize) -> usize
+    ensures { λ r. ⌜ (r ≡ countsFrom d) × (r + 260 ≤ numberPlaces) ⌝ }
+{
+    SKIPS + RECORDS * (d % SETS)
 }
 
 // Takes over for every record whether it may be final: so it is final, unless that depends on the state.
-fn settle(flags: &mut [bool])
-    requires { ⌜ length (now flags) ≡ 1032 ⌝ }
-    ensures { λ _. ⌜ OnlyFinals (now (flags .entry)) (now (flags .exit)) × (finalsIn (now (flags .exit)) ≡ endableIn (now (flags .entry))) ⌝ }
+fn settle(flags: &mut [bool], to: usize)
+    requires { ⌜ (260 ≤ to) × (to + 260 ≤ length (now flags)) ⌝ }
+    ensures { λ _. ⌜ Only to 260 (now (flags .entry)) (now (flags .exit)) × (window to 260 (now (flags .exit)) ≡ endableIn (now (flags .entry))) ⌝ }
 {
     let mut i = 0;
-    while i < 260 {
-        flags[512 + i] = flags[772 + i];
+    while i < RECORDS {
+        flags[to + i] = flags[i];
         i += 1;
     }
 }
 
-// Whether a record is final, by the truths of the formulas and what is told of lower records.
-fn final_by(flags: &[bool], r: Program, running: bool) -> bool
-    requires { ⌜ length (now flags) ≡ 1032 ⌝ }
-    ensures { λ f. ⌜ f ≡ finalBy r (truthsIn (now (flags .entry))) running (finalsIn (now (flags .entry))) ⌝ }
+// Whether a record is final, by the tables that begin at `from`: what the formulas say, and what is told of lower records.
+fn final_by(flags: &[bool], from: usize, r: Program, running: bool) -> bool
+    requires { ⌜ «from» + 772 ≤ length (now flags) ⌝ }
+    ensures { λ f. ⌜ f ≡ finalBy r (window «from» 512 (now (flags .entry))) running (window («from» + 512) 260 (now (flags .entry))) ⌝ }
 {
-    let held = &flags[..512];
-    let finals = &flags[512..772];
+    let middle = from + FORMULAS;
+    let end = middle + RECORDS;
+    let held = &flags[from..middle];
+    let finals = &flags[middle..end];
     leaves::final_at(r, held, running, finals)
 }
 
 // Looks at the records whose finality depends on the state, and at no others.
 fn mark_finals(
     flags: &mut [bool],
+    from: usize,
     programs: &[u8],
     n: usize,
     interrupts: bool,
     skips: &[u32],
     running: bool,
 )
-    requires { ⌜ (8 * n ≤ length (now programs)) × (1 ≤ n) × (n ≤ 256) × (length (now flags) ≡ 1032) ⌝ }
+    requires { ⌜ (8 * n ≤ length (now programs)) × (1 ≤ n) × (n ≤ 256) × («from» + 772 ≤ length (now flags)) ⌝ }
     requires { ⌜ AllLower (extended interrupts (programAt (now programs)) n)
-        × Skips (extended interrupts (programAt (now programs)) n) (extendedSize interrupts n) (finalsIn (now flags)) (now skips) ⌝ }
-    ensures { λ _. ⌜ FinalsKnown (extended interrupts (programAt (now (programs .entry))) n) (extendedSize interrupts n) (truthsIn (now (flags .exit))) running (finalsIn (now (flags .exit))) ⌝ }
-    ensures { λ _. ⌜ OnlyFinals (now (flags .entry)) (now (flags .exit)) ⌝ }
-    ensures { λ _. ⌜ ((i : ℕ) → extendedSize interrupts n ≤ i → getD (finalsIn (now (flags .exit))) i true ≡ getD (finalsIn (now (flags .entry))) i true) ⌝ }
+        × Skips (extended interrupts (programAt (now programs)) n) (extendedSize interrupts n) (window («from» + 512) 260 (now flags)) (now skips) ⌝ }
+    ensures { λ _. ⌜ FinalsKnown (extended interrupts (programAt (now (programs .entry))) n) (extendedSize interrupts n) (window «from» 512 (now (flags .exit))) running
+        (window («from» + 512) 260 (now (flags .exit))) ⌝ }
+    ensures { λ _. ⌜ Only («from» + 512) 260 (now (flags .entry)) (now (flags .exit)) ⌝ }
+    ensures { λ _. ⌜ ((i : ℕ) → extendedSize interrupts n ≤ i → getD (window («from» + 512) 260 (now (flags .exit))) i true
+        ≡ getD (window («from» + 512) 260 (now (flags .entry))) i true) ⌝ }
 {
     let m = leaves::places_of(n, interrupts);
+    let to = from + FORMULAS;
     let mut i = leaves::skip_in(skips, 0, m);
     while i < m {
         let r = leaves::record_at(programs, n, interrupts, i);
-        let f = final_by(flags, r, running);
-        flags[512 + i] = f;
+        let f = final_by(flags, from, r, running);
+        flags[to + i] = f;
         i = leaves::skip_in(skips, i + 1, m);
     }
 }
 
-// Fills in what the formulas say in a state, and which records are final.
-fn judge(flags: &mut [bool], numbers: &[u32], s: &[u8], m: Machine, st: State)
+// Fills in what the formulas say in a state, and which records are final, in the tables for depth d.
+fn judge(flags: &mut [bool], numbers: &[u32], s: &[u8], m: Machine, st: State, d: usize)
     requires { ⌜ Of (now s) m × Prepared (now s) (now flags) (now numbers) ⌝ }
-    ensures { λ _. ⌜ Judged (now (s .entry)) st (now (flags .exit)) (now (numbers .entry)) ⌝ }
+    ensures { λ _. ⌜ Judged (now (s .entry)) st d (now (flags .exit)) (now (numbers .entry)) ⌝ }
+    ensures { λ _. ⌜ Only (truthsFrom d) 772 (now (flags .entry)) (now (flags .exit)) ⌝ }
 {
     let l = m.layout;
-    let a = l.formulas;
-    let b = l.effects;
-    let c = l.programs;
-    let d = l.end;
-    state::truths(&s[a..b], l.q, st, &mut flags[..512]);
-    settle(flags);
-    let skips = &numbers[260..];
-    mark_finals(flags, &s[c..d], l.p, m.interrupts, skips, st.running);
+    let formulas = l.formulas;
+    let effects = l.effects;
+    let programs = l.programs;
+    let end = l.end;
+    let from = flags_from(d);
+    let to = from + FORMULAS;
+    state::truths(&s[formulas..effects], l.q, st, &mut flags[from..to]);
+    settle(flags, to);
+    mark_finals(
+        flags,
+        from,
+        &s[programs..end],
+        l.p,
+        m.interrupts,
+        &numbers[..SKIPS],
+        st.running,
+    );
 }
 
-// Whether the configuration of the frame at `at` and the state is final.
+// Whether the configuration of frame d and the state is final.
 pub fn is_final(
     flags: &mut [bool],
     numbers: &[u32],
@@ -244,52 +294,67 @@ pub fn is_final(
     s: &[u8],
     m: Machine,
     st: State,
-    at: usize,
+    d: usize,
 ) -> bool
     requires { ⌜ Of (now s) m × Prepared (now s) (now flags) (now numbers) ⌝ }
-    requires { ⌜ ((left : ℕ) × (p : Prog) × Frame (now s) left (now work) at p) ⌝ }
-    ensures { λ r. ⌜ ((left : ℕ) (p : Prog) → Frame (now (s .entry)) left (now (work .entry)) at p → r ≡ isFinal (now (s .entry)) (p, st)) ⌝ }
+    requires { ⌜ ((left : ℕ) × (p : Prog) × Frame (now s) left (now work) d p) ⌝ }
+    ensures { λ r. ⌜ ((left : ℕ) (p : Prog) → Frame (now (s .entry)) left (now (work .entry)) d p → r ≡ isFinal (now (s .entry)) (p, st)) ⌝ }
     ensures { λ _. ⌜ Prepared (now (s .entry)) (now (flags .exit)) (now (numbers .entry)) ⌝ }
+    ensures { λ _. ⌜ Filled d d (now (flags .entry)) (now (flags .exit)) (now (numbers .entry)) (now (numbers .entry)) ⌝ }
 {
-    judge(flags, numbers, s, m, st);
-    ends::final_rest(&flags[512..772], work, at + 64)
+    judge(flags, numbers, s, m, st, d);
+    let from = flags_from(d) + FORMULAS;
+    let to = from + RECORDS;
+    ends::final_rest(&flags[from..to], work, d * m.frame + HEADER)
 }
 
-// Fills in how many transitions each record has in a state.
-fn tally(numbers: &mut [u32], flags: &[bool], s: &[u8], m: Machine, st: State)
-    requires { ⌜ Of (now s) m × Judged (now s) st (now flags) (now numbers) ⌝ }
-    ensures { λ _. ⌜ Surveyed (now (s .entry)) st (now (flags .entry)) (now (numbers .exit)) ⌝ }
+// Fills in how many transitions each record has in a state, in the tables for depth d.
+fn tally(numbers: &mut [u32], flags: &[bool], s: &[u8], m: Machine, st: State, d: usize)
+    requires { ⌜ Of (now s) m × Judged (now s) st d (now flags) (now numbers) ⌝ }
+    ensures { λ _. ⌜ Surveyed (now (s .entry)) st d (now (flags .entry)) (now (numbers .exit)) ⌝ }
+    ensures { λ _. ⌜ Only (countsFrom d) 260 (now (numbers .entry)) (now (numbers .exit)) ⌝ }
 {
     let l = m.layout;
-    let a = l.actions;
-    let b = l.programs;
-    let c = l.end;
-    let held = &flags[..512];
-    let finals = &flags[512..772];
+    let actions = l.actions;
+    let programs = l.programs;
+    let end = l.end;
+    let from = flags_from(d);
+    let middle = from + FORMULAS;
+    let to = middle + RECORDS;
+    let first = counts_from(d);
+    let last = first + RECORDS;
     leaves::tallies(
-        &mut numbers[..260],
-        &s[b..c],
+        &mut numbers[first..last],
+        &s[programs..end],
         l.p,
         m.interrupts,
-        &s[a..b],
+        &s[actions..programs],
         l.a,
-        held,
+        &flags[from..middle],
         st.running,
-        finals,
+        &flags[middle..to],
     );
 }
 
-// What the tables say of the remaining program at `at`.
-fn total(flags: &[bool], numbers: &[u32], work: &[u32], at: usize) -> Totals
-    requires { ⌜ (length (now flags) ≡ 1032) × (length (now numbers) ≡ 521) × Stands (now work) at × (length (now work) < 2 ^ 32) ⌝ }
-    ensures { λ r. ⌜ ((g : Rest) → At g (now (work .entry)) at → Totalled (finalsIn (now (flags .entry))) (endableIn (now (flags .entry))) (countsIn (now (numbers .entry))) g r) ⌝ }
+// What the tables for depth d say of the remaining program at `at`.
+fn total(flags: &[bool], numbers: &[u32], work: &[u32], d: usize, at: usize) -> Totals
+    requires { ⌜ (length (now flags) ≡ flagPlaces) × (length (now numbers) ≡ numberPlaces) × Stands (now work) at × (length (now work) < 2 ^ 32) ⌝ }
+    ensures { λ r. ⌜ ((g : Rest) → At g (now (work .entry)) at → Totalled (finalsAt d (now (flags .entry))) (endableIn (now (flags .entry))) (countsAt d (now (numbers .entry))) g r) ⌝ }
 {
-    let finals = &flags[512..772];
-    let endable = &flags[772..];
-    ends::total_rest(finals, endable, &numbers[..260], work, at)
+    let from = flags_from(d) + FORMULAS;
+    let to = from + RECORDS;
+    let first = counts_from(d);
+    let last = first + RECORDS;
+    ends::total_rest(
+        &flags[from..to],
+        &flags[..RECORDS],
+        &numbers[first..last],
+        work,
+        at,
+    )
 }
 
-// Surveys the configuration of the frame at `at` and the state: the tables become those of the state.
+// Surveys the configuration of frame d and the state: the tables for depth d become those of the state.
 pub fn survey(
     flags: &mut [bool],
     numbers: &mut [u32],
@@ -297,16 +362,17 @@ pub fn survey(
     s: &[u8],
     m: Machine,
     st: State,
-    at: usize,
+    d: usize,
 ) -> Findings
     requires { ⌜ Of (now s) m × Prepared (now s) (now flags) (now numbers) ⌝ }
-    requires { ⌜ ((left : ℕ) × (p : Prog) × Frame (now s) left (now work) at p) ⌝ }
-    ensures { λ r. ⌜ ((left : ℕ) (p : Prog) → Frame (now (s .entry)) left (now (work .entry)) at p → Tells (now (s .entry)) (p, st) r) ⌝ }
-    ensures { λ _. ⌜ Surveyed (now (s .entry)) st (now (flags .exit)) (now (numbers .exit)) ⌝ }
+    requires { ⌜ ((left : ℕ) × (p : Prog) × Frame (now s) left (now work) d p) ⌝ }
+    ensures { λ r. ⌜ ((left : ℕ) (p : Prog) → Frame (now (s .entry)) left (now (work .entry)) d p → Tells (now (s .entry)) (p, st) r) ⌝ }
+    ensures { λ _. ⌜ Surveyed (now (s .entry)) st d (now (flags .exit)) (now (numbers .exit)) ⌝ }
+    ensures { λ _. ⌜ Filled d d (now (flags .entry)) (now (flags .exit)) (now (numbers .entry)) (now (numbers .exit)) ⌝ }
 {
-    judge(flags, numbers, s, m, st);
-    tally(numbers, flags, s, m, st);
-    let x = total(flags, numbers, work, at + 64);
+    judge(flags, numbers, s, m, st, d);
+    tally(numbers, flags, s, m, st, d);
+    let x = total(flags, numbers, work, d, d * m.frame + HEADER);
     Findings {
         done: x.done,
         soon: x.soon,
@@ -320,17 +386,24 @@ pub fn survey(
 // The state after a transition, where `held` has what the formulas say in the state before it.
 fn state_after(s: &[u8], m: Machine, held: &[bool], entry: u32, st: State) -> State
     requires { ⌜ Of (now s) m × AreTruths (worldOf (now s)) st (layoutOf (now s) .q) (now held) ⌝ }
-    requires { ⌜ ((x : Option ℕ) × Coded (now s) entry x) ⌝ }
-    ensures { λ r. ⌜ ((x : Option ℕ) → Coded (now (s .entry)) entry x → r ≡ after (worldOf (now (s .entry))) x st) ⌝ }
+    requires { ⌜ Known (IsAction (now s)) (moveOf entry) ⌝ }
+    ensures { λ r. ⌜ r ≡ after (worldOf (now (s .entry))) (moveOf entry) st ⌝ }
 {
-    if entry == 65536 {
+    if entry == TEST {
         return st;
     }
     let l = m.layout;
-    let a = l.effects;
-    let b = l.actions;
-    let c = l.programs;
-    state::perform(&s[a..b], &s[b..c], l.f, held, entry as usize, st)
+    let effects = l.effects;
+    let actions = l.actions;
+    let programs = l.programs;
+    state::perform(
+        &s[effects..actions],
+        &s[actions..programs],
+        l.f,
+        held,
+        entry as usize,
+        st,
+    )
 }
 
 // Whether nothing is ahead of a cursor.
@@ -340,7 +413,7 @@ pub fn is_spent(k: Cursor) -> bool
     k.end <= k.next
 }
 
-// Lays what the transition at a cursor leaves out in the frame after that at `at`.
+// Lays what the transition at a cursor leaves out in the frame after frame d.
 fn lay_next(
     work: &mut [u32],
     flags: &[bool],
@@ -348,25 +421,37 @@ fn lay_next(
     s: &[u8],
     m: Machine,
     st: State,
-    at: usize,
+    d: usize,
     k: Cursor,
 ) -> Turn
-    requires { ⌜ Of (now s) m × Surveyed (now s) st (now flags) (now numbers) × CanGoOn (now s) st (now work) at k ⌝ }
-    ensures { λ r. ⌜ Turns (now (s .entry)) st at k (now (work .entry)) (now (work .exit)) r ⌝ }
+    requires { ⌜ Of (now s) m × Surveyed (now s) st d (now flags) (now numbers) × CanGoOn (now s) st (now work) d k ⌝ }
+    ensures { λ r. ⌜ Turns (now (s .entry)) st d k (now (work .entry)) (now (work .exit)) r ⌝ }
 {
     let l = m.layout;
-    let a = l.programs;
-    let b = l.end;
+    let programs = l.programs;
+    let end = l.end;
     let v = Setting {
         n: l.p,
         interrupts: m.interrupts,
         running: st.running,
     };
-    let held = &flags[..512];
-    let finals = &flags[512..772];
-    let counts = &numbers[..260];
-    let to = at + m.frame + 64;
-    steps::step_rest(&s[a..b], v, held, finals, counts, work, at + 64, to, k.next)
+    let from = flags_from(d);
+    let middle = from + FORMULAS;
+    let to = middle + RECORDS;
+    let first = counts_from(d);
+    let last = first + RECORDS;
+    let at = d * m.frame + HEADER;
+    steps::step_rest(
+        &s[programs..end],
+        v,
+        &flags[from..middle],
+        &flags[middle..to],
+        &numbers[first..last],
+        work,
+        at,
+        at + m.frame,
+        k.next,
+    )
 }
 
 // No transition was made.
@@ -381,7 +466,7 @@ fn none_made(st: State, k: Cursor) -> Taken
     }
 }
 
-// Makes the next transition from a cursor on into the frame after that at `at`, or says that there is none.
+// Makes the next transition from a cursor on into the frame after frame d, or says that there is none.
 pub fn next(
     work: &mut [u32],
     flags: &[bool],
@@ -389,20 +474,22 @@ pub fn next(
     s: &[u8],
     m: Machine,
     st: State,
-    at: usize,
+    d: usize,
     k: Cursor,
 ) -> Taken
-    requires { ⌜ Of (now s) m × Surveyed (now s) st (now flags) (now numbers) × CanGoOn (now s) st (now work) at k ⌝ }
-    ensures { λ r. ⌜ GoesOn (now (s .entry)) st at k (now (work .entry)) (now (work .exit)) r ⌝ }
+    requires { ⌜ Of (now s) m × Surveyed (now s) st d (now flags) (now numbers) × CanGoOn (now s) st (now work) d k ⌝ }
+    ensures { λ r. ⌜ GoesOn (now (s .entry)) st d k (now (work .entry)) (now (work .exit)) r ⌝ }
 {
     if k.end <= k.next {
         return none_made(st, k);
     }
-    let turn = lay_next(work, flags, numbers, s, m, st, at, k);
+    let turn = lay_next(work, flags, numbers, s, m, st, d, k);
     let Turn::Made { entry, size: _ } = turn else {
         return none_made(st, k);
     };
-    let state = state_after(s, m, &flags[..512], entry, st);
+    let from = flags_from(d);
+    let to = from + FORMULAS;
+    let state = state_after(s, m, &flags[from..to], entry, st);
     Taken {
         made: true,
         entry,

@@ -40,19 +40,12 @@ module _ {C : Type 0} where
       (tries-free (λ (d : C × List ℕ). verdictWithin transitions final true k d) (λ (d : C). search transitions final k d) (λ d. outcome-free transitions final k d) (transitions c))
 
 -- whether there is a plan among two rows
-plan-before : (m : Option ℕ) (v r : Verdict) → isPlan (before m v r) ≡ (isPlan v || isPlan r)
+pub plan-before : (m : Option ℕ) (v r : Verdict) → isPlan (before m v r) ≡ (isPlan v || isPlan r)
 plan-before m (plan h t) r = refl
 plan-before m nothing r = refl
 plan-before m more (plan h t) = refl
 plan-before m more nothing = refl
 plan-before m more more = refl
-
-plan-join : (v w : Verdict) → isPlan v ≡ false → isPlan w ≡ false → isPlan (join v w) ≡ false
-plan-join (plan h t) w e f = e
-plan-join nothing w e f = f
-plan-join more (plan h t) e f = f
-plan-join more nothing e f = refl
-plan-join more more e f = refl
 
 pub plan-any : {C : Type 0} (xs : List (Option ℕ × C)) → isPlan (anyTransition xs) ≡ false
 plan-any [] = refl
@@ -76,36 +69,6 @@ module _ {C : Type 0} (transitions : C → List (Option ℕ × C)) (final : C �
       plan-unless (guidedFinal final c) _ _
       (plan-tries (λ (d : C × List ℕ). verdictWithin transitions final free k d) (λ (d : C × List ℕ). search (guidedTransitions free transitions) (guidedFinal final) k d)
       (λ d. outcome-plan k d) (guidedTransitions free transitions c))
-
-  -- at the bound, and one transition before it, there is no plan where nothing final is reached
-  final-plan : (c : C) (g : List ℕ) → final c ≡ false → isPlan (verdictWithin transitions final free 0 (c, g)) ≡ false
-  final-plan c g e = go (isNil g) (final c) e ∙ plan-any (transitions c)
-    where
-      go : (a b : Bool) → b ≡ false → isPlan (unless (a && b) (anyTransition (transitions c))) ≡ isPlan (anyTransition (transitions c))
-      go true b e = ap (λ (b : Bool). isPlan (unless b (anyTransition (transitions c)))) e
-      go false b e = refl
-
-  one-plan : (g : List ℕ) (x : Option ℕ × C) → final (x .1) ≡ false → isPlan (tries (λ (d : C × List ℕ). verdictWithin transitions final free 0 d) (follow1 free g (x .0) (x .1))) ≡ false
-  one-plan g (none, d) e = plan-before none (verdictWithin transitions final free 0 (d, g)) nothing ∙ ap (λ (b : Bool). b || false) (final-plan d g e)
-  one-plan [] (some a, d) e = go free
-    where
-      go : (b : Bool) → isPlan (tries (λ (d : C × List ℕ). verdictWithin transitions final free 0 d) (only b ((some a, (d, [])) ∷ []))) ≡ false
-      go true = plan-before (some a) (verdictWithin transitions final free 0 (d, [])) nothing ∙ ap (λ (b : Bool). b || false) (final-plan d [] e)
-      go false = refl
-  one-plan (b ∷ g) (some a, d) e = go (eqb b a)
-    where
-      go : (b : Bool) → isPlan (tries (λ (d : C × List ℕ). verdictWithin transitions final free 0 d) (only b ((some a, (d, g)) ∷ []))) ≡ false
-      go true = plan-before (some a) (verdictWithin transitions final free 0 (d, g)) nothing ∙ ap (λ (b : Bool). b || false) (final-plan d g e)
-      go false = refl
-
-  pub next-plan :
-      (g : List ℕ) (xs : List (Option ℕ × C)) → ((x : Option ℕ × C) → List·Memᴰ x xs → final (x .1) ≡ false)
-      → isPlan (tries (λ (d : C × List ℕ). verdictWithin transitions final free 0 d) (follow free g xs)) ≡ false
-  next-plan g [] h = refl
-  next-plan g (x ∷ xs) h =
-      let f : C × List ℕ → Verdict = λ d. verdictWithin transitions final free 0 d in
-      ap isPlan (tries-append f (follow1 free g (x .0) (x .1)) (follow free g xs))
-      ∙ plan-join (tries f (follow1 free g (x .0) (x .1))) (tries f (follow free g xs)) (one-plan g x (h x (List·Memᴰ·head refl))) (next-plan g xs (λ y k. h y (List·Memᴰ·tail k)))
 
 -- replay
 pub outcome-closed :

@@ -1,5 +1,6 @@
-pub mod Coded
+pub mod Given
 pub mod Rows
 pub mod Looking
 pub mod Trying
 pub mod Expanding
+pub mod Starting

@@ -22,6 +22,16 @@ pub says-flag : (n d : ℕ) (trace : List ℕ) (cut : Bool) → ReportsVerdict n
 says-flag n d trace true = (refl, refl)
 says-flag n d trace false = (refl, refl)
 
+-- what is told is no plan, and tells the flag
+pub told-more : (cut : Bool) → (isFound (told cut) ≡ false) × (isMore (told cut) ≡ cut)
+told-more true = (refl, refl)
+told-more false = (refl, refl)
+
+-- where no plan was found nothing is written
+pub noted-none : (m : Option ℕ) (n : ℕ) (o : Outcome) (trace : List ℕ) → isFound o ≡ false → noted m n o trace ≡ trace
+noted-none none n o trace e = refl
+noted-none (some a) n o trace e = ap (λ (b : Bool). cond b (set trace n a) trace) e
+
 -- and the answer is that
 pub more-reported : (n d : ℕ) (trace : List ℕ) (cut : Bool) (v : Verdict) → cut ≡ true → isPlan v ≡ false → Reported n d trace trace More (join (flagged cut) v)
 more-reported n d trace cut v e h = record { says = subst (ReportsVerdict n d trace trace More) (sym (no-plan cut v e h)) (refl, refl) }

@@ -16,9 +16,13 @@ use Rattle.remaining.specs.Extended.{extended}
 use Rattle.words.specs.Words.{At, Kept, Room}
 use Rattle.leaves.specs.Tallies.{extendedSize, countsOf, Sees}
 
--- an entry of a history, or 65536 where a transition is no move (document 01: "A test is a transition but no move")
+-- the code of a transition that is no move (document 01: "A test is a transition but no move"), above every entry of a history
+abbrev pub testCode : ℕ
+testCode = 65536
+
+-- an entry of a history, or that code
 abbrev pub codeOf : Option ℕ → ℕ
-codeOf none = 65536
+codeOf none = testCode
 codeOf (some a) = a
 
 -- the table that runs, with its number of records; the truths of the formulas; whether interrupts run; how many transitions each record has

@@ -3,96 +3,112 @@ use denote.Ref.{now}
 use native.Mathlib.Omega.{arith}
 use mathlib.Core.Bool.{Bool, true}
 use mathlib.Core.List.{List}
-use mathlib.Core.Path.{sym, _∙_, ap, subst}
-use lib.ListN.{getD, drop}
-use lib.Seq.{length-front, take-at}
+use mathlib.Core.Path.{_≡_, refl, sym, _∙_, ap, subst, subst₂}
+use Prim.Native.Nat.{ℕ, _+_, _-_, _≤_}
+use lib.ListN.{length, getD}
+use lib.Seq.{length-take-le}
+use borrow.Rule.Slice.PartMut.{putMid, same-len-mid}
 use Rattle.records.specs.Lower.{LowerFormulas}
 use Rattle.sheet.specs.Layout.{formulasIn}
 use Rattle.sheet.specs.declared.Layout.{Layout}
 use Rattle.sheet.proofs.Lower.{lower-formulas}
-use Rattle.engine.specs.Tables.{truthsIn}
+use Rattle.leaves.specs.Endable.{FinalsKnown}
+use Rattle.engine.specs.Tables.{window, Only, endableIn, truthsFrom, finalsFrom, truthsAt, finalsAt}
 use Rattle.engine.proofs.Parts.{in-order, fits-in, formulas-long, programs-long}
-use Rattle.engine.proofs.Tables.{truths-long, to-end, endable-behind}
-use Rattle.engine.proofs.Judging.{runs-lower, skips-by, truths-told, judged}
+use Rattle.engine.proofs.Tables.{truths-long, endable-kept}
+use Rattle.engine.proofs.Windows.{window-at, window-at-long, only-in, only-then, only-put, window-put, window-before}
+use Rattle.engine.proofs.Judging.{runs, many, runs-lower, skips-by, truths-told, judged}
 use borrow.Author.Needs.{needs}
 use Rattle.engine.proofs.judge.Statement.{statement}
 use Rattle.engine.proofs.judge.Tie as tie
 
-sub-truths : tie.Need-sub-truths
-sub-truths c = in-order (fits-in (c .before .before .before .before .pre .0)) .formulas
+flags-from-requires : tie.Need-flags-from-requires
+flags-from-requires c κs = search needs
 
-part-truths-start : tie.Need-part-truths-start
-part-truths-start c = let o = in-order (fits-in (c .before .before .before .before .pre .0)) in omega arith
-
-part-truths-end : tie.Need-part-truths-end
-part-truths-end c = let o = in-order (fits-in (c .before .before .before .before .pre .0)) in omega arith
-
-slice-relend-prefix-truths : tie.Need-slice-relend-prefix-truths
-slice-relend-prefix-truths c = search needs
+add-to : tie.Need-add-to
+add-to c = search needs
 
 -- Places: what stands before a need, by name. Written by `named`: run it again when the code changes.
-abbrev start-from-slice-aggregate-truths : tie.After-truths-arg2 → tie.Start
-start-from-slice-aggregate-truths c = c .before .before .before .before .before .before
-
-abbrev start-from-truths : tie.After-truths → tie.Start
-start-from-truths c = start-from-slice-aggregate-truths (c .before)
+abbrev start-from-flags-from : tie.After-flags-from → tie.Start
+start-from-flags-from c = c .before .before .before .before .before
 
 abbrev start-from-settle : tie.After-settle → tie.Start
-start-from-settle c = start-from-truths (c .before .before .before .before)
+start-from-settle c = start-from-flags-from (c .before .before .before .before .before .before .before)
 
-abbrev settle-from-mark-finals-requires : tie.After-mark-finals-arg2 → tie.After-settle
-settle-from-mark-finals-requires c = c .before .before .before .before .before
+abbrev settle-from-slice-aggregate-mark-finals : tie.After-mark-finals-arg3 → tie.After-settle
+settle-from-slice-aggregate-mark-finals c = c .before .before .before .before .before
+
+abbrev start-from-slice-aggregate-mark-finals : tie.After-mark-finals-arg3 → tie.Start
+start-from-slice-aggregate-mark-finals c = start-from-settle (settle-from-slice-aggregate-mark-finals c)
 
 abbrev settle-from-mark-finals : tie.After-mark-finals → tie.After-settle
-settle-from-mark-finals c = settle-from-mark-finals-requires (c .before)
+settle-from-mark-finals c = settle-from-slice-aggregate-mark-finals (c .before)
 
-slice-aggregate-truths : tie.Need-slice-aggregate-truths
-slice-aggregate-truths c = truths-long (start-from-slice-aggregate-truths c .pre .1)
+sub-truths : tie.Need-sub-truths
+sub-truths c = in-order (fits-in (start-from-flags-from c .pre .0)) .formulas
+
+part-truths-start : tie.Need-part-truths-start
+part-truths-start c = let o = in-order (fits-in (start-from-flags-from c .pre .0)) in omega arith
+
+part-truths-end : tie.Need-part-truths-end
+part-truths-end c = let o = in-order (fits-in (start-from-flags-from c .pre .0)) in omega arith
+
+sub-truths-2 : tie.Need-sub-truths-2
+sub-truths-2 c = search needs
+
+part-truths-start-2 : tie.Need-part-truths-start-2
+part-truths-start-2 c = search needs
+
+part-truths-end-2 : tie.Need-part-truths-end-2
+part-truths-end-2 c = search needs
 
 truths-requires : tie.Need-truths-requires
 truths-requires c κs =
-    let at-start = start-from-slice-aggregate-truths c in
+    let at-flags-from = c .before .before in
+    let at-start = start-from-flags-from at-flags-from in
     let O = at-start .pre .0 in
     let s = now (at-start .args .s) in
     let f = fits-in O in
+    let x = at-flags-from .flags-from .result in
+    let T = window-at x (truthsFrom (at-start .args .d)) (x + 512) 512 (now (at-start .args .flags)) (at-flags-from .flags-from .ensures .0) (omega arith) in
     let low = subst (λ (l : Layout). LowerFormulas (formulasIn s l) (l .q)) (sym (O .layout-is)) (lower-formulas s (O .accepted)) in
-    ((formulas-long s _ f, omega (arith, f .q, truths-long (at-start .pre .1))), low)
+    ((formulas-long s _ f, omega (arith, f .q, ap length T, truths-long (at-start .pre .1) (at-start .args .d))), low)
 
 settle-requires : tie.Need-settle-requires
 settle-requires c κs = search needs
 
-sub-skips : tie.Need-sub-skips
-sub-skips c = search needs
-
-part-skips-start : tie.Need-part-skips-start
-part-skips-start c = search needs
-
-part-skips-end : tie.Need-part-skips-end
-part-skips-end c = search needs
-
 sub-mark-finals : tie.Need-sub-mark-finals
-sub-mark-finals c = in-order (fits-in (start-from-settle (c .before .before .before .before) .pre .0)) .programs
+sub-mark-finals c = in-order (fits-in (start-from-settle (c .before .before .before) .pre .0)) .programs
 
 part-mark-finals-start : tie.Need-part-mark-finals-start
-part-mark-finals-start c = let o = in-order (fits-in (start-from-settle (c .before .before .before .before) .pre .0)) in omega arith
+part-mark-finals-start c = let o = in-order (fits-in (start-from-settle (c .before .before .before) .pre .0)) in omega arith
 
 part-mark-finals-end : tie.Need-part-mark-finals-end
-part-mark-finals-end c = in-order (fits-in (start-from-settle (c .before .before .before .before) .pre .0)) .end
+part-mark-finals-end c = in-order (fits-in (start-from-settle (c .before .before .before) .pre .0)) .end
+
+slice-aggregate-mark-finals : tie.Need-slice-aggregate-mark-finals
+slice-aggregate-mark-finals c =
+    let at-start = start-from-slice-aggregate-mark-finals c in
+    sym (length-take-le 261 (now (at-start .args .numbers)) (omega (arith, at-start .pre .1 .numbers-long)))
 
 mark-finals-requires : tie.Need-mark-finals-requires
 mark-finals-requires c κs =
-    let at-settle = settle-from-mark-finals-requires c in
+    let at-settle = settle-from-slice-aggregate-mark-finals c in
     let at-truths = at-settle .before .before .before .before in
-    let at-start = start-from-truths at-truths in
+    let at-flags-from = at-truths .before .before .before in
+    let at-start = start-from-flags-from at-flags-from in
     let O = at-start .pre .0 in
     let P = at-start .pre .1 in
     let r = programs-long _ _ (fits-in O) in
     let flags = now (at-start .args .flags) in
+    let x = at-flags-from .flags-from .result in
+    let fits : x + 772 ≤ length flags = omega (arith, at-flags-from .flags-from .ensures .1, P .flags-long) in
     let held = at-truths .truths .last .1 .1 .1 .0 in
-    let long = at-truths .truths .kept .1 .1 .1 .0 in
-    let finals = at-settle .settle .ensures .1 ∙ endable-behind flags held (long ∙ sym (truths-long P)) in
-    let n = at-settle .settle .kept .0 ∙ length-front flags held 512 long ∙ P .flags-long in
-    ((r .0, r .1, r .2, n), (runs-lower O, skips-by O P _ _ finals (to-end 260 (now (at-start .args .numbers)))))
+    let long : length held ≡ 512 = at-truths .truths .kept .1 .1 .1 .0 ∙ window-at-long x (x + 512) 512 flags (omega arith) (omega arith) in
+    let first = only-put x (x + 512) 512 flags held (omega arith) (omega arith) long in
+    let finals = at-settle .settle .ensures .1 ∙ endable-kept (omega (arith, at-flags-from .flags-from .ensures .0)) first in
+    let n = at-settle .settle .kept .0 ∙ same-len-mid x (x + 512 - x) flags held (at-truths .truths .kept .1 .1 .1 .0) in
+    ((r .0, r .1, r .2, omega (arith, n)), (runs-lower O, skips-by O P _ _ finals refl))
 
 same-length : tie.Need-same-length
 same-length c = search needs
@@ -102,39 +118,62 @@ returns c =
     let at-mark-finals = c .before .before in
     let at-settle = settle-from-mark-finals at-mark-finals in
     let at-truths = at-settle .before .before .before .before in
-    let at-start = start-from-truths at-truths in
+    let at-flags-from = at-truths .before .before .before in
+    let at-start = start-from-flags-from at-flags-from in
     let O = at-start .pre .0 in
     let P = at-start .pre .1 in
+    let d = at-start .args .d in
+    let st = at-start .args .st in
     let flags = now (at-start .args .flags) in
+    let x = at-flags-from .flags-from .result in
+    let ex = at-flags-from .flags-from .ensures .0 in
+    let fits : x + 772 ≤ length flags = omega (arith, at-flags-from .flags-from .ensures .1, P .flags-long) in
     let held = at-truths .truths .last .1 .1 .1 .0 in
-    let long = at-truths .truths .kept .1 .1 .1 .0 in
-    let many = long ∙ sym (truths-long P) in
+    let long : length held ≡ 512 = at-truths .truths .kept .1 .1 .1 .0 ∙ window-at-long x (x + 512) 512 flags (omega arith) (omega arith) in
+    let flags₁ = putMid x (x + 512 - x) flags held in
+    let flags₂ = at-settle .settle .last .0 in
+    let flags₃ = at-mark-finals .mark-finals .last .0 in
+    let n₁ = same-len-mid x (x + 512 - x) flags held (at-truths .truths .kept .1 .1 .1 .0) in
+    let n₂ = at-settle .settle .kept .0 in
+    let n₃ = at-mark-finals .mark-finals .kept .0 in
+    let K₁ = only-put x (x + 512) 512 flags held (omega arith) (omega arith) long in
     let S = at-settle .settle .ensures in
     let M = at-mark-finals .mark-finals .ensures in
-    let endable = endable-behind flags held many in
-    let n = at-mark-finals .mark-finals .kept .0 ∙ at-settle .settle .kept .0 ∙ length-front flags held 512 long ∙ P .flags-long in
-    let truths = M .1 .0 .truths-kept ∙ S .0 .truths-kept ∙ take-at held (drop 512 flags) 512 many ∙ at-truths .truths .ensures in
-    judged O P (at-start .args .st) (at-mark-finals .mark-finals .last .0) n (M .1 .0 .endable-kept ∙ S .0 .endable-kept ∙ endable)
-    (truths-told O (at-start .args .st) (truthsIn flags) truths) (M .0)
-    (λ i l. M .1 .1 i l ∙ ap (λ (x : List Bool). getD x i true) (S .1 ∙ endable))
+    let K : Only (truthsFrom d) 772 flags flags₃ =
+    subst (λ (o : ℕ). Only o 772 flags flags₃) ex
+    (only-then (only-in (omega arith) (omega arith) K₁) (only-then (only-in (omega arith) (omega arith) (S .0)) (only-in (omega arith) (omega arith) (M .1 .0)))) in
+    let finals : (l : List Bool) → window (x + 512) 260 l ≡ finalsAt d l = λ l. let e : x + 512 ≡ finalsFrom d = omega arith in ap (λ (o : ℕ). window o 260 l) e in
+    let truths : (l : List Bool) → window x 512 l ≡ truthsAt d l = λ l. ap (λ (o : ℕ). window o 512 l) ex in
+    let same = window-before (M .1 .0) n₃ x 512 (omega arith) (omega (arith, n₁, n₂)) ∙ window-before (S .0) n₂ x 512 (omega arith) (omega (arith, n₁)) in
+    let told = sym (truths flags₃) ∙ same ∙ window-put x (x + 512) 512 flags held (omega arith) (omega arith) long ∙ at-truths .truths .ensures in
+    let before : endableIn flags₁ ≡ endableIn flags = endable-kept (omega arith) K₁ in (
+      judged O P st d flags₃ (n₃ ∙ n₂ ∙ n₁) K
+          (truths-told O st _ told)
+          (subst₂ (λ (t f : List Bool). FinalsKnown (runs (now (at-start .args .s)) (at-start .args .m .layout) (at-start .args .m .interrupts))
+          (many (at-start .args .m .layout) (at-start .args .m .interrupts)) t (st .running) f)
+          (truths flags₃) (finals flags₃) (M .0))
+          (λ i l. ap (λ (y : List Bool). getD y i true) (sym (finals flags₃)) ∙ M .1 .1 i l ∙ ap (λ (y : List Bool). getD y i true) (S .1 ∙ before)),
+      K,
+    )
 
 pub judge-spec : {M : Type 1} → statement M
 judge-spec =
     tie.close
     (tie.spec
+    flags-from-requires
+    add-to
     sub-truths
     part-truths-start
     part-truths-end
-    slice-relend-prefix-truths
-    slice-aggregate-truths
+    sub-truths-2
+    part-truths-start-2
+    part-truths-end-2
     truths-requires
     settle-requires
-    sub-skips
-    part-skips-start
-    part-skips-end
     sub-mark-finals
     part-mark-finals-start
     part-mark-finals-end
+    slice-aggregate-mark-finals
     mark-finals-requires
     same-length
     returns)

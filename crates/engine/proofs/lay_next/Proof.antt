@@ -1,88 +1,178 @@
 -- The step is asked what stands in the frame, with the tables of its state. Assumes nothing.
+use denote.Ref.{now}
 use native.Mathlib.Omega.{arith}
+use mathlib.Core.Bool.{Bool}
+use mathlib.Core.List.{List}
+use mathlib.Core.Path.{_≡_, sym, _∙_, ap, subst}
+use Prim.Native.Nat.{ℕ, _+_}
+use Rattle.sheet.specs.Layout.{programsIn}
+use Rattle.steps.specs.Laid.{sourcesOf}
+use Rattle.steps.specs.Stepped.{CanStep, StepsRest}
+use Rattle.engine.specs.Frames.{header, frameAt, frameOf, nodesAt}
+use Rattle.engine.specs.Tables.{truthsFrom, finalsFrom, countsFrom, truthsAt, finalsAt, countsAt}
 use Rattle.engine.proofs.Parts.{in-order, fits-in, programs-long}
-use Rattle.engine.proofs.Tables.{truths-long, counts-long}
+use Rattle.engine.proofs.Frames.{frame-by, next-inside}
+use Rattle.engine.proofs.Windows.{window-at}
 use Rattle.engine.proofs.Made.{asked, turned}
 use borrow.Author.Needs.{needs}
 use Rattle.engine.proofs.lay_next.Statement.{statement}
 use Rattle.engine.proofs.lay_next.Tie as tie
 
--- Places: what stands before a need, by name. Written by `named`: run it again when the code changes.
-abbrev start-from-slice-aggregate-held : tie.After-held → tie.Start
-start-from-slice-aggregate-held c = c .before .before .before .before .before .before
+flags-from-requires : tie.Need-flags-from-requires
+flags-from-requires c κs = search needs
 
-abbrev start-from-slice-aggregate-counts : tie.After-counts → tie.Start
-start-from-slice-aggregate-counts c = start-from-slice-aggregate-held (c .before .before)
-
-abbrev start-from-sub-step-rest : tie.After-struct-known → tie.Start
-start-from-sub-step-rest c = start-from-slice-aggregate-counts (c .before)
-
-abbrev start-from-step-rest-requires : tie.After-step-rest-arg2 → tie.Start
-start-from-step-rest-requires c = start-from-sub-step-rest (c .before .before)
-
-abbrev start-from-step-rest : tie.After-step-rest → tie.Start
-start-from-step-rest c = start-from-step-rest-requires (c .before)
-
-slice-aggregate-held : tie.Need-slice-aggregate-held
-slice-aggregate-held c = truths-long (start-from-slice-aggregate-held c .pre .1 .prepared)
-
-sub-finals : tie.Need-sub-finals
-sub-finals c = search needs
-
-part-finals-start : tie.Need-part-finals-start
-part-finals-start c = search needs
-
-part-finals-end : tie.Need-part-finals-end
-part-finals-end c = search needs
-
-slice-aggregate-counts : tie.Need-slice-aggregate-counts
-slice-aggregate-counts c = counts-long (start-from-slice-aggregate-counts c .pre .1 .prepared)
+add-middle : tie.Need-add-middle
+add-middle c = search needs
 
 add-to : tie.Need-add-to
 add-to c = search needs
 
-add-to-2 : tie.Need-add-to-2
-add-to-2 c = search needs
+counts-from-requires : tie.Need-counts-from-requires
+counts-from-requires c κs = search needs
+
+add-last : tie.Need-add-last
+add-last c = search needs
+
+-- Places: what stands before a need, by name. Written by `named`: run it again when the code changes.
+abbrev start-from-flags-from : tie.After-flags-from → tie.Start
+start-from-flags-from c = c .before .before .before .before .before .before
+
+abbrev start-from-counts-from : tie.After-counts-from → tie.Start
+start-from-counts-from c = start-from-flags-from (c .before)
+
+abbrev counts-from-from-add-step-rest : tie.After-struct-known2 → tie.After-counts-from
+counts-from-from-add-step-rest c = c .before .before .before .before .before .before .before
+
+abbrev start-from-add-step-rest : tie.After-struct-known2 → tie.Start
+start-from-add-step-rest c = start-from-counts-from (counts-from-from-add-step-rest c)
+
+abbrev counts-from-from-step-rest : tie.After-step-rest → tie.After-counts-from
+counts-from-from-step-rest c = counts-from-from-add-step-rest (c .before)
+
+mul-at : tie.Need-mul-at
+mul-at c =
+    let at-start = start-from-counts-from (c .before) in
+    let F = at-start .pre .2 .frame in
+    omega (arith, frame-by (at-start .pre .0) (at-start .args .d), F .roomy .inside, F .roomy .small)
+
+add-at : tie.Need-add-at
+add-at c =
+    let at-start = start-from-counts-from (c .before) in
+    let F = at-start .pre .2 .frame in
+    omega (arith, frame-by (at-start .pre .0) (at-start .args .d), F .roomy .inside, F .roomy .small)
 
 sub-step-rest : tie.Need-sub-step-rest
-sub-step-rest c = in-order (fits-in (start-from-sub-step-rest c .pre .0)) .programs
+sub-step-rest c = in-order (fits-in (start-from-counts-from (c .before) .pre .0)) .programs
 
 part-step-rest-start : tie.Need-part-step-rest-start
-part-step-rest-start c = let o = in-order (fits-in (start-from-sub-step-rest c .pre .0)) in omega arith
+part-step-rest-start c = let o = in-order (fits-in (start-from-counts-from (c .before) .pre .0)) in omega arith
 
 part-step-rest-end : tie.Need-part-step-rest-end
-part-step-rest-end c = in-order (fits-in (start-from-sub-step-rest c .pre .0)) .end
+part-step-rest-end c = in-order (fits-in (start-from-counts-from (c .before) .pre .0)) .end
+
+sub-step-rest-2 : tie.Need-sub-step-rest-2
+sub-step-rest-2 c = search needs
+
+part-step-rest-start-2 : tie.Need-part-step-rest-start-2
+part-step-rest-start-2 c = search needs
+
+part-step-rest-end-2 : tie.Need-part-step-rest-end-2
+part-step-rest-end-2 c = search needs
+
+sub-step-rest-3 : tie.Need-sub-step-rest-3
+sub-step-rest-3 c = search needs
+
+part-step-rest-start-3 : tie.Need-part-step-rest-start-3
+part-step-rest-start-3 c = search needs
+
+part-step-rest-end-3 : tie.Need-part-step-rest-end-3
+part-step-rest-end-3 c = search needs
+
+mul-step-rest : tie.Need-mul-step-rest
+mul-step-rest c = search needs
+
+sub-step-rest-4 : tie.Need-sub-step-rest-4
+sub-step-rest-4 c = search needs
+
+part-step-rest-start-4 : tie.Need-part-step-rest-start-4
+part-step-rest-start-4 c = search needs
+
+part-step-rest-end-4 : tie.Need-part-step-rest-end-4
+part-step-rest-end-4 c = search needs
 
 add-step-rest : tie.Need-add-step-rest
-add-step-rest c = search needs
+add-step-rest c =
+    let at-start = start-from-add-step-rest c in
+    let F = at-start .pre .2 .frame in
+    omega (arith, frame-by (at-start .pre .0) (at-start .args .d), next-inside F, F .roomy .small, at-start .pre .0 .frame-is)
 
 step-rest-requires : tie.Need-step-rest-requires
 step-rest-requires c κs =
-    let at-start = start-from-step-rest-requires c in
-    (programs-long _ _ (fits-in (at-start .pre .0)), asked (at-start .pre .0) (at-start .pre .1) (at-start .pre .2))
+    let at-counts-from = counts-from-from-add-step-rest c in
+    let at-flags-from = at-counts-from .before in
+    let at-start = start-from-flags-from at-flags-from in
+    let O = at-start .pre .0 in
+    let d = at-start .args .d in
+    let x = at-flags-from .flags-from .result in
+    let y = at-counts-from .counts-from .result in
+    let ex = at-flags-from .flags-from .ensures .0 in
+    let flags = now (at-start .args .flags) in
+    let numbers = now (at-start .args .numbers) in (
+      programs-long _ _ (fits-in O),
+      asked O (at-start .pre .1) _ _ _ _ _
+          (window-at x (truthsFrom d) (x + 512) 512 flags ex (omega arith))
+          (window-at (x + 512) (finalsFrom d) (x + 512 + 260) 260 flags (omega (arith, ex)) (omega arith))
+          (window-at y (countsFrom d) (y + 260) 260 numbers (at-counts-from .counts-from .ensures .0) (omega arith))
+          (omega (arith, frame-by O d))
+          (omega (arith, frame-by O d, O .frame-is)) (at-start .pre .2),
+    )
 
 same-length : tie.Need-same-length
 same-length c = search needs
 
 returns : tie.Need-returns
 returns c =
-    let at-start = start-from-step-rest (c .before .before) in
-    turned (at-start .pre .0) (at-start .pre .1) (c .before .before .step-rest .ensures)
+    let at-counts-from = counts-from-from-step-rest (c .before .before) in
+    let at-flags-from = at-counts-from .before in
+    let at-start = start-from-flags-from at-flags-from in
+    let O = at-start .pre .0 in
+    let d = at-start .args .d in
+    let x = at-flags-from .flags-from .result in
+    let y = at-counts-from .counts-from .result in
+    let ex = at-flags-from .flags-from .ensures .0 in
+    let flags = now (at-start .args .flags) in
+    let numbers = now (at-start .args .numbers) in
+    turned O (at-start .pre .1) _ _ _ _ _
+    (window-at x (truthsFrom d) (x + 512) 512 flags ex (omega arith))
+    (window-at (x + 512) (finalsFrom d) (x + 512 + 260) 260 flags (omega (arith, ex)) (omega arith))
+    (window-at y (countsFrom d) (y + 260) 260 numbers (at-counts-from .counts-from .ensures .0) (omega arith))
+    (omega (arith, frame-by O d))
+    (omega (arith, frame-by O d, O .frame-is)) _ (c .before .before .step-rest .ensures)
 
 pub lay-next-spec : {M : Type 1} → statement M
 lay-next-spec =
     tie.close
     (tie.spec
-    slice-aggregate-held
-    sub-finals
-    part-finals-start
-    part-finals-end
-    slice-aggregate-counts
+    flags-from-requires
+    add-middle
     add-to
-    add-to-2
+    counts-from-requires
+    add-last
+    mul-at
+    add-at
     sub-step-rest
     part-step-rest-start
     part-step-rest-end
+    sub-step-rest-2
+    part-step-rest-start-2
+    part-step-rest-end-2
+    sub-step-rest-3
+    part-step-rest-start-3
+    part-step-rest-end-3
+    mul-step-rest
+    sub-step-rest-4
+    part-step-rest-start-4
+    part-step-rest-end-4
     add-step-rest
     step-rest-requires
     same-length

@@ -15,25 +15,29 @@ use Rattle.remaining.specs.Extended.{extended}
 use Rattle.leaves.specs.Tallies.{extendedSize, Sees, finalBy}
 use Rattle.leaves.specs.Endable.{FinalsKnown}
 use Rattle.leaves.proofs.Skipping.{Done, first, next}
-use Rattle.engine.specs.Tables.{truthsIn, finalsIn, OnlyFinals}
-use Rattle.engine.proofs.Tables.{finals-long, only-same, final-set, only-more}
+use Rattle.engine.specs.Tables.{window, Only}
+use Rattle.engine.proofs.Windows.{window-long, window-before, window-set, only-same, only-then, only-set}
 use borrow.Author.Needs.{needs}
 use Rattle.engine.proofs.mark_finals.Statement.{statement}
 use Rattle.engine.proofs.mark_finals.Tie as tie
 
 abbrev Inv-loop : tie.InvT-loop
-Inv-loop flags₀ programs n interrupts skips running m i₀ flags i =
-    (length flags ≡ 1032)
-    × OnlyFinals flags₀ flags
-    × ((a : ℕ) → extendedSize interrupts n ≤ a → getD (finalsIn flags) a true ≡ getD (finalsIn flags₀) a true)
-    × ((W : World) (s : State) (can : ℕ → Bool) → Sees W s (extended interrupts (programAt programs) n) (extendedSize interrupts n) (truthsIn flags₀) can running →
-    Done W s (extended interrupts (programAt programs) n) (extendedSize interrupts n) (finalsIn flags₀) (finalsIn flags) i)
+Inv-loop flags₀ at programs n interrupts skips running m to i₀ flags i =
+    (to ≡ at + 512)
+    × (length flags ≡ length flags₀)
+    × Only (at + 512) 260 flags₀ flags
+    × ((a : ℕ) → extendedSize interrupts n ≤ a → getD (window (at + 512) 260 flags) a true ≡ getD (window (at + 512) 260 flags₀) a true)
+    × ((W : World) (s : State) (can : ℕ → Bool) → Sees W s (extended interrupts (programAt programs) n) (extendedSize interrupts n) (window at 512 flags₀) can running →
+    Done W s (extended interrupts (programAt programs) n) (extendedSize interrupts n) (window (at + 512) 260 flags₀) (window (at + 512) 260 flags) i)
 
 abbrev μ-loop : tie.MeasureT-loop
-μ-loop flags₀ programs n interrupts skips running m i₀ flags i = m - i
+μ-loop flags₀ at programs n interrupts skips running m to i₀ flags i = m - i
 
 places-of-requires : tie.Need-places-of-requires Inv-loop μ-loop
 places-of-requires c κs = search needs
+
+add-to : tie.Need-add-to Inv-loop μ-loop
+add-to c = search needs
 
 skip-in-requires : tie.Need-skip-in-requires Inv-loop μ-loop
 skip-in-requires c κs = search needs
@@ -42,29 +46,27 @@ skip-in-requires c κs = search needs
 abbrev start-from-places-of : tie.After-places-of Inv-loop μ-loop → tie.Start Inv-loop μ-loop
 start-from-places-of c = c .before .before .before .before
 
-abbrev start-from-loop : tie.At-loop Inv-loop μ-loop → tie.Start Inv-loop μ-loop
-start-from-loop c = start-from-places-of (c .before .before)
-
 abbrev loop-from-final-by : tie.After-final-by Inv-loop μ-loop → tie.At-loop Inv-loop μ-loop
 loop-from-final-by c = c .before .before .before .before
 
 loop-holds : tie.Need-loop-holds Inv-loop μ-loop
 loop-holds c =
-    let at-start = start-from-places-of (c .before) in
     let e = c .before .places-of .ensures .0 in
-    (at-start .pre .0 .3, only-same _, λ a h. refl, λ W s can S. rw (c .skip-in .ensures, e) (first (at-start .pre .1 .1)))
+    (refl, refl, only-same _, λ a h. refl, λ W s can S. rw (c .skip-in .ensures, e) (first (start-from-places-of (c .before) .pre .1 .1)))
 
 record-at-requires : tie.Need-record-at-requires Inv-loop μ-loop
 record-at-requires c κs = search needs
 
 final-by-requires : tie.Need-final-by-requires Inv-loop μ-loop
-final-by-requires c κs = c .before .before .before .loop .inv .0
+final-by-requires c κs = omega (arith, c .before .before .before .loop .inv .1)
 
 add-flags : tie.Need-add-flags Inv-loop μ-loop
 add-flags c = search needs
 
 slice-write-flags : tie.Need-slice-write-flags Inv-loop μ-loop
-slice-write-flags c = omega (arith, loop-from-final-by c .loop .inv .0)
+slice-write-flags c =
+    let at-loop = loop-from-final-by c in
+    omega (arith, at-loop .loop .inv .0, at-loop .loop .inv .1)
 
 add-skip-in : tie.Need-add-skip-in Inv-loop μ-loop
 add-skip-in c = search needs
@@ -83,38 +85,44 @@ loop-less c =
 
 loop-again : tie.Need-loop-again Inv-loop μ-loop
 loop-again c =
-    let at-final-by = c .before in
-    let at-record-at = at-final-by .before .before in
-    let at-loop = at-record-at .before .before in
-    let at-places-of = at-loop .before .before in
-    let at-start = start-from-places-of at-places-of in
-    let e = at-places-of .places-of .ensures .0 in
-    let z = at-start .pre .1 in
-    let v = at-loop .loop .inv in
-    let i = at-loop .loop .i in
-    let f = at-final-by .final-by .result in
-    let flags = at-loop .loop .flags in
-    let finals = finalsIn flags in
-    let few : i < 260 = omega (arith, at-places-of .places-of .ensures .1) in
-    let l : i < extendedSize (at-start .args .interrupts) (at-start .args .n) = omega (arith, e) in
-    let by = at-final-by .final-by .ensures ∙ ap (λ (held : List Bool). finalBy (at-record-at .record-at .result) held (at-start .args .running) finals) (v .1 .truths-kept) in (
-      simp length-set (v .0),
-      only-more flags i f few (v .1),
-      λ a h. rw (final-set flags i f few) (getD-set-other finals i a f true (λ u. omega (arith, l)) ∙ v .2 a h),
-      λ W s can S. rw (final-set flags i f few, c .skip-in2 .ensures, e) (next (z .1) (z .0) (v .3 W s can S) l (S .each _ l) (S .runs) (omega (arith, finals-long flags (v .0)))
-          (rw (at-record-at .record-at .ensures .0) at by)),
+    let at = c .before .before .before .before .before .before .before .before .before .before .before .args .from in
+    let e = c .before .before .before .before .before .before .before .places-of .ensures .0 in
+    let z = c .before .before .before .before .before .before .before .before .before .before .before .pre .1 in
+    let v = c .before .before .before .before .before .loop .inv in
+    let i = c .before .before .before .before .before .loop .i in
+    let f = c .before .final-by .result in
+    let flags = c .before .before .before .before .before .loop .flags in
+    let finals = window (at + 512) 260 flags in
+    let few : i < 260 = omega (arith, c .before .before .before .before .before .before .before .places-of .ensures .1) in
+    let l : i < extendedSize (c .before .before .before .before .before .before .before .before .before .before .before .args .interrupts)
+    (c .before .before .before .before .before .before .before .before .before .before .before .args .n) = omega (arith, e) in
+    let long = window-long (at + 512) 260 flags (omega (arith, v .1)) in
+    let same = window-before (v .2) (v .1) at 512 (omega arith) (omega arith) in
+    let by = c .before .final-by .ensures ∙ ap (λ (held : List Bool). finalBy (c .before .before .before .record-at .result) held
+    (c .before .before .before .before .before .before .before .before .before .before .before .args .running) finals) same in
+    rw (v .0) (
+      refl,
+      length-set flags (at + 512 + i) f ∙ v .1,
+      only-then (v .2) (only-set flags _ f (omega arith) (omega arith)),
+      λ a h. rw (window-set (at + 512) 260 flags i f few) (getD-set-other finals i a f true (λ u. omega (arith, l)) ∙ v .3 a h),
+      λ W s can S. rw (window-set (at + 512) 260 flags i f few, c .skip-in2 .ensures, e) (next (z .1) (z .0) (v .4 W s can S) l (S .each _ l) (S .runs) (omega (arith, long))
+          (rw (c .before .before .before .record-at .ensures .0) at by)),
     )
 
 same-length : tie.Need-same-length Inv-loop μ-loop
-same-length c = c .before .loop .inv .0 ∙ sym (start-from-loop (c .before) .pre .0 .3)
+same-length c = c .before .loop .inv .1
 
 returns : tie.Need-returns Inv-loop μ-loop
 returns c =
     let at-loop = c .before in
-    let at-start = start-from-loop at-loop in
+    let at-places-of = at-loop .before .before in
+    let at-start = start-from-places-of at-places-of in
     let v = at-loop .loop .inv in
-    let D : FinalsKnown _ _ (truthsIn (now (at-start .args .flags))) _ (finalsIn (at-loop .loop .flags)) = λ W s can S i h. v .3 W s can S .right i (omega arith) h in
-    (rw (v .1 .truths-kept) D, (v .1, v .2))
+    let at = at-start .args .from in
+    let same = window-before (v .2) (v .1) at 512 (omega arith) (omega arith) in
+    let D : FinalsKnown _ _ (window at 512 (now (at-start .args .flags))) _ (window (at + 512) 260 (at-loop .loop .flags)) =
+    λ W s can S i h. v .4 W s can S .right i (omega (arith, at-places-of .places-of .ensures .0)) h in
+    (rw same D, (v .2, v .3))
 
 pub mark-finals-spec : {M : Type 1} → statement M
 mark-finals-spec =
@@ -123,6 +131,7 @@ mark-finals-spec =
     Inv-loop
     μ-loop
     places-of-requires
+    add-to
     skip-in-requires
     loop-holds
     record-at-requires

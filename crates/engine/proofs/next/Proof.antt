@@ -1,13 +1,19 @@
 -- A spent cursor has none ahead of it; else the transition at the cursor is made, for there is one. Assumes nothing.
 use denote.Ref.{now}
 use native.Mathlib.Omega.{arith}
-use mathlib.Core.Bool.{true≢false}
+use mathlib.Core.Bool.{Bool, true≢false}
+use mathlib.Core.List.{List}
 use mathlib.Core.Path.{sym, _∙_, subst}
+use Prim.Native.Nat.{_+_}
+use Rattle.sheet.specs.Layout.{layoutOf}
+use Rattle.demands.specs.Decoded.{worldOf}
+use Rattle.state.specs.Truths.{AreTruths}
 use Rattle.words.proofs.Written.{kept-refl}
+use Rattle.engine.specs.Tables.{truthsFrom}
 use Rattle.engine.specs.Going.{MakesNext}
-use Rattle.engine.proofs.Tables.{truths-long}
+use Rattle.engine.proofs.Windows.{window-at}
 use Rattle.engine.proofs.Going.{ahead-none}
-use Rattle.engine.proofs.Made.{none-left, made-coded, made-next, step-kept}
+use Rattle.engine.proofs.Made.{none-left, made-known, made-next, step-kept}
 use borrow.Author.Needs.{needs}
 use Rattle.engine.proofs.next.Statement.{statement}
 use Rattle.engine.proofs.next.Tie as tie
@@ -28,11 +34,8 @@ start-from-lay-next c = start-from-else1 (c .before .before)
 abbrev lay-next-from-enum-told : tie.After-enum-told → tie.After-lay-next
 lay-next-from-enum-told c = c .before .before .before .before
 
-abbrev lay-next-from-turn : tie.After-turn → tie.After-lay-next
-lay-next-from-turn c = c .before .before .before .before
-
-abbrev start-from-turn : tie.After-turn → tie.Start
-start-from-turn c = start-from-lay-next (lay-next-from-turn c)
+abbrev turn-from-state-after : tie.After-state-after → tie.After-turn
+turn-from-state-after c = c .before .before .before .before
 
 returns : tie.Need-returns
 returns c =
@@ -67,26 +70,44 @@ returns-2 c =
     let P = at-start .pre in
     absurd (none-left (P .0 .accepted) (at-lay-next .lay-next .ensures) (P .2) _ _ (c .before .enum-told .given .1) (at-if1 .if1 .left))
 
-slice-aggregate-state-after : tie.Need-slice-aggregate-state-after
-slice-aggregate-state-after c = truths-long (start-from-turn (c .before .before) .pre .1 .prepared)
+flags-from-requires : tie.Need-flags-from-requires
+flags-from-requires c κs = search needs
+
+add-to : tie.Need-add-to
+add-to c = search needs
+
+sub-state-after : tie.Need-sub-state-after
+sub-state-after c = search needs
+
+part-state-after-start : tie.Need-part-state-after-start
+part-state-after-start c = search needs
+
+part-state-after-end : tie.Need-part-state-after-end
+part-state-after-end c = search needs
 
 state-after-requires : tie.Need-state-after-requires
 state-after-requires c κs =
-    let at-lay-next = lay-next-from-turn (c .before .before) in
+    let at-flags-from = c .before in
+    let at-turn = at-flags-from .before .before in
+    let at-lay-next = at-turn .before .before .before .before in
     let at-start = start-from-lay-next at-lay-next in
     let P = at-start .pre in
-    ((P .0, P .1 .truths-are), made-coded (P .0 .accepted) (at-lay-next .lay-next .ensures) (P .2) (c .before .before .turn .given .1))
+    let x = at-flags-from .flags-from .result in
+    let T = window-at x (truthsFrom (at-start .args .d)) (x + 512) 512 (now (at-start .args .flags)) (at-flags-from .flags-from .ensures .0) (omega arith) in (
+      (P .0, subst (AreTruths (worldOf (now (at-start .args .s))) (at-start .args .st) (layoutOf (now (at-start .args .s)) .q)) (sym T) (P .1 .truths-are)),
+      made-known (P .0 .accepted) (at-lay-next .lay-next .ensures) (P .2) (at-turn .turn .given .1),
+    )
 
-add-t17 : tie.Need-add-t17
-add-t17 c = search needs
+add-t18 : tie.Need-add-t18
+add-t18 c = search needs
 
 same-length-2 : tie.Need-same-length-2
 same-length-2 c = search needs
 
 returns-3 : tie.Need-returns-3
 returns-3 c =
-    let at-turn = c .before .before .before .before in
-    let at-lay-next = lay-next-from-turn at-turn in
+    let at-turn = turn-from-state-after (c .before) in
+    let at-lay-next = at-turn .before .before .before .before in
     let at-if1 = at-lay-next .before .before in
     let at-start = start-from-else1 at-if1 in
     let P = at-start .pre in
@@ -109,8 +130,12 @@ next-spec =
     none-made-requires-2
     same-length
     returns-2
-    slice-aggregate-state-after
+    flags-from-requires
+    add-to
+    sub-state-after
+    part-state-after-start
+    part-state-after-end
     state-after-requires
-    add-t17
+    add-t18
     same-length-2
     returns-3)

@@ -1,12 +1,14 @@
 -- Both tables are those of the sheet's records, by the laws of Marking and Skipping, and stand in the parts kept for them. Assumes nothing.
 use denote.Ref.{now}
-use Prim.Native.Nat.{ℕ, _-_}
 use native.Mathlib.Omega.{arith}
-use mathlib.Core.Path.{_≡_, _∙_, ap}
-use lib.ListN.{length, take, length-replicate}
-use borrow.Rule.Slice.PartMut.{take-put, same-len-mid}
+use mathlib.Core.Path.{_≡_, sym, _∙_, ap}
+use lib.ListN.{length, drop, getD}
+use lib.Seq.{length-front, length-take-le, take-at}
+use Prim.Native.Nat.{ℕ}
+use mathlib.Core.List.{List}
+use Rattle.engine.specs.Tables.{countsFrom}
 use Rattle.engine.proofs.Parts.{in-order, fits-in, programs-long}
-use Rattle.engine.proofs.Tables.{end-put, none-counted}
+use Rattle.engine.proofs.Windows.{only-front, window-behind, window-same}
 use Rattle.engine.proofs.Judging.{prepared}
 use borrow.Author.Needs.{needs}
 use Rattle.engine.proofs.prepare.Statement.{statement}
@@ -28,8 +30,11 @@ start-from-bounds-requires c = c .before .before .before .before .before
 abbrev start-from-bounds : tie.After-bounds → tie.Start
 start-from-bounds c = start-from-bounds-requires (c .before)
 
+abbrev start-from-skips : tie.After-skips → tie.Start
+start-from-skips c = start-from-bounds (c .before .before)
+
 abbrev start-from-copy-flags : tie.After-copy-flags → tie.Start
-start-from-copy-flags c = start-from-bounds (c .before .before .before .before .before)
+start-from-copy-flags c = start-from-skips (c .before .before .before)
 
 abbrev copy-flags-from-copy-numbers : tie.After-copy-numbers → tie.After-copy-flags
 copy-flags-from-copy-numbers c = c .before .before .before .before .before
@@ -43,37 +48,38 @@ slice-aggregate-skips c = search needs
 skips-requires : tie.Need-skips-requires
 skips-requires c κs = programs-long _ _ (fits-in (start-from-bounds (c .before) .pre .0))
 
-sub-copy-flags : tie.Need-sub-copy-flags
-sub-copy-flags c = search needs
-
-part-copy-flags-start : tie.Need-part-copy-flags-start
-part-copy-flags-start c = search needs
-
-part-copy-flags-end : tie.Need-part-copy-flags-end
-part-copy-flags-end c = search needs
+slice-relend-prefix-copy-flags : tie.Need-slice-relend-prefix-copy-flags
+slice-relend-prefix-copy-flags c = search needs
 
 slice-aggregate-copy-flags : tie.Need-slice-aggregate-copy-flags
-slice-aggregate-copy-flags c = search needs
+slice-aggregate-copy-flags c =
+    let at-start = start-from-skips (c .before) in
+    sym (length-take-le 260 (now (at-start .args .flags)) (omega (arith, at-start .pre .1)))
+
+slice-aggregate-copy-flags-2 : tie.Need-slice-aggregate-copy-flags-2
+slice-aggregate-copy-flags-2 c = search needs
 
 copy-flags-requires : tie.Need-copy-flags-requires
-copy-flags-requires c κs = search needs
+copy-flags-requires c κs =
+    let at-start = start-from-skips (c .before .before) in
+    let n = length-take-le 260 (now (at-start .args .flags)) (omega (arith, at-start .pre .1)) in
+    search needs
 
-sub-copy-numbers : tie.Need-sub-copy-numbers
-sub-copy-numbers c = omega (arith, ap length (start-from-copy-flags (c .before .before) .pre .2), length-replicate {A = ℕ} 521 0)
-
-part-copy-numbers-start : tie.Need-part-copy-numbers-start
-part-copy-numbers-start c = omega (arith, ap length (start-from-copy-flags (c .before .before) .pre .2), length-replicate {A = ℕ} 521 0)
-
-part-copy-numbers-end : tie.Need-part-copy-numbers-end
-part-copy-numbers-end c = search needs
+slice-relend-prefix-copy-numbers : tie.Need-slice-relend-prefix-copy-numbers
+slice-relend-prefix-copy-numbers c = search needs
 
 slice-aggregate-copy-numbers : tie.Need-slice-aggregate-copy-numbers
-slice-aggregate-copy-numbers c = search needs
+slice-aggregate-copy-numbers c =
+    let at-start = start-from-copy-flags (c .before .before .before) in
+    sym (length-take-le 261 (now (at-start .args .numbers)) (omega (arith, at-start .pre .2)))
+
+slice-aggregate-copy-numbers-2 : tie.Need-slice-aggregate-copy-numbers-2
+slice-aggregate-copy-numbers-2 c = search needs
 
 copy-numbers-requires : tie.Need-copy-numbers-requires
 copy-numbers-requires c κs =
     let at-start = start-from-copy-flags (c .before .before .before .before) in
-    let n : length (now (at-start .args .numbers)) ≡ 521 = ap length (at-start .pre .2) ∙ length-replicate {A = ℕ} 521 0 in
+    let n = length-take-le 261 (now (at-start .args .numbers)) (omega (arith, at-start .pre .2)) in
     search needs
 
 same-length : tie.Need-same-length
@@ -89,19 +95,20 @@ returns c =
     let at-skips = at-copy-flags .before .before .before in
     let at-bounds = at-skips .before .before in
     let at-start = start-from-bounds at-bounds in
-    let O = at-start .pre .0 in
     let flags = now (at-start .args .flags) in
     let numbers = now (at-start .args .numbers) in
-    let n : length numbers ≡ 521 = ap length (at-start .pre .2) ∙ length-replicate {A = ℕ} 521 0 in
     let marks = at-copy-flags .copy-flags .last .0 in
     let skips = at-copy-numbers .copy-numbers .last .0 in
-    prepared O (at-bounds .bounds .result)
-    (same-len-mid 772 (length flags - 772) flags marks (at-copy-flags .copy-flags .kept .0) ∙ at-start .pre .1)
-    (same-len-mid 260 (length numbers - 260) numbers skips (at-copy-numbers .copy-numbers .kept .0) ∙ n)
-    (end-put 772 flags marks (omega (arith, at-start .pre .1)) ∙ at-copy-flags .copy-flags .ensures)
+    let ml = at-copy-flags .copy-flags .kept .0 ∙ length-take-le 260 flags (omega (arith, at-start .pre .1)) in
+    let sl = at-copy-numbers .copy-numbers .kept .0 ∙ length-take-le 261 numbers (omega (arith, at-start .pre .2)) in
+    let nl = length-front numbers skips 261 (at-copy-numbers .copy-numbers .kept .0) in
+    prepared (at-start .pre .0) (at-bounds .bounds .result)
+    (length-front flags marks 260 (at-copy-flags .copy-flags .kept .0) ∙ at-start .pre .1)
+    (nl ∙ at-start .pre .2)
+    (take-at marks (drop 260 flags) 260 ml ∙ at-copy-flags .copy-flags .ensures)
     (at-bounds .bounds .ensures)
-    (take-put 260 (length numbers - 260) numbers skips (omega arith) ∙ ap (take 260) (at-start .pre .2) ∙ none-counted)
-    (end-put 260 numbers skips (omega arith) ∙ at-copy-numbers .copy-numbers .ensures ∙ at-skips .skips .ensures)
+    (λ d i. ap (λ (x : List ℕ). getD x i 0) (window-behind (only-front 261 numbers skips sl) nl (countsFrom d) 260 (omega arith)) ∙ window-same 0 (countsFrom d) 260 numbers (at-start .pre .3) i)
+    (take-at skips (drop 261 numbers) 261 sl ∙ at-copy-numbers .copy-numbers .ensures ∙ at-skips .skips .ensures)
 
 pub prepare-spec : {M : Type 1} → statement M
 prepare-spec =
@@ -113,15 +120,13 @@ prepare-spec =
     bounds-requires
     slice-aggregate-skips
     skips-requires
-    sub-copy-flags
-    part-copy-flags-start
-    part-copy-flags-end
+    slice-relend-prefix-copy-flags
     slice-aggregate-copy-flags
+    slice-aggregate-copy-flags-2
     copy-flags-requires
-    sub-copy-numbers
-    part-copy-numbers-start
-    part-copy-numbers-end
+    slice-relend-prefix-copy-numbers
     slice-aggregate-copy-numbers
+    slice-aggregate-copy-numbers-2
     copy-numbers-requires
     same-length
     same-length-2

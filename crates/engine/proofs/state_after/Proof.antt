@@ -3,14 +3,14 @@ use denote.Ref.{now}
 use Prim.Native.Nat.{ℕ}
 use native.Mathlib.Omega.{arith}
 use mathlib.Core.Option.{Option}
-use mathlib.Core.Path.{sym, _∙_, ap}
+use mathlib.Core.Path.{refl, sym, _∙_, ap}
 use Rattle.sheet.specs.Layout.{layoutOf, formulasIn, effectsIn, actionsIn}
 use Rattle.sheet.specs.declared.Layout.{Layout}
 use Rattle.golog.specs.World.{after}
 use Rattle.demands.specs.Decoded.{worldOf}
 use Rattle.state.specs.Performed.{performBy}
 use Rattle.state.proofs.Performed.{perform-is}
-use Rattle.engine.proofs.Codes.{test-of, move-of, action-of-code}
+use Rattle.engine.proofs.Codes.{is-test, is-move, action-of-code}
 use Rattle.engine.proofs.Actions.{performable, judged}
 use Rattle.engine.proofs.Parts.{in-order, fits-in}
 use Rattle.engine.proofs.state_after.Statement.{statement}
@@ -19,7 +19,7 @@ use Rattle.engine.proofs.state_after.Tie as tie
 returns : tie.Need-returns
 returns c =
     let at-start = c .before .before .before in
-    λ x k. sym (ap (λ (x : Option ℕ). after (worldOf (now (at-start .args .s))) x (at-start .args .st)) (test-of x k (c .if1 .taken)))
+    sym (ap (λ (x : Option ℕ). after (worldOf (now (at-start .args .s))) x (at-start .args .st)) (is-test (at-start .args .entry) (c .if1 .taken)))
 
 sub-perform : tie.Need-sub-perform
 sub-perform c = in-order (fits-in (c .before .before .before .before .pre .0 .0)) .effects
@@ -48,15 +48,13 @@ perform-requires c κs =
     let at-if1 = c .before .before .before in
     let at-start = start-from-else1 at-if1 in
     let O = at-start .pre .0 .0 in
-    let x = at-start .pre .1 in
-    let a = action-of-code (x .0) (x .1) (at-if1 .if1 .left) in
+    let a = action-of-code (now (at-start .args .s)) (at-start .args .entry) _ (at-start .pre .1) refl (at-if1 .if1 .left) in
     (rw (O .layout-is) (performable (now (at-start .args .s)) (O .accepted) (at-start .args .entry) a), fits-in O .f)
 
 returns-2 : tie.Need-returns-2
 returns-2 c =
     let at-if1 = c .before .before .before .before in
     let at-start = start-from-else1 at-if1 in
-    λ x k.
     let s = now (at-start .args .s) in
     let e = at-start .args .entry in
     let st = at-start .args .st in
@@ -64,9 +62,9 @@ returns-2 c =
     let l = layoutOf s in
     let held = now (at-start .args .held) in
     let by = c .perform .ensures ∙ ap (λ (l : Layout). performBy (effectsIn s l) (actionsIn s l) held e st) (O .layout-is) in
-    let action = judged s (O .accepted) e (action-of-code x k (at-if1 .if1 .left)) in
+    let action = judged s (O .accepted) e (action-of-code (now (at-start .args .s)) (at-start .args .entry) _ (at-start .pre .1) refl (at-if1 .if1 .left)) in
     let is = perform-is (formulasIn s l) (effectsIn s l) (actionsIn s l) st (l .q) held (at-start .pre .0 .1) e action in
-    by ∙ is ∙ sym (ap (λ (x : Option ℕ). after (worldOf s) x st) (move-of x k (at-if1 .if1 .left)))
+    by ∙ is ∙ sym (ap (λ (x : Option ℕ). after (worldOf s) x st) (is-move e (at-if1 .if1 .left)))
 
 pub state-after-spec : {M : Type 1} → statement M
 state-after-spec =

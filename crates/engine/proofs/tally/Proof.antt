@@ -1,79 +1,125 @@
 -- The counts are those of the state, by the law of Filling, and stand in the part kept for them. Assumes nothing.
 use denote.Ref.{now}
 use native.Mathlib.Omega.{arith}
-use mathlib.Core.List.{List, _++_}
-use mathlib.Core.Path.{_≡_, sym, _∙_, subst}
-use lib.ListN.{drop}
-use lib.Seq.{length-front, take-at, drop-at}
-use Prim.Native.Nat.{ℕ}
-use Rattle.leaves.specs.Tallies.{Tallied}
-use Rattle.engine.specs.Tables.{truthsIn, countsIn}
+use mathlib.Core.Bool.{Bool}
+use mathlib.Core.List.{List}
+use mathlib.Core.Path.{_≡_, sym, _∙_, ap, subst, subst₂}
+use Prim.Native.Nat.{ℕ, _+_, _-_, _≤_}
+use lib.ListN.{length}
+use borrow.Rule.Slice.PartMut.{putMid, same-len-mid}
+use Rattle.leaves.specs.Tallies.{possibleIn, Tallied}
+use Rattle.leaves.specs.Endable.{FinalsKnown}
+use Rattle.sheet.specs.Layout.{actionsIn}
+use Rattle.engine.specs.Tables.{window, Only, truthsFrom, finalsFrom, truthsAt, finalsAt, countsFrom, countsAt}
 use Rattle.engine.proofs.Parts.{in-order, fits-in, actions-long, programs-long}
-use Rattle.engine.proofs.Tables.{truths-long, counts-long}
+use Rattle.engine.proofs.Tables.{counts-long}
+use Rattle.engine.proofs.Windows.{window-at, only-put, window-put}
 use Rattle.engine.proofs.Judging.{runs, many, seenBy, runs-lower, decides-by, surveyed}
 use borrow.Author.Needs.{needs}
 use Rattle.engine.proofs.tally.Statement.{statement}
 use Rattle.engine.proofs.tally.Tie as tie
 
--- Places: what stands before a need, by name. Written by `named`: run it again when the code changes.
-abbrev start-from-slice-aggregate-held : tie.After-held → tie.Start
-start-from-slice-aggregate-held c = c .before .before .before .before .before
+flags-from-requires : tie.Need-flags-from-requires
+flags-from-requires c κs = search needs
 
-abbrev start-from-slice-aggregate-tallies : tie.After-tallies-arg → tie.Start
-start-from-slice-aggregate-tallies c = start-from-slice-aggregate-held (c .before .before)
+add-middle : tie.Need-add-middle
+add-middle c = search needs
 
-abbrev start-from-sub-tallies-2 : tie.After-tallies-arg2 → tie.Start
-start-from-sub-tallies-2 c = start-from-slice-aggregate-tallies (c .before)
+add-to : tie.Need-add-to
+add-to c = search needs
 
-abbrev start-from-tallies-requires : tie.After-tallies-arg3 → tie.Start
-start-from-tallies-requires c = start-from-sub-tallies-2 (c .before)
+counts-from-requires : tie.Need-counts-from-requires
+counts-from-requires c κs = search needs
 
-abbrev start-from-tallies : tie.After-tallies → tie.Start
-start-from-tallies c = start-from-tallies-requires (c .before)
+add-last : tie.Need-add-last
+add-last c = search needs
 
-slice-aggregate-held : tie.Need-slice-aggregate-held
-slice-aggregate-held c = truths-long (start-from-slice-aggregate-held c .pre .1 .prepared)
-
-sub-finals : tie.Need-sub-finals
-sub-finals c = search needs
-
-part-finals-start : tie.Need-part-finals-start
-part-finals-start c = search needs
-
-part-finals-end : tie.Need-part-finals-end
-part-finals-end c = search needs
-
-slice-relend-prefix-tallies : tie.Need-slice-relend-prefix-tallies
-slice-relend-prefix-tallies c = search needs
-
-slice-aggregate-tallies : tie.Need-slice-aggregate-tallies
-slice-aggregate-tallies c = counts-long (start-from-slice-aggregate-tallies c .pre .1 .prepared)
+mul-tallies : tie.Need-mul-tallies
+mul-tallies c = search needs
 
 sub-tallies : tie.Need-sub-tallies
-sub-tallies c = in-order (fits-in (start-from-slice-aggregate-tallies c .pre .0)) .programs
+sub-tallies c = search needs
 
 part-tallies-start : tie.Need-part-tallies-start
-part-tallies-start c = let o = in-order (fits-in (start-from-slice-aggregate-tallies c .pre .0)) in omega arith
+part-tallies-start c = search needs
 
 part-tallies-end : tie.Need-part-tallies-end
-part-tallies-end c = in-order (fits-in (start-from-slice-aggregate-tallies c .pre .0)) .end
+part-tallies-end c = search needs
+
+-- Places: what stands before a need, by name. Written by `named`: run it again when the code changes.
+abbrev start-from-flags-from : tie.After-flags-from → tie.Start
+start-from-flags-from c = c .before .before .before .before .before
+
+abbrev start-from-counts-from : tie.After-counts-from → tie.Start
+start-from-counts-from c = start-from-flags-from (c .before)
+
+abbrev counts-from-from-tallies-requires : tie.After-tallies-arg5 → tie.After-counts-from
+counts-from-from-tallies-requires c = c .before .before .before .before .before
+
+abbrev counts-from-from-tallies : tie.After-tallies → tie.After-counts-from
+counts-from-from-tallies c = counts-from-from-tallies-requires (c .before)
 
 sub-tallies-2 : tie.Need-sub-tallies-2
-sub-tallies-2 c = in-order (fits-in (start-from-sub-tallies-2 c .pre .0)) .actions
+sub-tallies-2 c = in-order (fits-in (start-from-counts-from (c .before) .pre .0)) .programs
 
 part-tallies-start-2 : tie.Need-part-tallies-start-2
-part-tallies-start-2 c = let o = in-order (fits-in (start-from-sub-tallies-2 c .pre .0)) in omega arith
+part-tallies-start-2 c = let o = in-order (fits-in (start-from-counts-from (c .before) .pre .0)) in omega arith
 
 part-tallies-end-2 : tie.Need-part-tallies-end-2
-part-tallies-end-2 c = let o = in-order (fits-in (start-from-sub-tallies-2 c .pre .0)) in omega arith
+part-tallies-end-2 c = in-order (fits-in (start-from-counts-from (c .before) .pre .0)) .end
+
+sub-tallies-3 : tie.Need-sub-tallies-3
+sub-tallies-3 c = in-order (fits-in (start-from-counts-from (c .before .before) .pre .0)) .actions
+
+part-tallies-start-3 : tie.Need-part-tallies-start-3
+part-tallies-start-3 c = let o = in-order (fits-in (start-from-counts-from (c .before .before) .pre .0)) in omega arith
+
+part-tallies-end-3 : tie.Need-part-tallies-end-3
+part-tallies-end-3 c = let o = in-order (fits-in (start-from-counts-from (c .before .before) .pre .0)) in omega arith
+
+sub-tallies-4 : tie.Need-sub-tallies-4
+sub-tallies-4 c = search needs
+
+part-tallies-start-4 : tie.Need-part-tallies-start-4
+part-tallies-start-4 c = search needs
+
+part-tallies-end-4 : tie.Need-part-tallies-end-4
+part-tallies-end-4 c = search needs
+
+sub-tallies-5 : tie.Need-sub-tallies-5
+sub-tallies-5 c = search needs
+
+part-tallies-start-5 : tie.Need-part-tallies-start-5
+part-tallies-start-5 c = search needs
+
+part-tallies-end-5 : tie.Need-part-tallies-end-5
+part-tallies-end-5 c = search needs
 
 tallies-requires : tie.Need-tallies-requires
 tallies-requires c κs =
-    let at-start = start-from-tallies-requires c in
+    let at-counts-from = counts-from-from-tallies-requires c in
+    let at-flags-from = at-counts-from .before in
+    let at-start = start-from-flags-from at-flags-from in
     let O = at-start .pre .0 in
     let J = at-start .pre .1 in
-    let r = programs-long _ _ (fits-in O) in
-    ((r .0, r .1, r .2, actions-long _ _ (fits-in O), sym (counts-long (J .prepared))), (runs-lower O, decides-by O J))
+    let d = at-start .args .d in
+    let m = at-start .args .m in
+    let flags = now (at-start .args .flags) in
+    let numbers = now (at-start .args .numbers) in
+    let x = at-flags-from .flags-from .result in
+    let y = at-counts-from .counts-from .result in
+    let e = at-flags-from .flags-from .ensures .0 in
+    let T = window-at x (truthsFrom d) (x + 512) 512 flags e (omega arith) in
+    let F = window-at (x + 512) (finalsFrom d) (x + 512 + 260) 260 flags (omega (arith, e)) (omega arith) in
+    let N = window-at y (countsFrom d) (y + 260) 260 numbers (at-counts-from .counts-from .ensures .0) (omega arith) in
+    let r = programs-long _ _ (fits-in O) in (
+      (r .0, r .1, r .2, actions-long _ _ (fits-in O), ap length N ∙ counts-long (J .prepared) d),
+      (
+        runs-lower O,
+        subst₂ (λ (t f : List Bool). FinalsKnown (runs (now (at-start .args .s)) (m .layout) (m .interrupts)) (many (m .layout) (m .interrupts)) t (at-start .args .st .running) f) (sym T) (sym F)
+            (decides-by O J),
+      ),
+    )
 
 same-length : tie.Need-same-length
 same-length c = search needs
@@ -81,38 +127,60 @@ same-length c = search needs
 returns : tie.Need-returns
 returns c =
     let at-tallies = c .before .before in
-    let at-start = start-from-tallies at-tallies in
+    let at-counts-from = counts-from-from-tallies at-tallies in
+    let at-flags-from = at-counts-from .before in
+    let at-start = start-from-flags-from at-flags-from in
     let O = at-start .pre .0 in
     let J = at-start .pre .1 in
+    let d = at-start .args .d in
     let st = at-start .args .st in
     let s = now (at-start .args .s) in
     let l = at-start .args .m .layout in
     let b = at-start .args .m .interrupts in
     let flags = now (at-start .args .flags) in
     let numbers = now (at-start .args .numbers) in
+    let x = at-flags-from .flags-from .result in
+    let y = at-counts-from .counts-from .result in
+    let T = window-at x (truthsFrom d) (x + 512) 512 flags (at-flags-from .flags-from .ensures .0) (omega arith) in
+    let ey = at-counts-from .counts-from .ensures .0 in
+    let N = window-at y (countsFrom d) (y + 260) 260 numbers ey (omega arith) in
     let counts = at-tallies .tallies .last .0 in
     let long = at-tallies .tallies .ensures .1 in
-    let n = length-front numbers counts 260 (long ∙ counts-long (J .prepared)) ∙ J .prepared .numbers-long in
-    let e : countsIn (counts ++ drop 260 numbers) ≡ counts = take-at counts (drop 260 numbers) 260 long in
-    surveyed O J (counts ++ drop 260 numbers) n (drop-at counts (drop 260 numbers) 260 long)
-    (subst (λ (x : List ℕ). Tallied (runs s l b) (many l b) (truthsIn flags) (seenBy O J l) (st .running) (countsIn numbers) x) (sym e) (at-tallies .tallies .ensures .0))
+    let fits : y + 260 ≤ length numbers = omega (arith, at-counts-from .counts-from .ensures .1, J .prepared .numbers-long) in
+    let new = putMid y (y + 260 - y) numbers counts in
+    let K : Only (countsFrom d) 260 numbers new = subst (λ (o : ℕ). Only o 260 numbers new) ey (only-put y (y + 260) 260 numbers counts (omega arith) fits long) in
+    let e : countsAt d new ≡ counts = subst (λ (o : ℕ). window o 260 new ≡ counts) ey (window-put y (y + 260) 260 numbers counts (omega arith) fits long) in
+    let told = subst₂ (λ (t : List Bool) (k : List ℕ). Tallied (runs s l b) (many l b) t (possibleIn (actionsIn s l) (l .a) t) (st .running) k counts) T N (at-tallies .tallies .ensures .0) in (
+      surveyed O J new (same-len-mid y (y + 260 - y) numbers counts (at-tallies .tallies .kept .0)) K
+          (subst (λ (k : List ℕ). Tallied (runs s l b) (many l b) (truthsAt d flags) (seenBy O J l) (st .running) (countsAt d numbers) k) (sym e) told),
+      K,
+    )
 
 pub tally-spec : {M : Type 1} → statement M
 tally-spec =
     tie.close
     (tie.spec
-    slice-aggregate-held
-    sub-finals
-    part-finals-start
-    part-finals-end
-    slice-relend-prefix-tallies
-    slice-aggregate-tallies
+    flags-from-requires
+    add-middle
+    add-to
+    counts-from-requires
+    add-last
+    mul-tallies
     sub-tallies
     part-tallies-start
     part-tallies-end
     sub-tallies-2
     part-tallies-start-2
     part-tallies-end-2
+    sub-tallies-3
+    part-tallies-start-3
+    part-tallies-end-3
+    sub-tallies-4
+    part-tallies-start-4
+    part-tallies-end-4
+    sub-tallies-5
+    part-tallies-start-5
+    part-tallies-end-5
     tallies-requires
     same-length
     returns)

@@ -1,67 +1,97 @@
--- The remaining program is asked with the parts of the tables. Assumes nothing.
+-- The program is asked by the tables of the depth. Assumes nothing.
 use denote.Ref.{now}
-use mathlib.Core.Path.{sym, subst}
+use native.Mathlib.Omega.{arith}
 use mathlib.Core.Bool.{Bool}
 use mathlib.Core.List.{List}
-use native.Mathlib.Omega.{arith}
+use mathlib.Core.Path.{_≡_, sym, _∙_, ap, subst, subst₂}
+use Prim.Native.Nat.{ℕ, _+_}
 use lib.Seq.{length-take-le}
 use Rattle.ends.specs.Ends.{Totalled}
-use Rattle.engine.specs.Tables.{finalsIn, countsIn}
-use Rattle.engine.proofs.Tables.{to-end}
+use Rattle.engine.specs.Tables.{finalsFrom, countsFrom, endableIn}
+use Rattle.engine.proofs.Windows.{window-at}
 use borrow.Author.Needs.{needs}
 use Rattle.engine.proofs.total.Statement.{statement}
 use Rattle.engine.proofs.total.Tie as tie
 
-sub-finals : tie.Need-sub-finals
-sub-finals c = search needs
+flags-from-requires : tie.Need-flags-from-requires
+flags-from-requires c κs = search needs
 
-part-finals-start : tie.Need-part-finals-start
-part-finals-start c = search needs
+add-from : tie.Need-add-from
+add-from c = search needs
 
-part-finals-end : tie.Need-part-finals-end
-part-finals-end c = search needs
+add-to : tie.Need-add-to
+add-to c = search needs
 
-sub-endable : tie.Need-sub-endable
-sub-endable c = search needs
+counts-from-requires : tie.Need-counts-from-requires
+counts-from-requires c κs = search needs
 
-part-endable-start : tie.Need-part-endable-start
-part-endable-start c = search needs
+add-last : tie.Need-add-last
+add-last c = search needs
 
-part-endable-end : tie.Need-part-endable-end
-part-endable-end c = search needs
+sub-total-rest : tie.Need-sub-total-rest
+sub-total-rest c = search needs
+
+part-total-rest-start : tie.Need-part-total-rest-start
+part-total-rest-start c = search needs
+
+part-total-rest-end : tie.Need-part-total-rest-end
+part-total-rest-end c = search needs
 
 -- Places: what stands before a need, by name. Written by `named`: run it again when the code changes.
-abbrev start-from-slice-aggregate-total-rest : tie.After-total-rest-arg → tie.Start
-start-from-slice-aggregate-total-rest c = c .before .before .before .before .before .before
-
-abbrev start-from-returns : tie.After-total-rest → tie.Start
-start-from-returns c = start-from-slice-aggregate-total-rest (c .before)
+abbrev start-from-counts-from : tie.After-counts-from → tie.Start
+start-from-counts-from c = c .before .before .before .before .before
 
 slice-aggregate-total-rest : tie.Need-slice-aggregate-total-rest
 slice-aggregate-total-rest c =
-    let at-start = start-from-slice-aggregate-total-rest c in
-    sym (length-take-le 260 (now (at-start .args .numbers)) (omega (arith, at-start .pre .1)))
+    let at-start = start-from-counts-from (c .before .before) in
+    sym (length-take-le 260 (now (at-start .args .flags)) (omega (arith, at-start .pre .0)))
+
+mul-total-rest : tie.Need-mul-total-rest
+mul-total-rest c = search needs
+
+sub-total-rest-2 : tie.Need-sub-total-rest-2
+sub-total-rest-2 c = search needs
+
+part-total-rest-start-2 : tie.Need-part-total-rest-start-2
+part-total-rest-start-2 c = search needs
+
+part-total-rest-end-2 : tie.Need-part-total-rest-end-2
+part-total-rest-end-2 c = search needs
 
 total-rest-requires : tie.Need-total-rest-requires
 total-rest-requires c κs = search needs
 
 returns : tie.Need-returns
 returns c =
-    let at-start = start-from-returns c in
+    let at-counts-from = c .before .before .before .before in
+    let at-flags-from = at-counts-from .before in
+    let at-start = at-flags-from .before .before .before .before in
     λ g a.
+    let d = at-start .args .d in
     let flags = now (at-start .args .flags) in
-    subst (λ (l : List Bool). Totalled (finalsIn flags) l (countsIn (now (at-start .args .numbers))) g (c .total-rest .result)) (to-end 772 flags) (c .total-rest .ensures g a)
+    let numbers = now (at-start .args .numbers) in
+    let x = at-flags-from .flags-from .result in
+    let y = at-counts-from .counts-from .result in
+    subst₂ (λ (l : List Bool) (k : List ℕ). Totalled l (endableIn flags) k g (c .total-rest .result))
+    (window-at (x + 512) (finalsFrom d) (x + 512 + 260) 260 flags (omega (arith, at-flags-from .flags-from .ensures .0)) (omega arith))
+    (window-at y (countsFrom d) (y + 260) 260 numbers (at-counts-from .counts-from .ensures .0) (omega arith)) (c .total-rest .ensures g a)
 
 pub total-spec : {M : Type 1} → statement M
 total-spec =
     tie.close
     (tie.spec
-    sub-finals
-    part-finals-start
-    part-finals-end
-    sub-endable
-    part-endable-start
-    part-endable-end
+    flags-from-requires
+    add-from
+    add-to
+    counts-from-requires
+    add-last
+    sub-total-rest
+    part-total-rest-start
+    part-total-rest-end
     slice-aggregate-total-rest
+    mul-total-rest
+    sub-total-rest-2
+    part-total-rest-start-2
+    part-total-rest-end-2
     total-rest-requires
     returns)

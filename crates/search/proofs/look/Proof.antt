@@ -1,29 +1,28 @@
--- The cases of Looking, by the tests that the code makes. Assumes nothing.
+-- Each way out is told by its law of Looking: over, or nothing later matters, or at the bound; else the verdict is that on the transitions.
+-- Assumes nothing.
 use denote.Ref.{now}
-use mathlib.Core.Bool.{Bool, _&&_, false≢true}
-use mathlib.Core.List.{List}
-use mathlib.Core.Path.{_≡_, refl, sym, _∙_, ap, subst}
-use Prim.Native.Nat.{ℕ}
+use mathlib.Core.Bool.{Bool, false≢true, _&&_}
+use mathlib.Core.Path.{_≡_, refl, sym, _∙_, ap}
+use Prim.Native.Nat.{_≤_}
 use native.Mathlib.Omega.{arith}
-use Rattle.golog.specs.Prog.{Prog}
+use borrow.Author.Tests.{not-true, not-false}
+use lib.ListN.{drop}
 use Rattle.runs.specs.Guide.{isNil}
 use Rattle.runs.specs.Bounded.{join, flagged}
-use Rattle.search.specs.Outcome.{Reported}
-use Rattle.search.specs.Searching.{Ready, visited, toMake, verdictAt, LookedAt}
-use Rattle.search.specs.declared.Outcome.{Outcome}
-use Rattle.search.proofs.Looking.{over, at-last, at-bound, on-ward, ends-next}
+use Rattle.search.specs.Searching.{configured, toMake}
+use Rattle.search.proofs.Looking.{over, last-out, next-out, at-bound, on-ward, now-known}
 use borrow.Author.Needs.{needs}
 use Rattle.search.proofs.look.Statement.{statement}
 use Rattle.search.proofs.look.Tie as tie
+
+only-final-requires : tie.Need-only-final-requires
+only-final-requires c κs = search needs
 
 is-final-requires : tie.Need-is-final-requires
 is-final-requires c κs = search needs
 
 is-over-requires : tie.Need-is-over-requires
 is-over-requires c κs = search needs
-
-last-outcome-requires : tie.Need-last-outcome-requires
-last-outcome-requires c κs = search needs
 
 known-requires : tie.Need-known-requires
 known-requires c κs = search needs
@@ -35,20 +34,23 @@ same-length-2 : tie.Need-same-length-2
 same-length-2 c = search needs
 
 -- Places: what stands before a need, by name. Written by `named`: run it again when the code changes.
-abbrev start-from-m : tie.After-m → tie.Start
-start-from-m c = c .before .before .before .before .before .before
+abbrev start-from-only-final : tie.After-only-final → tie.Start
+start-from-only-final c = c .before .before .before .before .before .before
 
-abbrev start-from-then1 : tie.Then1 → tie.Start
-start-from-then1 c = start-from-m (c .before .before .before)
+abbrev start-from-is-final : tie.After-is-final → tie.Start
+start-from-is-final c = start-from-only-final (c .before .before .before .before)
 
 abbrev start-from-survey : tie.After-survey → tie.Start
-start-from-survey c = start-from-m (c .before .before .before .before .before .before)
+start-from-survey c = start-from-only-final (c .before .before .before .before)
+
+abbrev is-final-from-else2 : tie.Else2 → tie.After-is-final
+is-final-from-else2 c = c .before .before .before .before
+
+abbrev is-final-from-then2 : tie.Then2 → tie.After-is-final
+is-final-from-then2 c = c .before .before .before .before
 
 abbrev survey-from-is-over2 : tie.After-is-over2 → tie.After-survey
 survey-from-is-over2 c = c .before .before .before .before .before .before
-
-abbrev is-final-from-last-outcome : tie.After-last-outcome → tie.After-is-final
-is-final-from-last-outcome c = c .before .before .before .before
 
 abbrev survey-from-then3 : tie.Then3 → tie.After-survey
 survey-from-then3 c = survey-from-is-over2 (c .before)
@@ -58,29 +60,15 @@ if3-from-then5 c = c .before .before .before .before
 
 returns : tie.Need-returns
 returns c =
-    let at-is-final = is-final-from-last-outcome (c .before) in
-    let at-if2 = at-is-final .before .before .before in
-    let at-if1 = at-if2 .before .before in
-    let at-start = start-from-then1 at-if1 in
-    let the-moves = now (at-start .args .moves) in
+    let at-is-final = is-final-from-then2 (c .before) in
+    let at-start = start-from-is-final at-is-final in
     let s = now (at-start .args .s) in
+    let g = now (at-start .args .moves) in
+    let t = at-start .args .t in
     let q = at-start .args .q in
-    let free = at-start .args .t .free in
-    let moves = toMake the-moves q in
-    record {
-      prepared = at-is-final .is-final .ensures .1;
-      known = λ p R e h. subst (λ (o : Outcome). Reported (q .n) (q .d) h h o (verdictAt s the-moves (at-start .args .t) q p)) (sym (c .known .ensures .1))
-          (subst (λ (o : Outcome). Reported (q .n) (q .d) h h o (verdictAt s the-moves (at-start .args .t) q p)) (sym (c .before .last-outcome .ensures))
-          (at-last s free (visited q p) moves (q .n) (q .d) (q .cut) _ (c .before .before .is-over .ensures ∙ ap (λ (b : Bool). isNil moves && b)
-          (at-is-final .is-final .ensures .0 _ p (R .frame))) q refl refl (at-if1 .if1 .taken) (q .left) (at-if2 .if2 .taken) h));
-      unknown = λ p R e. absurd (false≢true (sym e ∙ c .known .ensures .0));
-    }
-
-survey-requires : tie.Need-survey-requires
-survey-requires c κs = search needs
-
-is-over-requires-2 : tie.Need-is-over-requires-2
-is-over-requires-2 c κs = search needs
+    now-known (at-is-final .is-final .ensures .1 .0) (at-is-final .is-final .ensures .1 .1) (c .known .ensures)
+    (λ p Y h. over s (t .free) (configured q p) (toMake g q) (q .n) (q .depth) (at-start .args .cut) _
+    (c .before .before .is-over .ensures ∙ ap (λ (b : Bool). isNil (toMake g q) && b) (at-is-final .is-final .ensures .0 _ p (Y .frame))) (q .left) h (c .before .if2 .taken))
 
 known-requires-2 : tie.Need-known-requires-2
 known-requires-2 c κs = search needs
@@ -93,25 +81,24 @@ same-length-4 c = search needs
 
 returns-2 : tie.Need-returns-2
 returns-2 c =
-    let at-survey = survey-from-then3 (c .before) in
-    let at-start = start-from-survey at-survey in
+    let at-is-final = is-final-from-else2 (c .before) in
+    let at-if1 = at-is-final .before .before .before in
+    let at-only-final = at-if1 .before in
+    let at-start = start-from-only-final at-only-final in
     let s = now (at-start .args .s) in
+    let g = now (at-start .args .moves) in
+    let t = at-start .args .t in
     let q = at-start .args .q in
-    let free = at-start .args .t .free in
-    let moves = toMake (now (at-start .args .moves)) q in
-    record {
-      prepared = at-survey .survey .ensures .1 .prepared;
-      known = λ p R e h. subst (λ (o : Outcome). Reported (q .n) (q .d) h h o (verdictAt s (now (at-start .args .moves)) (at-start .args .t) q p)) (sym (c .known2 .ensures .1))
-          (over s free (visited q p) moves (q .n) (q .d) (q .cut) _ (c .before .before .is-over2 .ensures ∙ ap (λ (b : Bool). isNil moves && b)
-          (at-survey .survey .ensures .0 _ p (R .frame) .final-is)) (q .left) h (c .before .if3 .taken));
-      unknown = λ p R e. absurd (false≢true (sym e ∙ c .known2 .ensures .0));
-    }
+    let z = at-only-final .only-final .ensures .0 (at-if1 .if1 .taken) in
+    now-known (at-is-final .is-final .ensures .1 .0) (at-is-final .is-final .ensures .1 .1) (c .known2 .ensures)
+    (λ p Y h. last-out s (t .free) (configured q p) (toMake g q) (q .n) (q .depth) (at-start .args .cut) _
+    (c .before .before .is-over .ensures ∙ ap (λ (b : Bool). isNil (toMake g q) && b) (at-is-final .is-final .ensures .0 _ p (Y .frame))) (q .left) h (c .before .if2 .left) (z .0) (z .1))
 
-is-spent-requires : tie.Need-is-spent-requires
-is-spent-requires c κs = search needs
+survey-requires : tie.Need-survey-requires
+survey-requires c κs = search needs
 
-unfound-requires : tie.Need-unfound-requires
-unfound-requires c κs = search needs
+is-over-requires-2 : tie.Need-is-over-requires-2
+is-over-requires-2 c κs = search needs
 
 known-requires-3 : tie.Need-known-requires-3
 known-requires-3 c κs = search needs
@@ -124,29 +111,21 @@ same-length-6 c = search needs
 
 returns-3 : tie.Need-returns-3
 returns-3 c =
-    let at-is-spent = c .before .before .before in
-    let at-if4 = at-is-spent .before in
-    let at-if3 = at-if4 .before .before in
-    let at-is-over2 = at-if3 .before in
-    let at-survey = survey-from-is-over2 at-is-over2 in
+    let at-survey = survey-from-then3 (c .before) in
     let at-start = start-from-survey at-survey in
-    let the-moves = now (at-start .args .moves) in
     let s = now (at-start .args .s) in
+    let g = now (at-start .args .moves) in
+    let t = at-start .args .t in
     let q = at-start .args .q in
-    let free = at-start .args .t .free in
-    let moves = toMake the-moves q in
-    record {
-      prepared = at-survey .survey .ensures .1 .prepared;
-      known = λ p R e h. subst (λ (o : Outcome). Reported (q .n) (q .d) h h o (verdictAt s the-moves (at-start .args .t) q p)) (sym (c .known3 .ensures .1))
-          (subst (λ (o : Outcome). Reported (q .n) (q .d) h h o (verdictAt s the-moves (at-start .args .t) q p)) (sym (c .before .unfound .ensures))
-          (at-bound s free (visited q p) moves (q .n) (q .d) (q .cut) _ (at-is-over2 .is-over2 .ensures ∙ ap (λ (b : Bool). isNil moves && b)
-          (at-survey .survey .ensures .0 _ p (R .frame) .final-is)) (q .left) _ h (at-if3 .if3 .left) (at-if4 .if4 .taken)
-          (at-is-spent .is-spent .ensures _ _ _ (at-survey .survey .ensures .0 _ p (R .frame) .first))));
-      unknown = λ p R e. absurd (false≢true (sym e ∙ c .known3 .ensures .0));
-    }
+    now-known (at-survey .survey .ensures .1 .0 .prepared) (at-survey .survey .ensures .1 .1) (c .known3 .ensures)
+    (λ p Y h. over s (t .free) (configured q p) (toMake g q) (q .n) (q .depth) (at-start .args .cut) _
+    (c .before .before .is-over2 .ensures ∙ ap (λ (b : Bool). isNil (toMake g q) && b) (at-survey .survey .ensures .0 _ p (Y .frame) .final-is)) (q .left) h (c .before .if3 .taken))
 
-no-end-next-requires : tie.Need-no-end-next-requires
-no-end-next-requires c κs = search needs
+is-spent-requires : tie.Need-is-spent-requires
+is-spent-requires c κs = search needs
+
+unfound-requires : tie.Need-unfound-requires
+unfound-requires c κs = search needs
 
 known-requires-4 : tie.Need-known-requires-4
 known-requires-4 c κs = search needs
@@ -159,22 +138,31 @@ same-length-8 c = search needs
 
 returns-4 : tie.Need-returns-4
 returns-4 c =
-    let at-if3 = if3-from-then5 (c .before) in
+    let at-is-spent = c .before .before in
+    let at-if4 = at-is-spent .before in
+    let at-if3 = at-if4 .before .before in
     let at-is-over2 = at-if3 .before in
     let at-survey = survey-from-is-over2 at-is-over2 in
-    let at-start = start-from-survey at-survey in
+    let at-if1 = at-survey .before .before .before in
+    let at-only-final = at-if1 .before in
+    let at-start = start-from-only-final at-only-final in
     let s = now (at-start .args .s) in
+    let g = now (at-start .args .moves) in
+    let t = at-start .args .t in
     let q = at-start .args .q in
-    let free = at-start .args .t .free in
-    let moves = toMake (now (at-start .args .moves)) q in
-    record {
-      prepared = at-survey .survey .ensures .1 .prepared;
-      known = λ p R e h. subst (λ (o : Outcome). Reported (q .n) (q .d) h h o (verdictAt s (now (at-start .args .moves)) (at-start .args .t) q p)) (sym (c .known4 .ensures .1)) (let t =
-          c .before .before .no-end-next .ensures (c .before .if5 .taken) in
-          ends-next s free (visited q p) moves (q .n) (q .d) (q .cut) _ (at-is-over2 .is-over2 .ensures ∙ ap (λ (b : Bool). isNil moves && b)
-          (at-survey .survey .ensures .0 _ p (R .frame) .final-is)) (q .left) h (at-if3 .if3 .left) (t .0) (t .1) (at-survey .survey .ensures .0 _ p (R .frame) .none-ends (t .2)));
-      unknown = λ p R e. absurd (false≢true (sym e ∙ c .known4 .ensures .0));
-    }
+    let k = c .known4 .ensures in
+    now-known (at-survey .survey .ensures .1 .0 .prepared) (at-survey .survey .ensures .1 .1) (k .0, k .1 ∙ c .before .unfound .ensures)
+    (λ p Y h. let T = at-survey .survey .ensures .0 _ p (Y .frame) in
+    at-bound s (t .free) (configured q p) (toMake g q) (q .n) (q .depth) (at-start .args .cut) _
+    (at-is-over2 .is-over2 .ensures ∙ ap (λ (b : Bool). isNil (toMake g q) && b) (T .final-is)) (q .left) (at-is-spent .is-spent .result) h (at-if3 .if3 .left)
+    (at-only-final .only-final .ensures .1 (at-if1 .if1 .left) (at-if4 .if4 .taken)) (at-if4 .if4 .taken)
+    (at-is-spent .is-spent .ensures _ _ _ (T .first)))
+
+no-end-next-requires : tie.Need-no-end-next-requires
+no-end-next-requires c κs = search needs
+
+known-requires-5 : tie.Need-known-requires-5
+known-requires-5 c κs = search needs
 
 same-length-9 : tie.Need-same-length-9
 same-length-9 c = search needs
@@ -184,26 +172,50 @@ same-length-10 c = search needs
 
 returns-5 : tie.Need-returns-5
 returns-5 c =
-    let at-if4 = c .before .before in
-    let at-if3 = at-if4 .before .before in
+    let at-if3 = if3-from-then5 (c .before) in
     let at-is-over2 = at-if3 .before in
     let at-survey = survey-from-is-over2 at-is-over2 in
     let at-start = start-from-survey at-survey in
     let s = now (at-start .args .s) in
+    let g = now (at-start .args .moves) in
+    let t = at-start .args .t in
     let q = at-start .args .q in
-    let free = at-start .args .t .free in
-    let moves = toMake (now (at-start .args .moves)) q in
+    let z = c .before .before .no-end-next .ensures (c .before .if5 .taken) in
+    now-known (at-survey .survey .ensures .1 .0 .prepared) (at-survey .survey .ensures .1 .1) (c .known5 .ensures)
+    (λ p Y h. let T = at-survey .survey .ensures .0 _ p (Y .frame) in
+    next-out s (t .free) (configured q p) (toMake g q) (q .n) (q .depth) (at-start .args .cut) _
+    (at-is-over2 .is-over2 .ensures ∙ ap (λ (b : Bool). isNil (toMake g q) && b) (T .final-is)) (q .left) h (at-if3 .if3 .left) (z .0) (z .1) (T .none-ends (z .2)))
+
+same-length-11 : tie.Need-same-length-11
+same-length-11 c = search needs
+
+same-length-12 : tie.Need-same-length-12
+same-length-12 c = search needs
+
+returns-6 : tie.Need-returns-6
+returns-6 c =
+    let at-if3 = c .before .before .before .before in
+    let at-is-over2 = at-if3 .before in
+    let at-survey = survey-from-is-over2 at-is-over2 in
+    let at-start = start-from-survey at-survey in
+    let s = now (at-start .args .s) in
+    let g = now (at-start .args .moves) in
+    let t = at-start .args .t in
+    let q = at-start .args .q in
+    let cut = at-start .args .cut in
     record {
-      prepared = at-survey .survey .ensures .1 .prepared;
-      known = λ p R e. absurd (false≢true e);
-      unknown = λ p R e.
+      prepared = at-survey .survey .ensures .1 .0 .prepared;
+      filled = at-survey .survey .ensures .1 .1;
+      known = λ p Y z. absurd (false≢true z);
+      unknown = λ p Y z.
+          let T = at-survey .survey .ensures .0 _ p (Y .frame) in
+          let e = at-is-over2 .is-over2 .ensures ∙ ap (λ (b : Bool). isNil (toMake g q) && b) (T .final-is) in
+          let some : 1 ≤ q .left = omega (arith, c .before .before .if4 .left) in
           record {
-            some-left = omega (arith, at-if4 .if4 .left);
-            surveyed = at-survey .survey .ensures .1;
-            first = at-survey .survey .ensures .0 _ p (R .frame) .first;
-            same = ap (join (flagged (q .cut))) (on-ward s free (visited q p) moves (q .n) (q .d) (q .cut) _
-                (at-is-over2 .is-over2 .ensures ∙ ap (λ (b : Bool). isNil moves && b) (at-survey .survey .ensures .0 _ p (R .frame) .final-is)) (q .left) (at-if3 .if3 .left)
-                (omega (arith, at-if4 .if4 .left)));
+            some-left = some;
+            surveyed = at-survey .survey .ensures .1 .0;
+            first = T .first;
+            same = ap (join (flagged cut)) (on-ward s (t .free) (configured q p) (toMake g q) (q .n) (q .depth) cut _ e (q .left) (at-if3 .if3 .left) some);
           };
     }
 
@@ -211,30 +223,34 @@ pub look-spec : {M : Type 1} → statement M
 look-spec =
     tie.close
     (tie.spec
+    only-final-requires
     is-final-requires
     is-over-requires
-    last-outcome-requires
     known-requires
     same-length
     same-length-2
     returns
-    survey-requires
-    is-over-requires-2
     known-requires-2
     same-length-3
     same-length-4
     returns-2
-    is-spent-requires
-    unfound-requires
+    survey-requires
+    is-over-requires-2
     known-requires-3
     same-length-5
     same-length-6
     returns-3
-    no-end-next-requires
+    is-spent-requires
+    unfound-requires
     known-requires-4
     same-length-7
     same-length-8
     returns-4
+    no-end-next-requires
+    known-requires-5
     same-length-9
     same-length-10
-    returns-5)
+    returns-5
+    same-length-11
+    same-length-12
+    returns-6)

@@ -1,4 +1,5 @@
 -- Surveyed again, or as it was. Assumes nothing.
+use Rattle.engine.proofs.Tables.{filled-none}
 use borrow.Author.Needs.{needs}
 use Rattle.search.proofs.refresh.Statement.{statement}
 use Rattle.search.proofs.refresh.Tie as tie
@@ -20,7 +21,7 @@ abbrev start-from-returns-2 : tie.Else1 → tie.Start
 start-from-returns-2 c = c .before .before .before .before .before
 
 returns-2 : tie.Need-returns-2
-returns-2 c = start-from-returns-2 c .pre .0 .2 (c .if1 .left)
+returns-2 c = (start-from-returns-2 c .pre .0 .2 (c .if1 .left), filled-none _ _)
 
 pub refresh-spec : {M : Type 1} → statement M
 refresh-spec = tie.close (tie.spec survey-requires same-length same-length-2 returns returns-2)

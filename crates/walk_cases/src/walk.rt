@@ -1,0 +1,155 @@
+// A walk through the configurations of a sheet, one transition after another, by the functions of the engine that strategies use.
+ghost use mathlib.Core.Path.{_≡_};
+ghost use mathlib.Core.Bool.{true};
+ghost use Prim.Native.Nat.{ℕ, _+_};
+ghost use lib.ListN.{length};
+ghost use Rattle.sheet.specs.Check.{Accepts, checkOf};
+ghost use Rattle.sheet.specs.Layout.{layoutOf};
+ghost use Rattle.sheet.specs.declared.Checked.the-variants.{Accepted};
+ghost use Rattle.height.specs.Work.{workWords};
+ghost use Rattle.golog.specs.Prog.{Prog};
+ghost use Rattle.demands.specs.Decoded.{boundOf};
+ghost use Rattle.demands.specs.Compact.{levelsOf};
+ghost use Rattle.engine.specs.Tables.{Prepared, Surveyed};
+ghost use Rattle.engine.specs.Frames.{Of, Frame};
+ghost use Rattle.engine.specs.Going.{Ahead, transitionsOf, CanGoOn};
+use crate::report;
+use engine::Cursor;
+use engine::Machine;
+use engine::Taken;
+use golog::State;
+use sheet::Checked;
+use sheet::Layout;
+
+fn wide(x: u8) -> usize {
+    x as usize
+}
+
+// The transition that a walk takes at depth d: as listed, the first one past the list's end.
+fn choice(choices: &[u8], d: usize) -> usize {
+    if d < choices.len() {
+        return wide(choices[d]);
+    }
+    0
+}
+
+// Surveys and writes the configuration of frame d and the state: its first cursor.
+fn tell(
+    flags: &mut [bool],
+    numbers: &mut [u32],
+    work: &[u32],
+    s: &[u8],
+    m: Machine,
+    st: State,
+    d: usize,
+) -> Cursor
+    requires { ⌜ Of (now s) m × Prepared (now s) (now flags) (now numbers) ⌝ }
+    requires { ⌜ ((left : ℕ) × (p : Prog) × Frame (now s) left (now work) d p) ⌝ }
+    ensures { λ r. ⌜ ((left : ℕ) (p : Prog) → Frame (now (s .entry)) left (now (work .entry)) d p
+        → Ahead (now (s .entry)) (p, st) r (transitionsOf (now (s .entry)) (p, st))) ⌝ }
+    ensures { λ _. ⌜ Surveyed (now (s .entry)) st d (now (flags .exit)) (now (numbers .exit)) ⌝ }
+{
+    let f = engine::survey(flags, numbers, work, s, m, st, d);
+    report::configuration(d, st, f);
+    let from = d * m.frame + engine::HEADER;
+    report::nodes(work, from, words::size_at(work, from));
+    f.first
+}
+
+// Makes the transitions from a cursor on, past n of them, each into the frame after frame d: the last one made, if there are so many.
+fn make(
+    work: &mut [u32],
+    flags: &[bool],
+    numbers: &[u32],
+    s: &[u8],
+    m: Machine,
+    st: State,
+    d: usize,
+    k: Cursor,
+    n: usize,
+) -> Taken
+    requires { ⌜ Of (now s) m × Surveyed (now s) st d (now flags) (now numbers) × CanGoOn (now s) st (now work) d k ⌝ }
+    ensures { λ r. ⌜ ((g : CanGoOn (now (s .entry)) st (now (work .entry)) d k) → r .made ≡ true
+        → ((p : Prog) × Frame (now (s .entry)) (g .left) (now (work .exit)) (d + 1) p)) ⌝ }
+    ensures { λ _. ⌜ length (now (work .exit)) ≡ length (now (work .entry)) ⌝ }
+{
+    let mut cursor = k;
+    let mut i = 0;
+    while i < n {
+        let x = engine::next(work, flags, numbers, s, m, st, d, cursor);
+        if !x.made {
+            return x;
+        }
+        cursor = x.cursor;
+        i += 1;
+    }
+    engine::next(work, flags, numbers, s, m, st, d, cursor)
+}
+
+// Walks on from the configuration of frame 0 and the state, while transitions are left and there is the one chosen.
+fn walk(
+    work: &mut [u32],
+    flags: &mut [bool],
+    numbers: &mut [u32],
+    s: &[u8],
+    choices: &[u8],
+    m: Machine,
+    first: State,
+)
+    requires { ⌜ Of (now s) m × Prepared (now s) (now flags) (now numbers) ⌝ }
+    requires { ⌜ ((p : Prog) × Frame (now s) (boundOf (now s)) (now work) 0 p) ⌝ }
+{
+    let l = m.layout;
+    let mut st = first;
+    let mut d = 0;
+    while d < l.d {
+        let k = tell(flags, numbers, work, s, m, st, d);
+        let n = choice(choices, d);
+        let x = make(work, flags, numbers, s, m, st, d, k, n);
+        if !x.made {
+            return;
+        }
+        report::transition(n, x.entry);
+        st = x.state;
+        d += 1;
+    }
+    tell(flags, numbers, work, s, m, st, d);
+}
+
+// Walks from a sheet's first configuration.
+fn walk_from(work: &mut [u32], s: &[u8], l: Layout, choices: &[u8])
+    requires { ⌜ Accepts (now s) × (l ≡ layoutOf (now s)) ⌝ }
+    requires { ⌜ length (now work) ≡ workWords (levelsOf (now s)) (boundOf (now s)) ⌝ }
+{
+    let m = engine::machine_of(s, l);
+    let mut flags = [false; engine::FLAGS];
+    let mut numbers = [0u32; engine::NUMBERS];
+    engine::prepare(&mut flags, &mut numbers, s, m);
+    engine::put_first(work, s, m);
+    let st = engine::initial_of(s, m);
+    walk(work, &mut flags, &mut numbers, s, choices, m, st);
+}
+
+// Walks on an accepted sheet that requires so many words.
+fn walk_accepted(s: &[u8], words: usize, choices: &[u8], work: &mut [u32])
+    requires { ⌜ checkOf (now s) ≡ Accepted words ⌝ }
+{
+    let l = sheet::layout_of(s);
+    if work.len() < words {
+        report::text(b"too large\n");
+        return;
+    }
+    walk_from(&mut work[..words], s, l, choices);
+}
+
+// Walks a sheet, if it is accepted and not too large.
+pub fn walk_sheet(s: &[u8], choices: &[u8]) {
+    let mut work = [0u32; 1024];
+    match sheet::check(s) {
+        Checked::Accepted { words } => walk_accepted(s, words, choices, &mut work),
+        Checked::Refused {
+            number: _,
+            place: _,
+        } => report::text(b"refused\n"),
+    }
+}
