@@ -15,7 +15,7 @@ use Rattle.runs.specs.Search.{Verdict, plan, nothing, more}
 use Rattle.height.specs.Work.{workWords}
 use Rattle.sheet.specs.Check.{checkOf}
 use Rattle.sheet.specs.Notes.{FirstRecord, withNotes}
-use Rattle.sheet.proofs.OtherNotes.{check-same}
+use Rattle.sheet.proofs.OtherNotes.{check-same, tables-same}
 use Rattle.sheet.specs.declared.Checked.{Checked}
 use Rattle.sheet.specs.declared.Checked.the-variants as checked
 use Rattle.demands.specs.Decoded.{boundOf}
@@ -32,9 +32,11 @@ use Rattle.demands.proofs.Entries.{unknown-entry-no}
 use Rattle.demands.proofs.Notes.{bound-same, plan-same, replay-same}
 use Rattle.planner.specs.Answers.{Stage, refused, searching, withWork, planStage, replayStage, planChecked, replayChecked}
 use Rattle.planner.specs.Answers.{answerAs, planAt, traced, traceAt, workAt, answerOf, traceOf, planWork, reply, replayAt, replyOf, replayWork}
-use Rattle.planner.specs.Numbers.{planNumber, planMoves, planTransitions, replyNumber, replyYes}
+use Rattle.planner.specs.Numbers.{planNumber, planMoves, planTransitions, replyNumber, replyYes, sizesBound}
+use Rattle.planner.specs.Sizes.{sizedAs, sizesOf}
 use Rattle.planner.specs.declared.Planned.the-variants as planned
 use Rattle.planner.specs.declared.Replayed.the-variants as replayed
+use Rattle.planner.specs.declared.Sized.the-variants as sized
 
 -- Demand 1: "turns away what it can't use by a number; what it returns and leaves in each lent slice is written down"
 
@@ -61,6 +63,11 @@ module _ (s : List ℕ) (number place : ℕ) (cause : checkOf s ≡ checked.Refu
 
 -- an accepted sheet, whose figure is w
 module _ (s : List ℕ) (w : ℕ) (accepted : checkOf s ≡ checked.Accepted w) where
+  -- the bound that `sizes` tells is the number of trace entries that planning asks for
+  pub told-bound : sizesBound (sizesOf s) ≡ boundOf s
+  unfolding sizesOf
+  told-bound = ap (λ (c : Checked). sizesBound (sizedAs s c)) accepted
+
   -- 10, where the trace is shorter than D
   module _ (work trace : List ℕ) (short : length trace < boundOf s) where
     stage-ten : planStage s (length work) (length trace) ≡ refused 10 0
@@ -302,3 +309,11 @@ module _ (s other : List ℕ) (first : FirstRecord s) where
     ap (λ (c : Stage). workAt c work) (stage-same (length work) trace),
     ap (λ (c : Checked). workAt (replayChecked (length work) c) work) (check-same s other first),
   )
+
+  pub sizes-same : sizesOf (withNotes s other) ≡ sizesOf s
+  unfolding sizesOf
+  sizes-same = ap (sizedAs (withNotes s other)) (check-same s other first) ∙ go (checkOf s)
+    where
+      go : (c : Checked) → sizedAs (withNotes s other) c ≡ sizedAs s c
+      go (checked.Accepted w) = λ i. sized.Known (tables-same s other first .f i) (bound-same s other first i)
+      go (checked.Refused n p) = refl

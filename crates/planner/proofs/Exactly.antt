@@ -1,5 +1,5 @@
--- Planning and replay give a number exactly for its listed cause, the first in rising order, and none exactly where there is no cause:
--- for every sheet and whatever is lent. Assumes nothing.
+-- Planning, replay and `sizes` give a number exactly for its listed cause, the first in rising order, and none exactly where there is no
+-- cause: for every sheet and whatever is lent. Assumes nothing.
 use mathlib.Core.Path.{_≡_, refl, sym, _∙_, ap, subst}
 use mathlib.Core.List.{List}
 use mathlib.Core.Logic.{_⊎_, _↔_, ⊎-elim, inl, inr}
@@ -23,8 +23,9 @@ use Rattle.demands.specs.Planning as meant
 use Rattle.demands.specs.Planning.{planOf, replayOf, replied, acceptsOf, answer, verdictOf, NoPlanAtAll, NoPlanWithinBound}
 use Rattle.demands.proofs.Demands.{plan-is, replay-is, thirteen-exactly, fourteen-exactly}
 use Rattle.planner.specs.Answers.{Stage, refused, searching, withWork, planStage, planChecked, answerAs, planAt, answerOf, replayStage, replayChecked, reply, replayAt, replyOf}
-use Rattle.planner.specs.Numbers.{planNumber, planPlace, replyNumber, replyPlace}
+use Rattle.planner.specs.Numbers.{planNumber, planPlace, replyNumber, replyPlace, sizesNumber, sizesPlace}
 use Rattle.planner.specs.Causes.{required, PlanCause, ReplayCause}
+use Rattle.planner.specs.Sizes.{sizedAs, sizesOf}
 use Rattle.planner.specs.declared.Planned.{Planned}
 use Rattle.planner.specs.declared.Planned.the-variants as planned
 use Rattle.planner.specs.declared.Replayed.{Replayed}
@@ -186,3 +187,29 @@ module _ (s h : List ℕ) (work : ℕ) where
   replied-exactly =
       let a = replyOf s h work in
       no-number-exactly (ReplayCause s work) replay-some (heard a) replay-answered (replyNumber a) (replyPlace a) (heard-number a)
+
+-- sizes: the numbers of the check
+module _ (s : List ℕ) where
+  sizes-number : (c : Checked) → sizesNumber (sizedAs s c) ≡ numberOf c
+  sizes-number (checked.Accepted w) = refl
+  sizes-number (checked.Refused k p) = refl
+
+  sizes-place : (c : Checked) → sizesPlace (sizedAs s c) ≡ placeOf c
+  sizes-place (checked.Accepted w) = refl
+  sizes-place (checked.Refused k p) = refl
+
+  sizes-some : (k p : ℕ) → Cause s k p → 1 ≤ k
+  sizes-some k p c = caused s k p c .0
+
+  pub sizes-number-exactly : (k p : ℕ) → 1 ≤ k → ((sizesNumber (sizesOf s) ≡ k) × (sizesPlace (sizesOf s) ≡ p)) ↔ First (Cause s) k p
+  unfolding sizesOf
+  sizes-number-exactly =
+      let c = checkOf s in
+      number-exactly (Cause s) sizes-some c (answered-by s) (sizesNumber (sizedAs s c)) (sizesPlace (sizedAs s c)) (sizes-number c) (sizes-place c)
+
+  -- F and D are told exactly where there is no cause
+  pub sizes-exactly : (sizesNumber (sizesOf s) ≡ 0) ↔ ((k p : ℕ) → ¬ Cause s k p)
+  unfolding sizesOf
+  sizes-exactly =
+      let c = checkOf s in
+      no-number-exactly (Cause s) sizes-some c (answered-by s) (sizesNumber (sizedAs s c)) (sizesPlace (sizedAs s c)) (sizes-number c)

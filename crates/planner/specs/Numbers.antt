@@ -1,10 +1,12 @@
--- Document 01's number, place and values of planning's and replay's answers, case by case: number 0 where there is none, and "beside it
--- every other result is 0". Assumes nothing.
+-- Document 01's number, place and values of the answers of planning, replay and `sizes`, case by case: number 0 where there is none, and
+-- "beside it every other result is 0". Assumes nothing.
 use Prim.Native.Nat.{ℕ}
 use Rattle.planner.specs.declared.Planned.{Planned}
 use Rattle.planner.specs.declared.Planned.the-variants as planned
 use Rattle.planner.specs.declared.Replayed.{Replayed}
 use Rattle.planner.specs.declared.Replayed.the-variants as replayed
+use Rattle.planner.specs.declared.Sized.{Sized}
+use Rattle.planner.specs.declared.Sized.the-variants as sized
 
 -- planning: n moves and t transitions
 abbrev pub planNumber : Planned → ℕ
@@ -38,3 +40,20 @@ abbrev pub replyYes : Replayed → ℕ
 replyYes replayed.Yes = 1
 replyYes replayed.No = 0
 replyYes (replayed.Refused m p) = 0
+
+-- sizes: F and D
+abbrev pub sizesNumber : Sized → ℕ
+sizesNumber (sized.Known f d) = 0
+sizesNumber (sized.Refused m p) = m
+
+abbrev pub sizesPlace : Sized → ℕ
+sizesPlace (sized.Known f d) = 0
+sizesPlace (sized.Refused m p) = p
+
+abbrev pub sizesFluents : Sized → ℕ
+sizesFluents (sized.Known f d) = f
+sizesFluents (sized.Refused m p) = 0
+
+abbrev pub sizesBound : Sized → ℕ
+sizesBound (sized.Known f d) = d
+sizesBound (sized.Refused m p) = 0

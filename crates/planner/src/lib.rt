@@ -1,4 +1,4 @@
-// The library's face: check, plan, replay, look up, notes. No call has a `requires`.
+// The library's face: check, sizes, plan, replay, look up, notes. No call has a `requires`.
 ghost use mathlib.Core.Path.{_≡_};
 ghost use lib.ListN.{length};
 ghost use denote.Ref.{ptr};
@@ -10,6 +10,7 @@ ghost use Rattle.search.specs.Outcome.{isFound};
 ghost use Rattle.planner.specs.Answers.{answerOf, traceOf, planWork, replyOf, replayWork};
 ghost use Rattle.planner.specs.declared.Planned.the-variants.{Refused};
 ghost use Rattle.planner.specs.Reports.{plannedAs, repliedAs};
+ghost use Rattle.planner.specs.Sizes.{sizesOf};
 use lookup::Looked;
 use search::Outcome;
 use sheet::Checked;
@@ -27,11 +28,33 @@ pub enum Replayed {
     Refused { number: u32, place: usize },
 }
 
+// What is told of a sheet's sizes: the number of its fluents and its bound, or a number and a place.
+pub enum Sized {
+    Known { fluents: usize, bound: usize },
+    Refused { number: u32, place: usize },
+}
+
 // Checks a sheet: the words of work that planning and replay require, or a number and a place.
 pub fn check(s: &[u8]) -> Checked
     ensures { λ r. ⌜ r ≡ checkOf (now (s .entry)) ⌝ }
 {
     sheet::check(s)
+}
+
+// How many fluents a sheet has, and its bound: so many entries of trace are enough for planning.
+pub fn sizes(s: &[u8]) -> Sized
+    ensures { λ r. ⌜ r ≡ sizesOf (now (s .entry)) ⌝ }
+{
+    match sheet::check(s) {
+        Checked::Accepted { words: _ } => {
+            let l = sheet::layout_of(s);
+            Sized::Known {
+                fluents: l.f,
+                bound: l.d,
+            }
+        }
+        Checked::Refused { number, place } => Sized::Refused { number, place },
+    }
 }
 
 // The notes of a sheet: the caller's own bytes ahead of the first record; under a number, the empty part at the slice's start.
