@@ -1,20 +1,23 @@
 /*
- * The verified planner, for C and every language that calls C (x86-64 System V).
+ * The verified planner, for C (C99) and C++ (C++11), and for every language that calls C; x86-64 System V.
  *
  *     rt staticlib planner_c        writes target/staticlib/libplanner_c.a
  *     cc -Iinclude program.c target/staticlib/libplanner_c.a
  *
- * "Document 01" is the paper that fixes sheets, programs, plans and numbers.
+ * examples/plan.c is a program to copy from. "Document 01" is the paper that fixes sheets, programs, plans and numbers.
  *
  * Buffers. Every buffer is the caller's: it is lent for the time of one call, nothing is retained, allocated or shared
  * between calls, and calls on different buffers may run at the same time.
- *  - A slice is a pointer to its first element, then the number of its elements. The pointer is never null and is
- *    aligned for its type: an empty slice, too, has some aligned address that is not null, as its own end.
+ *  - A slice is a pointer to its first element, which is aligned for its type, then the number of its elements. An
+ *    empty slice may be a null pointer with length 0.
  *  - Sheets and histories are read only, and are never written. Nobody else writes them during the call.
  *  - Work, trace and the single results are written. No two of them overlap, nor does one overlap a sheet or a history.
  *    They may hold anything before the call.
  *
- * Answers. A call returns a number and a place; the other results are those named at the function.
+ * Time and stack. planner_plan and planner_replay search, which may take time exponential in D; a call cannot be broken
+ * off. A call takes at most PLANNER_STACK bytes of stack.
+ *
+ * Answers. Every function returns a number; the place and the other results come through pointers.
  *  - 0: accepted, found, answered. The place is 0.
  *  - 1 to 14: as below. Every other result is 0. The place is the lowest faulty record for 4 to 8, else 0.
  * Causes are checked in rising order, and the first that holds gives the number. Each single result is written in
@@ -61,11 +64,49 @@ extern "C" {
 #define PLANNER_START 65534
 #define PLANNER_STOP 65535
 
+/* The most that any sheet requires: entries of trace, words of work. A caller who lends so many need not ask. */
+#define PLANNER_TRACE_MAX 64
+#define PLANNER_WORK_MAX 453635
+
+/* Bytes of stack that a call takes at most. */
+#define PLANNER_STACK 131072
+
+/*
+ * What the archive exports. C and C++ call the functions further down, which are the same but for null pointers. Other
+ * languages call these: here a pointer is never null, and an empty slice, too, has some aligned address, as its own
+ * end.
+ */
+uint32_t planner_raw_check(const uint8_t *sheet, size_t sheet_len, size_t *words, size_t *place);
+uint32_t planner_raw_sizes(const uint8_t *sheet, size_t sheet_len, size_t *fluents, size_t *bound, size_t *place);
+uint32_t planner_raw_plan(const uint8_t *sheet, size_t sheet_len, uint32_t *work, size_t work_len, uint16_t *trace,
+                          size_t trace_len, size_t *n, size_t *t, size_t *place);
+uint32_t planner_raw_replay(const uint8_t *sheet, size_t sheet_len, const uint16_t *history, size_t history_len,
+                            uint32_t *work, size_t work_len, uint32_t *yes, size_t *place);
+uint32_t planner_raw_look_up(const uint8_t *sheet, size_t sheet_len, size_t fluent, size_t *size, size_t *initial,
+                             size_t *place);
+uint32_t planner_raw_notes(const uint8_t *sheet, size_t sheet_len, size_t *length, size_t *place);
+
 /*
  * Checks a sheet. Number 0: it is accepted, and planning and replay require *words words of work.
  * Numbers 1 to 9.
  */
-uint32_t planner_check(const uint8_t *sheet, size_t sheet_len, size_t *words, size_t *place);
+static inline uint32_t planner_check(const uint8_t *sheet, size_t sheet_len, size_t *words, size_t *place)
+{
+    const uint8_t no_sheet = 0;
+    return planner_raw_check(sheet ? sheet : &no_sheet, sheet_len, words, place);
+}
+
+/*
+ * Tells how much there is. Number 0: the sheet has *fluents fluents (F), and its bound (D) is *bound: planning requires
+ * so many entries of trace.
+ * Numbers 1 to 9.
+ */
+static inline uint32_t planner_sizes(const uint8_t *sheet, size_t sheet_len, size_t *fluents, size_t *bound,
+                                     size_t *place)
+{
+    const uint8_t no_sheet = 0;
+    return planner_raw_sizes(sheet ? sheet : &no_sheet, sheet_len, fluents, bound, place);
+}
 
 /*
  * Plans. Number 0: the first *n entries of trace are the history of a run of *t transitions, at most D, that ends
@@ -73,30 +114,51 @@ uint32_t planner_check(const uint8_t *sheet, size_t sheet_len, size_t *words, si
  * trace D entries; both may be longer.
  * Numbers 1 to 11, 13 and 14.
  */
-uint32_t planner_plan(const uint8_t *sheet, size_t sheet_len, uint32_t *work, size_t work_len, uint16_t *trace,
-                      size_t trace_len, size_t *n, size_t *t, size_t *place);
+static inline uint32_t planner_plan(const uint8_t *sheet, size_t sheet_len, uint32_t *work, size_t work_len,
+                                    uint16_t *trace, size_t trace_len, size_t *n, size_t *t, size_t *place)
+{
+    const uint8_t no_sheet = 0;
+    uint32_t no_work = 0;
+    uint16_t no_trace = 0;
+    return planner_raw_plan(sheet ? sheet : &no_sheet, sheet_len, work ? work : &no_work, work_len,
+                            trace ? trace : &no_trace, trace_len, n, t, place);
+}
 
 /*
  * Replays a history. Number 0: *yes is 1 where some run of at most D transitions with exactly this history ends final,
  * else 0; an entry that the sheet does not know means no. Work is as for planner_plan.
  * Numbers 1 to 9 and 11.
  */
-uint32_t planner_replay(const uint8_t *sheet, size_t sheet_len, const uint16_t *history, size_t history_len,
-                        uint32_t *work, size_t work_len, uint32_t *yes, size_t *place);
+static inline uint32_t planner_replay(const uint8_t *sheet, size_t sheet_len, const uint16_t *history,
+                                      size_t history_len, uint32_t *work, size_t work_len, uint32_t *yes, size_t *place)
+{
+    const uint8_t no_sheet = 0;
+    const uint16_t no_history = 0;
+    uint32_t no_work = 0;
+    return planner_raw_replay(sheet ? sheet : &no_sheet, sheet_len, history ? history : &no_history, history_len,
+                              work ? work : &no_work, work_len, yes, place);
+}
 
 /*
  * Looks up one fluent, numbered from 0. Number 0: its domain has *size values, and it begins as *initial.
  * Numbers 1 to 9 and 12.
  */
-uint32_t planner_look_up(const uint8_t *sheet, size_t sheet_len, size_t fluent, size_t *size, size_t *initial,
-                         size_t *place);
+static inline uint32_t planner_look_up(const uint8_t *sheet, size_t sheet_len, size_t fluent, size_t *size,
+                                       size_t *initial, size_t *place)
+{
+    const uint8_t no_sheet = 0;
+    return planner_raw_look_up(sheet ? sheet : &no_sheet, sheet_len, fluent, size, initial, place);
+}
 
 /*
- * The notes are the first bytes of the sheet itself, from its start: returns how many. *number is what the other
- * functions return; beside a number other than 0 the notes are empty.
+ * Number 0: the first *length bytes of the sheet itself are its notes.
  * Numbers 1 to 9.
  */
-size_t planner_notes(const uint8_t *sheet, size_t sheet_len, uint32_t *number, size_t *place);
+static inline uint32_t planner_notes(const uint8_t *sheet, size_t sheet_len, size_t *length, size_t *place)
+{
+    const uint8_t no_sheet = 0;
+    return planner_raw_notes(sheet ? sheet : &no_sheet, sheet_len, length, place);
+}
 
 #ifdef __cplusplus
 }

@@ -1,19 +1,22 @@
-// The library for C and Rust, declared in include/planner.h: a slice passes as a pointer and a length, results through pointers to
-// numbers. Each function answers document 01's number, 0 where there is none.
+// The library for C and Rust, declared in include/planner.h: a slice passes as a pointer, which is never null, and a length, results
+// through pointers to numbers. Each function answers document 01's number, 0 where there is none. Raw, since a C program calls the
+// header's functions over these, which take a null pointer for an empty slice.
 ghost use mathlib.Core.Path.{_≡_};
 ghost use lib.ListN.{length};
 ghost use Rattle.sheet.specs.Check.{checkOf, numberOf, placeOf, wordsOf};
 ghost use Rattle.sheet.specs.Notes.{notesOf};
 ghost use Rattle.planner.specs.Answers.{answerOf, traceOf, planWork, replyOf, replayWork};
 ghost use Rattle.lookup.specs.LookUp.{lookOf, lookNumber, lookPlace, lookSize, lookInitial};
-ghost use Rattle.planner.specs.Numbers.{planNumber, planPlace, planMoves, planTransitions, replyNumber, replyPlace, replyYes};
+ghost use Rattle.planner.specs.Numbers.{planNumber, planPlace, planMoves, planTransitions, replyNumber, replyPlace, replyYes, sizesNumber, sizesPlace, sizesFluents, sizesBound};
+ghost use Rattle.planner.specs.Sizes.{sizesOf};
 use lookup::Looked;
 use planner::Planned;
 use planner::Replayed;
+use planner::Sized;
 use sheet::Checked;
 
 #[no_mangle]
-pub extern "C" fn planner_check(sheet: &[u8], words: &mut usize, place: &mut usize) -> u32
+pub extern "C" fn planner_raw_check(sheet: &[u8], words: &mut usize, place: &mut usize) -> u32
     ensures { λ r. ⌜ r ≡ numberOf (checkOf (now (sheet .entry))) ⌝ }
     ensures { λ _. ⌜ (now (words .exit) ≡ wordsOf (checkOf (now (sheet .entry)))) × (now (place .exit) ≡ placeOf (checkOf (now (sheet .entry)))) ⌝ }
 {
@@ -35,7 +38,40 @@ pub extern "C" fn planner_check(sheet: &[u8], words: &mut usize, place: &mut usi
 }
 
 #[no_mangle]
-pub extern "C" fn planner_plan(
+pub extern "C" fn planner_raw_sizes(
+    sheet: &[u8],
+    fluents: &mut usize,
+    bound: &mut usize,
+    place: &mut usize,
+) -> u32
+    ensures { λ r. ⌜ r ≡ sizesNumber (sizesOf (now (sheet .entry))) ⌝ }
+    ensures { λ _. ⌜ (now (fluents .exit) ≡ sizesFluents (sizesOf (now (sheet .entry)))) × (now (bound .exit) ≡ sizesBound (sizesOf (now (sheet .entry))))
+        × (now (place .exit) ≡ sizesPlace (sizesOf (now (sheet .entry)))) ⌝ }
+{
+    match planner::sizes(sheet) {
+        Sized::Known {
+            fluents: f,
+            bound: d,
+        } => {
+            *fluents = f;
+            *bound = d;
+            *place = 0;
+            0
+        }
+        Sized::Refused {
+            number: n,
+            place: p,
+        } => {
+            *fluents = 0;
+            *bound = 0;
+            *place = p;
+            n
+        }
+    }
+}
+
+#[no_mangle]
+pub extern "C" fn planner_raw_plan(
     sheet: &[u8],
     work: &mut [u32],
     trace: &mut [u16],
@@ -73,7 +109,7 @@ pub extern "C" fn planner_plan(
 }
 
 #[no_mangle]
-pub extern "C" fn planner_replay(
+pub extern "C" fn planner_raw_replay(
     sheet: &[u8],
     history: &[u16],
     work: &mut [u32],
@@ -108,7 +144,7 @@ pub extern "C" fn planner_replay(
 }
 
 #[no_mangle]
-pub extern "C" fn planner_look_up(
+pub extern "C" fn planner_raw_look_up(
     sheet: &[u8],
     fluent: usize,
     size: &mut usize,
@@ -143,10 +179,12 @@ pub extern "C" fn planner_look_up(
 
 // How many bytes of notes stand at the sheet's start.
 #[no_mangle]
-pub extern "C" fn planner_notes(sheet: &[u8], number: &mut u32, place: &mut usize) -> usize
-    ensures { λ r. ⌜ r ≡ length (notesOf (now (sheet .entry))) ⌝ }
-    ensures { λ _. ⌜ (now (number .exit) ≡ numberOf (checkOf (now (sheet .entry)))) × (now (place .exit) ≡ placeOf (checkOf (now (sheet .entry)))) ⌝ }
+pub extern "C" fn planner_raw_notes(sheet: &[u8], bytes: &mut usize, place: &mut usize) -> u32
+    ensures { λ r. ⌜ r ≡ numberOf (checkOf (now (sheet .entry))) ⌝ }
+    ensures { λ _. ⌜ (now (bytes .exit) ≡ length (notesOf (now (sheet .entry)))) × (now (place .exit) ≡ placeOf (checkOf (now (sheet .entry)))) ⌝ }
 {
-    let part = planner::notes(sheet, number, place);
-    part.len()
+    let mut number = 0u32;
+    let part = planner::notes(sheet, &mut number, place);
+    *bytes = part.len();
+    number
 }

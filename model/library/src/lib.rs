@@ -7,7 +7,8 @@
 //! /// The moves of a plan.
 //! fn moves(sheet: &[u8]) -> Result<Vec<u16>, library::Refusal> {
 //!     let [words] = library::check(sheet).into_result()?;
-//!     let (mut work, mut trace) = (vec![0; words], vec![0; 64]);
+//!     let [_, bound] = library::sizes(sheet).into_result()?;
+//!     let (mut work, mut trace) = (vec![0; words], vec![0; bound]);
 //!     let [n, _] = library::plan(sheet, &mut work, &mut trace).into_result()?;
 //!     trace.truncate(n);
 //!     Ok(trace)
@@ -80,8 +81,15 @@ impl<const N: usize> Answer<N> {
 
 mod c {
     unsafe extern "C" {
-        pub fn planner_check(sheet: *const u8, sheet_len: usize, words: *mut usize, place: *mut usize) -> u32;
-        pub fn planner_plan(
+        pub fn planner_raw_check(sheet: *const u8, sheet_len: usize, words: *mut usize, place: *mut usize) -> u32;
+        pub fn planner_raw_sizes(
+            sheet: *const u8,
+            sheet_len: usize,
+            fluents: *mut usize,
+            bound: *mut usize,
+            place: *mut usize,
+        ) -> u32;
+        pub fn planner_raw_plan(
             sheet: *const u8,
             sheet_len: usize,
             work: *mut u32,
@@ -92,7 +100,7 @@ mod c {
             t: *mut usize,
             place: *mut usize,
         ) -> u32;
-        pub fn planner_replay(
+        pub fn planner_raw_replay(
             sheet: *const u8,
             sheet_len: usize,
             history: *const u16,
@@ -102,7 +110,7 @@ mod c {
             yes: *mut u32,
             place: *mut usize,
         ) -> u32;
-        pub fn planner_look_up(
+        pub fn planner_raw_look_up(
             sheet: *const u8,
             sheet_len: usize,
             fluent: usize,
@@ -110,7 +118,7 @@ mod c {
             initial: *mut usize,
             place: *mut usize,
         ) -> u32;
-        pub fn planner_notes(sheet: *const u8, sheet_len: usize, number: *mut u32, place: *mut usize) -> usize;
+        pub fn planner_raw_notes(sheet: *const u8, sheet_len: usize, length: *mut usize, place: *mut usize) -> u32;
     }
 }
 
@@ -121,8 +129,16 @@ mod c {
 pub fn check(sheet: &[u8]) -> Answer<1> {
     let [mut words, mut place] = [UNWRITTEN; 2];
     // SAFETY: above.
-    let number = unsafe { c::planner_check(sheet.as_ptr(), sheet.len(), &mut words, &mut place) };
+    let number = unsafe { c::planner_raw_check(sheet.as_ptr(), sheet.len(), &mut words, &mut place) };
     Answer { number, place, results: [words] }
+}
+
+/// Results: the number of fluents, F, and the bound D, which is how many entries of trace planning requires.
+pub fn sizes(sheet: &[u8]) -> Answer<2> {
+    let [mut fluents, mut bound, mut place] = [UNWRITTEN; 3];
+    // SAFETY: above.
+    let number = unsafe { c::planner_raw_sizes(sheet.as_ptr(), sheet.len(), &mut fluents, &mut bound, &mut place) };
+    Answer { number, place, results: [fluents, bound] }
 }
 
 /// Results: n and t.
@@ -130,7 +146,7 @@ pub fn plan(sheet: &[u8], work: &mut [u32], trace: &mut [u16]) -> Answer<2> {
     let [mut n, mut t, mut place] = [UNWRITTEN; 3];
     // SAFETY: above.
     let number = unsafe {
-        c::planner_plan(
+        c::planner_raw_plan(
             sheet.as_ptr(),
             sheet.len(),
             work.as_mut_ptr(),
@@ -150,7 +166,7 @@ pub fn replay(sheet: &[u8], history: &[u16], work: &mut [u32]) -> Answer<1> {
     let (mut yes, mut place) = (UNWRITTEN as u32, UNWRITTEN);
     // SAFETY: above.
     let number = unsafe {
-        c::planner_replay(
+        c::planner_raw_replay(
             sheet.as_ptr(),
             sheet.len(),
             history.as_ptr(),
@@ -169,14 +185,14 @@ pub fn look_up(sheet: &[u8], fluent: usize) -> Answer<2> {
     let [mut size, mut initial, mut place] = [UNWRITTEN; 3];
     // SAFETY: above.
     let number =
-        unsafe { c::planner_look_up(sheet.as_ptr(), sheet.len(), fluent, &mut size, &mut initial, &mut place) };
+        unsafe { c::planner_raw_look_up(sheet.as_ptr(), sheet.len(), fluent, &mut size, &mut initial, &mut place) };
     Answer { number, place, results: [size, initial] }
 }
 
 /// Result: the number of bytes from the sheet's start that are its notes.
 pub fn notes(sheet: &[u8]) -> Answer<1> {
-    let (mut number, mut place) = (UNWRITTEN as u32, UNWRITTEN);
+    let [mut length, mut place] = [UNWRITTEN; 2];
     // SAFETY: above.
-    let length = unsafe { c::planner_notes(sheet.as_ptr(), sheet.len(), &mut number, &mut place) };
+    let number = unsafe { c::planner_raw_notes(sheet.as_ptr(), sheet.len(), &mut length, &mut place) };
     Answer { number, place, results: [length] }
 }

@@ -1,8 +1,9 @@
-//! Document 01's edges of the lent areas, on case 3: "272 words give 11, trace of 1 gives 10, both give 10". What a
-//! refusal says in words.
+//! Document 01's edges of the lent areas, on case 3: "272 words give 11, trace of 1 gives 10, both give 10". What is told
+//! of a sheet's sizes and notes. What a refusal says in words.
 
-use library::{check, plan, replay, Answer, Refusal};
+use library::{check, notes, plan, replay, sizes, Answer, Refusal};
 use sheets::cases::{three_sections, CASE_3};
+use sheets::write::Records;
 
 fn case_3() -> Vec<u8> {
     three_sections(&CASE_3, 2).bytes()
@@ -50,6 +51,17 @@ fn replay_needs_the_same_words() {
     let mut work = vec![1; 274];
     assert_eq!(replay(&case_3(), &[0, 1], &mut work), Answer { number: 0, place: 0, results: [1] });
     assert!(work[..273].iter().all(|&word| word == 0) && work[273] == 1);
+}
+
+#[test]
+fn sizes_and_notes_are_told_without_a_number() {
+    let sheet = Records { notes: b"noted".to_vec(), ..three_sections(&CASE_3, 7) }.bytes();
+    assert_eq!(sizes(&sheet), Answer { number: 0, place: 0, results: [2, 7] });
+    assert_eq!(notes(&sheet), Answer { number: 0, place: 0, results: [5] });
+    let mut faulty = sheet;
+    faulty[5 + 2] = 17;
+    assert_eq!(sizes(&faulty), Answer { number: 4, place: 1, results: [0, 0] });
+    assert_eq!(notes(&faulty), Answer { number: 4, place: 1, results: [0] });
 }
 
 #[test]

@@ -150,6 +150,12 @@ pub fn check(bytes: &[u8]) -> Result<Sheet, Refusal> {
     Ok(sheet)
 }
 
+/// F and D.
+pub fn sizes(bytes: &[u8]) -> Result<(usize, usize), Refusal> {
+    let sheet = check(bytes)?;
+    Ok((sheet.fluents.len(), sheet.bound))
+}
+
 /// The lookup of one fluent, with number 12 where it is not below F.
 pub fn look_up(bytes: &[u8], fluent: usize) -> Result<Fluent, Refusal> {
     let sheet = check(bytes)?;

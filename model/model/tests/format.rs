@@ -1,7 +1,7 @@
 //! "The sheet, read from its end" and numbers 1 to 9 and 12.
 
 use model::refusal::Refusal;
-use model::sheet::{check, look_up, Fluent, Formula, Program, Sheet};
+use model::sheet::{check, look_up, sizes, Fluent, Formula, Program, Sheet};
 use sheets::write::Records;
 use std::collections::BTreeSet;
 
@@ -285,6 +285,13 @@ fn notes_are_never_interpreted() {
     let noted = check(&bytes).expect("accepted");
     assert_eq!(bytes[noted.notes.clone()], notes[..]);
     assert_eq!(Sheet { notes: 0..0, ..noted }, plain);
+}
+
+#[test]
+fn sizes_of_a_sheet() {
+    let bytes = base().bytes();
+    assert_eq!(sizes(&bytes), Ok((3, 4)));
+    assert_eq!(sizes(&bytes[1..]), Err(Refusal::number(3)));
 }
 
 #[test]

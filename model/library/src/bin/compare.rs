@@ -154,6 +154,8 @@ impl Compare {
     fn reading(&mut self, given: &Given) -> Outcome {
         let bytes = given.bytes.read();
         same("check", answer(given.sheet().map(|sheet| [sheet.work()])), library::check(bytes))?;
+        let sizes = sheet::sizes(bytes).map(|(fluents, bound)| [fluents, bound]);
+        same("sizes", answer(sizes), library::sizes(bytes))?;
         same("notes", answer(given.sheet().map(|sheet| [sheet.notes.end])), library::notes(bytes))?;
         for fluent in (0..34).chain([255, 256, 65536, 1 << 32, usize::MAX]) {
             let found = sheet::look_up(bytes, fluent).map(|fluent| [fluent.size.into(), fluent.initial.into()]);

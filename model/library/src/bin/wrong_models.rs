@@ -12,7 +12,10 @@ use std::{env, fs, io};
 struct Edit(&'static str, &'static str, &'static str);
 
 #[rustfmt::skip]
-const EDITS: [Edit; 13] = [
+const EDITS: [Edit; 14] = [
+    Edit("sizes: D in the place of F",
+        "Ok((sheet.fluents.len(), sheet.bound))",
+        "Ok((sheet.bound, sheet.bound))"),
     Edit("effects: the last holding one counts",
         "effects.iter().find(",
         "effects.iter().rev().find("),

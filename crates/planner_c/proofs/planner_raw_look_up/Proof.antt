@@ -2,8 +2,8 @@
 use mathlib.Core.Path.{sym, _∙_, ap}
 use Rattle.lookup.specs.LookUp.{lookNumber, lookSize, lookInitial, lookPlace}
 use borrow.Author.Needs.{needs}
-use Rattle.planner_c.proofs.planner_look_up.Statement.{statement}
-use Rattle.planner_c.proofs.planner_look_up.Tie as tie
+use Rattle.planner_c.proofs.planner_raw_look_up.Statement.{statement}
+use Rattle.planner_c.proofs.planner_raw_look_up.Tie as tie
 
 look-up-requires : tie.Need-look-up-requires
 look-up-requires c κs = search needs
@@ -24,6 +24,6 @@ returns-2 c =
     let q = sym (c .before .before .before .look-up .ensures) ∙ c .before .n .given .1 in
     (sym (ap lookNumber q), (sym (ap lookSize q), sym (ap lookInitial q), sym (ap lookPlace q)))
 
-pub planner-look-up-spec : {M : Type 1} → statement M
-planner-look-up-spec =
+pub planner-raw-look-up-spec : {M : Type 1} → statement M
+planner-raw-look-up-spec =
     tie.close (tie.spec look-up-requires enum-known-m enum-known-n returns returns-2)

@@ -2,8 +2,8 @@
 use mathlib.Core.Path.{sym, _∙_, ap}
 use Rattle.planner.specs.Numbers.{replyNumber, replyYes, replyPlace}
 use borrow.Author.Needs.{needs}
-use Rattle.planner_c.proofs.planner_replay.Statement.{statement}
-use Rattle.planner_c.proofs.planner_replay.Tie as tie
+use Rattle.planner_c.proofs.planner_raw_replay.Statement.{statement}
+use Rattle.planner_c.proofs.planner_raw_replay.Tie as tie
 
 replay-requires : tie.Need-replay-requires
 replay-requires c κs = search needs
@@ -48,8 +48,8 @@ returns-3 c =
     let q = sym (at-replay .replay .ensures .0) ∙ c .before .n .given .1 in
     (sym (ap replyNumber q), ((sym (ap replyYes q), sym (ap replyPlace q)), at-replay .replay .ensures .1))
 
-pub planner-replay-spec : {M : Type 1} → statement M
-planner-replay-spec =
+pub planner-raw-replay-spec : {M : Type 1} → statement M
+planner-raw-replay-spec =
     tie.close
     (tie.spec
     replay-requires

@@ -2,8 +2,8 @@
 use mathlib.Core.Path.{sym, _∙_, ap}
 use Rattle.sheet.specs.Check.{numberOf, wordsOf, placeOf}
 use borrow.Author.Needs.{needs}
-use Rattle.planner_c.proofs.planner_check.Statement.{statement}
-use Rattle.planner_c.proofs.planner_check.Tie as tie
+use Rattle.planner_c.proofs.planner_raw_check.Statement.{statement}
+use Rattle.planner_c.proofs.planner_raw_check.Tie as tie
 
 check-requires : tie.Need-check-requires
 check-requires c κs = search needs
@@ -24,6 +24,6 @@ returns-2 c =
     let q = sym (c .before .before .before .check .ensures) ∙ c .before .n .given .1 in
     (sym (ap numberOf q), (sym (ap wordsOf q), sym (ap placeOf q)))
 
-pub planner-check-spec : {M : Type 1} → statement M
-planner-check-spec =
+pub planner-raw-check-spec : {M : Type 1} → statement M
+planner-raw-check-spec =
     tie.close (tie.spec check-requires enum-known-w enum-known-n returns returns-2)

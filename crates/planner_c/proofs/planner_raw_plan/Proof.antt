@@ -2,8 +2,8 @@
 use mathlib.Core.Path.{sym, _∙_, ap}
 use Rattle.planner.specs.Numbers.{planNumber, planMoves, planTransitions, planPlace}
 use borrow.Author.Needs.{needs}
-use Rattle.planner_c.proofs.planner_plan.Statement.{statement}
-use Rattle.planner_c.proofs.planner_plan.Tie as tie
+use Rattle.planner_c.proofs.planner_raw_plan.Statement.{statement}
+use Rattle.planner_c.proofs.planner_raw_plan.Tie as tie
 
 plan-requires : tie.Need-plan-requires
 plan-requires c κs = search needs
@@ -45,8 +45,8 @@ returns-2 c =
     let q = sym (at-plan .plan .ensures .0) ∙ c .before .m .given .1 in
     (sym (ap planNumber q), ((sym (ap planMoves q), sym (ap planTransitions q), sym (ap planPlace q)), (at-plan .plan .ensures .1 .0, at-plan .plan .ensures .1 .1)))
 
-pub planner-plan-spec : {M : Type 1} → statement M
-planner-plan-spec =
+pub planner-raw-plan-spec : {M : Type 1} → statement M
+planner-raw-plan-spec =
     tie.close
     (tie.spec
     plan-requires
