@@ -1,5 +1,5 @@
-//! Document 01's edges of the lent areas, on case 3: "272 words give 11, trace of 1 gives 10, both give 10". What is told
-//! of a sheet's sizes and notes. What a refusal says in words.
+//! Document 01's edges of the lent areas, on case 3: "272 words give 11, trace of 1 gives 10, both give 10". What is
+//! told of a sheet's sizes and notes. What a refusal says in words.
 
 use library::{check, notes, plan, replay, sizes, Answer, Refusal};
 use sheets::cases::{three_sections, CASE_3};
