@@ -3,6 +3,7 @@
 #![forbid(unsafe_code)]
 
 pub mod cases;
+pub mod deep;
 pub mod examples;
 pub mod random;
 pub mod runs;

@@ -1,0 +1,59 @@
+//! How much stack each call takes on sheets that take a search as deep as it goes: no more than the header allows.
+//! Every call is made by c/stack.c, in a process of its own.
+
+#![forbid(unsafe_code)]
+
+mod c;
+
+use library::{plan, replay, Answer};
+use sheets::deep::{deep, Deep};
+use std::path::Path;
+use std::process::ExitCode;
+
+const CALLS: [&str; 6] = ["check", "sizes", "notes", "look_up", "plan", "replay"];
+
+/// The bytes that a call takes, and the most that it may take.
+fn measured(program: &Path, call: &str, deep: &Deep) -> [usize; 2] {
+    let mut arguments = vec![call.to_string()];
+    arguments.extend(deep.history.iter().map(|entry| entry.to_string()));
+    let output = c::run(program, &arguments, &deep.sheet).expect("the program runs");
+    assert!(output.status.success(), "{call}, {}: {output:?}", deep.name);
+    let text = String::from_utf8(output.stdout).expect("it prints numbers");
+    let numbers: Vec<usize> = text.split_whitespace().map(|number| number.parse().expect("a number")).collect();
+    let [0, bytes, limit] = numbers[..] else { panic!("{call}, {}: {text}", deep.name) };
+    [bytes, limit]
+}
+
+/// That the search does make 64 transitions: the plan has as many, and its history is replayed.
+fn goes_down(deep: &Deep) {
+    let [words] = library::check(&deep.sheet).into_result().expect("the sheet is accepted");
+    let (mut work, mut trace) = (vec![0; words], vec![0; 64]);
+    let found = Answer { number: 0, place: 0, results: [64, 64] };
+    assert_eq!(plan(&deep.sheet, &mut work, &mut trace), found, "{}", deep.name);
+    assert_eq!(trace, deep.history, "{}", deep.name);
+    let yes = Answer { number: 0, place: 0, results: [1] };
+    assert_eq!(replay(&deep.sheet, &trace, &mut work), yes, "{}", deep.name);
+}
+
+fn main() -> ExitCode {
+    let program = c::compiled("model/library/tests/c/stack.c", &["-O2", "-pthread"]);
+    println!("bytes of stack that a call takes");
+    println!("{:30}{}", "", CALLS.map(|call| format!("{call:>9}")).concat());
+    let (mut most, mut allowed) = (0, 0);
+    for deep in deep() {
+        goes_down(&deep);
+        let mut row = format!("{:30}", deep.name);
+        for call in CALLS {
+            let [bytes, limit] = measured(&program, call, &deep);
+            (most, allowed) = (most.max(bytes), limit);
+            row += &format!("{bytes:9}");
+        }
+        println!("{row}");
+    }
+    println!("stack: {most} bytes at most, {allowed} allowed");
+    if most <= allowed {
+        ExitCode::SUCCESS
+    } else {
+        ExitCode::FAILURE
+    }
+}

@@ -1,0 +1,36 @@
+//! The deep sheets: that they are as deep as they say.
+
+use model::meaning::{Configuration, Prog};
+use model::planner::{plan, Plan};
+use model::sheet::check;
+use sheets::deep::deep;
+
+/// The most links on a path down.
+fn depth(program: &Prog) -> usize {
+    use Prog::*;
+    match program {
+        Nil | Act(_) | Start | Stop | Test(_) => 0,
+        Star(a) | While(_, a) | Iteration(a) | Interrupt(_, a) => 1 + depth(a),
+        Sequence(a, b) | Choice(a, b) | If(_, a, b) | Together(a, b) | Over(a, b) => 1 + depth(a).max(depth(b)),
+    }
+}
+
+#[test]
+fn the_plan_has_64_moves() {
+    for deep in deep() {
+        let sheet = check(&deep.sheet).expect("the sheet is accepted");
+        assert_eq!(plan(&sheet), Ok(Plan { history: deep.history, transitions: 64 }), "{}", deep.name);
+    }
+}
+
+#[test]
+fn all_but_the_first_are_as_deep_as_they_get() {
+    for deep in deep().into_iter().skip(1) {
+        let sheet = check(&deep.sheet).expect("the sheet is accepted");
+        let mut configuration = Configuration::first(&sheet);
+        for _ in 0..63 {
+            configuration = configuration.transitions(&sheet).swap_remove(0).to;
+        }
+        assert_eq!(depth(&configuration.program), 16 + 63, "{}", deep.name);
+    }
+}
