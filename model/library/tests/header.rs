@@ -10,12 +10,17 @@ use std::path::{Path, PathBuf};
 use std::process::Command;
 use std::sync::LazyLock;
 
+/// Calls every function with null pointers.
+const NULL: &str = "model/library/tests/c/null.c";
+
+/// Ahead of everything else, and with each of its functions called.
 #[test]
 fn is_c99_and_cpp11() {
     for (language, standard) in [("c", "-std=c99"), ("c++", "-std=c++11")] {
         let mut compiler = Command::new("cc");
         compiler.current_dir(repository()).args(["-x", language, standard]).args(WARNINGS).arg("-fsyntax-only");
-        assert!(compiler.arg("include/planner.h").status().expect("cc runs").success(), "{language}");
+        let status = compiler.args(["-Iinclude", "-include", "planner.h", NULL]).status();
+        assert!(status.expect("cc runs").success(), "{language}");
     }
 }
 
@@ -27,7 +32,7 @@ fn output(program: &Path, sheet: &[u8]) -> (String, Option<i32>) {
 
 #[test]
 fn empty_slices_may_be_null() {
-    for source in ["model/library/tests/c/header.c", "model/library/tests/c/null.c"] {
+    for source in ["model/library/tests/c/header.c", NULL] {
         assert_eq!(output(&compiled(source, &[]), &[]), (String::new(), Some(0)), "{source}");
     }
 }

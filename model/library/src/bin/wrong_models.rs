@@ -1,6 +1,7 @@
 //! That `compare` catches wrong models: breaks a copy of the model, one construct at a time, and counts the sheets until
-//! the comparison with the library ends in a disagreement, for three seeds each. The edits add runs, since the library
-//! searches sheets that have few runs by the broken model's count. The test sees that each edit still applies.
+//! the comparison with the library ends in a disagreement, for three seeds each. Edits of the meaning add runs, since
+//! the library searches sheets that have few runs by the broken model's count. The test sees that each edit still
+//! applies.
 
 #![forbid(unsafe_code)]
 
