@@ -35,9 +35,9 @@ pub fn answer(s: &[u8], start: usize, end: usize) {
             text(b" ok");
             number(words as u64);
         }
-        Checked::Refused { number: n, place } => {
-            number(n as u64);
-            number(place as u64);
+        Checked::Refused { why } => {
+            number(why.number as u64);
+            number(why.place as u64);
         }
     }
     text(b"\n");

@@ -9,7 +9,7 @@ use Rattle.height.specs.Height.{links, heightOver, heightAt, rise, interrupts}
 use Rattle.height.specs.Work.{levels}
 use Rattle.sheet.specs.Trailer.{trailerIn, limitsOk, distanceOk}
 use Rattle.sheet.specs.Layout.{layoutIn, layoutOf}
-use Rattle.sheet.specs.Check.{refusedAt, heightChecked, programsChecked, actionsChecked, effectsChecked, formulasChecked, fluentsChecked, trailerChecked, checkOf}
+use Rattle.sheet.specs.Check.{refusedAt, tablesChecked, heightChecked, trailerChecked, checkOf}
 use Rattle.golog.specs.World.{truthOf, holds, possible, given, each, changed, perform}
 use Rattle.golog.specs.Prog.{construct, programOf}
 use Rattle.golog.specs.Transitions.{final, transitions}
@@ -21,8 +21,7 @@ computing : Unit {0}
 unfolding
     flatten fluentAt formulaAt effectAt actionAt programAt lowestFrom lowest upTo entryOf
     fluentOk formulaOk effectOk actionOk programOk links heightOver heightAt rise interrupts levels
-    trailerIn limitsOk distanceOk layoutIn layoutOf refusedAt heightChecked programsChecked actionsChecked effectsChecked
-    formulasChecked fluentsChecked trailerChecked checkOf
+    trailerIn limitsOk distanceOk layoutIn layoutOf refusedAt tablesChecked heightChecked trailerChecked checkOf
     truthOf holds possible given each changed perform construct programOf final transitions
     verdictOf acceptsOf planOf replayOf
 computing = tt

@@ -8,15 +8,17 @@ use mathlib.Core.Bool.{Bool, true, false}
 use mathlib.Core.List.{List}
 use mathlib.Core.Logic.{_↔_, Iff·trans, Iff·not}
 use mathlib.Core.Option.{Option}
-use Prim.Native.Nat.{ℕ, _≤_}
+use Prim.Native.Nat.{ℕ, _≤_, _<_}
 use native.Mathlib.Omega.{arith}
 use lib.Dec.{T}
+use lib.ListN.{length}
 use Rattle.height.specs.Work.{workWords}
 use Rattle.runs.specs.Runs.{ExactlyOne}
 use Rattle.runs.specs.Search.{Verdict, plan, nothing, more, search, Lists, DecidesFinal, Means}
 use Rattle.runs.proofs.Searched.{search-means}
 use Rattle.runs.proofs.Verdicts.{plan-iff, nothing-iff, more-iff, exactly-one, says}
 use Rattle.runs.proofs.Raised.{none-of-any-length, plan-stays, nothing-stays}
+use Rattle.runs.proofs.Histories.{run-length}
 use Rattle.runs.proofs.Guided.{accepts-iff, plan-accepted}
 use Rattle.golog.specs.World.{World}
 use Rattle.golog.specs.Transitions.{Configuration}
@@ -26,7 +28,7 @@ use Rattle.sheet.specs.declared.Checked.{Checked}
 use Rattle.sheet.specs.declared.Checked.the-variants.{Accepted, Refused}
 use Rattle.sheet.proofs.Accepted.{trailed}
 use Rattle.demands.specs.Decoded.{worldOf, firstOf, boundOf}
-use Rattle.demands.specs.Planning.{Goes, Ends, transitionsIn, isFinalIn, RunEndsFinal, HistoryOfRun, NoPlanAtAll, NoPlanWithinBound, NoRunEndsFinal, RunOf}
+use Rattle.demands.specs.Planning.{Goes, Ends, transitionsIn, isFinalIn, RunEndsFinal, HistoryOfRun, NoPlanAtAll, NoPlanWithinBound, NoRunEndsFinal, RunOf, refusedBy}
 use Rattle.demands.specs.Planning.{verdictOf, acceptsOf, PlanAnswer, found, answer, plannedFrom, planOf, ReplayAnswer, replied, replayedFrom, replayOf}
 use Rattle.demands.specs.Compact.{levelsOf}
 use Rattle.demands.specs.Raised.{SameButBound, withBound}
@@ -49,14 +51,21 @@ found-plan (plan g u) h t = (λ e. cc, λ e. cc)
 found-plan nothing h t = (λ e. cc, λ e. cc)
 found-plan more h t = (λ e. cc, λ e. cc)
 
-answer-nothing : (v : Verdict) → (answer v ≡ PlanAnswer.refused 13 0) ↔ (v ≡ nothing)
+fourteen≢thirteen : ¬ (refusedBy 14 ≡ refusedBy 13)
+fourteen≢thirteen e = omega (arith, ap number e)
+  where
+    number : PlanAnswer → ℕ
+    number (found h t) = 0
+    number (PlanAnswer.refused why) = why .number
+
+answer-nothing : (v : Verdict) → (answer v ≡ refusedBy 13) ↔ (v ≡ nothing)
 answer-nothing (plan g u) = (λ e. cc, λ e. cc)
 answer-nothing nothing = (λ e. refl, λ e. refl)
-answer-nothing more = (λ e. cc, λ e. cc)
+answer-nothing more = (λ e. absurd (fourteen≢thirteen e), λ e. cc)
 
-answer-more : (v : Verdict) → (answer v ≡ PlanAnswer.refused 14 0) ↔ (v ≡ more)
+answer-more : (v : Verdict) → (answer v ≡ refusedBy 14) ↔ (v ≡ more)
 answer-more (plan g u) = (λ e. cc, λ e. cc)
-answer-more nothing = (λ e. cc, λ e. cc)
+answer-more nothing = (λ e. absurd (fourteen≢thirteen (sym e)), λ e. cc)
 answer-more more = (λ e. refl, λ e. refl)
 
 yes-true : (b : Bool) → (replied b ≡ replied true) ↔ T b
@@ -96,6 +105,10 @@ module _ (s : List ℕ) (accepted : Accepts s) where
   pub history-refused : (h : List ℕ) → (replayOf s h ≡ replied false) ↔ (¬ HistoryOfRun s h)
   history-refused h = Iff·trans (same-reply h (replied false)) (Iff·trans (no-false (acceptsOf s h)) (Iff·not (accepts-exactly h)))
 
+  -- no run of at most D transitions makes more moves than that
+  pub longer-no : (h : List ℕ) → boundOf s < length h → replayOf s h ≡ replied false
+  longer-no h l = history-refused h .1 (λ (n, d, few, run, end). omega (arith, few, run-length (Goes (worldOf s)) n (firstOf s) h d run))
+
   -- "every plan handed out is such a history"
   pub plan-accepted-history : (h : List ℕ) (t : ℕ) → planOf s ≡ found h t → replayOf s h ≡ replied true
   unfolding acceptsOf verdictOf
@@ -126,24 +139,24 @@ module _ (s : List ℕ) (accepted : Accepts s) where
       (plan-iff (Goes W) (Ends W) (search (transitionsIn W) (isFinalIn W)) (means W) (boundOf s) (firstOf s))
 
   -- "13 exactly when none does and no run has D + 1"
-  pub thirteen-exactly : (planOf s ≡ PlanAnswer.refused 13 0) ↔ NoPlanAtAll s
+  pub thirteen-exactly : (planOf s ≡ refusedBy 13) ↔ NoPlanAtAll s
   unfolding verdictOf
   thirteen-exactly =
       let W = worldOf s in
-      Iff·trans (same-answer (PlanAnswer.refused 13 0))
+      Iff·trans (same-answer (refusedBy 13))
       (Iff·trans (answer-nothing (verdictOf s))
       (nothing-iff (Goes W) (Ends W) (search (transitionsIn W) (isFinalIn W)) (means W) (boundOf s) (firstOf s)))
 
   -- 13 at every length: it is no matter of the bound
-  pub thirteen-none-ends : planOf s ≡ PlanAnswer.refused 13 0 → NoRunEndsFinal s
+  pub thirteen-none-ends : planOf s ≡ refusedBy 13 → NoRunEndsFinal s
   thirteen-none-ends e = let W = worldOf s in none-of-any-length (Goes W) (Ends W) (boundOf s) (firstOf s) (thirteen-exactly .0 e)
 
   -- "14 exactly when none does and some run has D + 1"
-  pub fourteen-exactly : (planOf s ≡ PlanAnswer.refused 14 0) ↔ NoPlanWithinBound s
+  pub fourteen-exactly : (planOf s ≡ refusedBy 14) ↔ NoPlanWithinBound s
   unfolding verdictOf
   fourteen-exactly =
       let W = worldOf s in
-      Iff·trans (same-answer (PlanAnswer.refused 14 0))
+      Iff·trans (same-answer (refusedBy 14))
       (Iff·trans (answer-more (verdictOf s))
       (more-iff (Goes W) (Ends W) (search (transitionsIn W) (isFinalIn W)) (means W) (boundOf s) (firstOf s)))
 
@@ -170,13 +183,13 @@ module _ (s s′ : List ℕ) (accepted : Accepts s) (accepted′ : Accepts s′)
       (found-plan (verdictOf s) h t .0 (same-answer s accepted (found h t) .0 e)) in
       (r .0, r .1, same-answer s′ accepted′ (found (r .0) (r .1)) .1 (found-plan (verdictOf s′) (r .0) (r .1) .1 (verdict-same ∙ r .2)))
 
-  pub thirteen-stays-thirteen : planOf s ≡ PlanAnswer.refused 13 0 → planOf s′ ≡ PlanAnswer.refused 13 0
+  pub thirteen-stays-thirteen : planOf s ≡ refusedBy 13 → planOf s′ ≡ refusedBy 13
   unfolding verdictOf
   thirteen-stays-thirteen e =
       let W = worldOf s in
       let r = nothing-stays (Goes W) (Ends W) (search (transitionsIn W) (isFinalIn W)) (means W) (boundOf s′) (boundOf s) (firstOf s) raised
-      (answer-nothing (verdictOf s) .0 (same-answer s accepted (PlanAnswer.refused 13 0) .0 e)) in
-      same-answer s′ accepted′ (PlanAnswer.refused 13 0) .1 (answer-nothing (verdictOf s′) .1 (verdict-same ∙ r))
+      (answer-nothing (verdictOf s) .0 (same-answer s accepted (refusedBy 13) .0 e)) in
+      same-answer s′ accepted′ (refusedBy 13) .1 (answer-nothing (verdictOf s′) .1 (verdict-same ∙ r))
 
 -- the same of one accepted sheet whose D is raised: "puts a higher D, at most 64, into the trailer"
 module _ (s : List ℕ) (accepted : Accepts s) (d : ℕ) where
@@ -199,5 +212,5 @@ module _ (s : List ℕ) (accepted : Accepts s) (d : ℕ) where
     raised-plan-stays = plan-stays-plan s (withBound s d) accepted (_, raised-accepted small) (raised-alone .0) higher
 
     -- "and 13 a 13"
-    pub raised-thirteen-stays : planOf s ≡ PlanAnswer.refused 13 0 → planOf (withBound s d) ≡ PlanAnswer.refused 13 0
+    pub raised-thirteen-stays : planOf s ≡ refusedBy 13 → planOf (withBound s d) ≡ refusedBy 13
     raised-thirteen-stays = thirteen-stays-thirteen s (withBound s d) accepted (_, raised-accepted small) (raised-alone .0) higher

@@ -36,11 +36,11 @@ module _ (s other : List ℕ) (first : FirstRecord s) where
 
   planned-same : (c : Checked) → plannedFrom (withNotes s other) c ≡ plannedFrom s c
   planned-same (Accepted w) = ap answer verdict-same
-  planned-same (Refused n p) = refl
+  planned-same (Refused why) = refl
 
   replayed-same : (h : List ℕ) (c : Checked) → replayedFrom (withNotes s other) h c ≡ replayedFrom s h c
   replayed-same h (Accepted w) = ap replied (accepts-same h)
-  replayed-same h (Refused n p) = refl
+  replayed-same h (Refused why) = refl
 
   -- the same plan, or the same number and place
   pub plan-same : planOf (withNotes s other) ≡ planOf s

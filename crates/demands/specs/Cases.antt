@@ -5,11 +5,11 @@ use mathlib.Core.Bool.{true, false}
 use mathlib.Core.List.{List, [], _∷_, _++_, flatten}
 use mathlib.Core.Path.{_≡_}
 use lib.ListN.{length, replicate}
-use Rattle.sheet.specs.Check.{checkOf}
-use Rattle.sheet.specs.declared.Checked.the-variants.{Accepted, Refused}
+use Rattle.sheet.specs.Check.{refused, checkOf}
+use Rattle.sheet.specs.declared.Checked.the-variants.{Accepted}
 use Rattle.golog.specs.World.{perform}
 use Rattle.demands.specs.Decoded.{worldOf, initialOf}
-use Rattle.demands.specs.Planning.{PlanAnswer, found, replied, planOf, replayOf}
+use Rattle.demands.specs.Planning.{refusedBy, found, replied, planOf, replayOf}
 
 -- each proposition of a list holds
 abbrev pub All : List (Type 0) → Type 0
@@ -142,20 +142,20 @@ rows =
     -- 1 "nil, D 0: found 0 0"
     (planOf (sheetOf 0 (nil ∷ [])) ≡ found [] 0)
     -- 2 "act 1, D 5: 13"
-    ∷ (planOf (sheetOf 5 (act 1 ∷ [])) ≡ PlanAnswer.refused 13 0)
+    ∷ (planOf (sheetOf 5 (act 1 ∷ [])) ≡ refusedBy 13)
     -- 3 "star(act 0); act 1, D 2: found 2 2, history 0 1"; "work 273"
     ∷ ((planOf case3 ≡ found (0 ∷ 1 ∷ []) 2) × (checkOf case3 ≡ Accepted 273))
     -- 4 "The same, D 1: 14"
-    ∷ (planOf (sheetOf 1 starThenAct) ≡ PlanAnswer.refused 14 0)
+    ∷ (planOf (sheetOf 1 starThenAct) ≡ refusedBy 14)
     -- 5 "test 3, D 0: 14; D 1: found 0 1"
-    ∷ ((planOf (sheetOf 0 (test 3 ∷ [])) ≡ PlanAnswer.refused 14 0) × (planOf (sheetOf 1 (test 3 ∷ [])) ≡ found [] 1))
+    ∷ ((planOf (sheetOf 0 (test 3 ∷ [])) ≡ refusedBy 14) × (planOf (sheetOf 1 (test 3 ∷ [])) ≡ found [] 1))
     -- 6 "not-holding test 1, D 0: 13"
-    ∷ (planOf (sheetOf 0 (test 1 ∷ [])) ≡ PlanAnswer.refused 13 0)
+    ∷ (planOf (sheetOf 0 (test 1 ∷ [])) ≡ refusedBy 13)
     -- 7 "act 0 over act 1, D 2: history 0 1 yes, 1 0 no; star(act 0) over act 1, D 2: history 0 1 no, plan 14"
     ∷ ((replayOf (sheetOf 2 (act 0 ∷ act 1 ∷ over 0 1 ∷ [])) (0 ∷ 1 ∷ []) ≡ replied true)
     × (replayOf (sheetOf 2 (act 0 ∷ act 1 ∷ over 0 1 ∷ [])) (1 ∷ 0 ∷ []) ≡ replied false)
     × (replayOf (sheetOf 2 starOverAct) (0 ∷ 1 ∷ []) ≡ replied false)
-    × (planOf (sheetOf 2 starOverAct) ≡ PlanAnswer.refused 14 0))
+    × (planOf (sheetOf 2 starOverAct) ≡ refusedBy 14))
     -- 8 "act 1 over act 0, D 2: found 2 2, 0 1"
     ∷ (planOf (sheetOf 2 (act 1 ∷ act 0 ∷ over 0 1 ∷ [])) ≡ found (0 ∷ 1 ∷ []) 2)
     -- 9 "interrupt (not formula 1), act 0, D 3: found 3 3, 65534 0 65535"
@@ -163,7 +163,7 @@ rows =
     -- 10 "interrupt true, nil, D 2: found 2 2, 65534 65535"
     ∷ (planOf (sheetOf 2 (nil ∷ interrupt 3 0 ∷ [])) ≡ found (65534 ∷ 65535 ∷ []) 2)
     -- 11 "interrupt true, act 0, D 4: 14"
-    ∷ (planOf (sheetOf 4 (act 0 ∷ interrupt 3 0 ∷ [])) ≡ PlanAnswer.refused 14 0)
+    ∷ (planOf (sheetOf 4 (act 0 ∷ interrupt 3 0 ∷ [])) ≡ refusedBy 14)
     -- 12 "while formula 0 do nil, D 0: found 0 0"
     ∷ (planOf (sheetOf 0 (nil ∷ while 0 0 ∷ [])) ≡ found [] 0)
     -- 13 "An action with two holding effects on fluent 0, values 1 then 2: gives 1"
@@ -228,9 +228,9 @@ stars (suc h) = stars h ++ (star h ∷ [])
 abbrev pub edges : List (Type 0)
 edges =
     -- "33 fluents 2, 32 pass"
-    ((checkOf (fluentsSheet 33) ≡ Refused 2 0) × (checkOf (fluentsSheet 32) ≡ Accepted 67))
+    ((checkOf (fluentsSheet 33) ≡ refused 2 0) × (checkOf (fluentsSheet 32) ≡ Accepted 67))
     -- "D 65 gives 2, 64 passes"
-    ∷ ((checkOf (sheetOf 65 (nil ∷ [])) ≡ Refused 2 0) × (checkOf (sheetOf 64 (nil ∷ [])) ≡ Accepted 4355))
+    ∷ ((checkOf (sheetOf 65 (nil ∷ [])) ≡ refused 2 0) × (checkOf (sheetOf 64 (nil ∷ [])) ≡ Accepted 4355))
     -- "height 17 gives 9, 16 passes"
-    ∷ ((checkOf (sheetOf 1 (stars 17)) ≡ Refused 9 0) × (checkOf (sheetOf 1 (stars 16)) ≡ Accepted 326))
+    ∷ ((checkOf (sheetOf 1 (stars 17)) ≡ refused 9 0) × (checkOf (sheetOf 1 (stars 16)) ≡ Accepted 326))
     ∷ []

@@ -10,7 +10,8 @@ use Rattle.golog.specs.Trans.{Trans, Final}
 use Rattle.runs.specs.Runs.{Run, LongRun, Legal, FinalRun, NoneAtAll, NoneWithin}
 use Rattle.runs.specs.Search.{Verdict, plan, nothing, more, search}
 use Rattle.runs.specs.Guide.{accepts}
-use Rattle.sheet.specs.Check.{checkOf}
+use Rattle.sheet.specs.Check.{refusalOf, checkOf}
+use Rattle.sheet.specs.declared.Refusal.{Refusal}
 use Rattle.sheet.specs.declared.Checked.{Checked}
 use Rattle.sheet.specs.declared.Checked.the-variants.{Accepted, Refused}
 use Rattle.demands.specs.Decoded.{worldOf, firstOf, boundOf}
@@ -64,17 +65,21 @@ acceptsOf s h = accepts (transitionsIn (worldOf s)) (isFinalIn (worldOf s)) (bou
 -- what planning answers, the lent areas being long enough: a history with its transitions, or a number and a place
 pub data PlanAnswer : Type 0 where
   found : (history : List ℕ) → (t : ℕ) → PlanAnswer
-  refused : (number place : ℕ) → PlanAnswer
+  refused : (why : Refusal) → PlanAnswer
+
+-- a number whose place is 0
+abbrev pub refusedBy : (number : ℕ) → PlanAnswer
+refusedBy number = refused (refusalOf number 0)
 
 -- 13, "none at all"; 14, "none within the bound"
 abbrev pub answer : Verdict → PlanAnswer
 answer (plan h t) = found h t
-answer nothing = refused 13 0
-answer more = refused 14 0
+answer nothing = refusedBy 13
+answer more = refusedBy 14
 
 abbrev pub plannedFrom : List ℕ → Checked → PlanAnswer
 plannedFrom s (Accepted w) = answer (verdictOf s)
-plannedFrom s (Refused n p) = refused n p
+plannedFrom s (Refused why) = refused why
 
 unfoldable pub planOf : List ℕ → PlanAnswer
 planOf s = plannedFrom s (checkOf s)
@@ -82,11 +87,11 @@ planOf s = plannedFrom s (checkOf s)
 -- what replay answers, work being long enough: yes or no, or a number and a place
 pub data ReplayAnswer : Type 0 where
   replied : (yes : Bool) → ReplayAnswer
-  refused : (number place : ℕ) → ReplayAnswer
+  refused : (why : Refusal) → ReplayAnswer
 
 abbrev pub replayedFrom : List ℕ → List ℕ → Checked → ReplayAnswer
 replayedFrom s h (Accepted w) = replied (acceptsOf s h)
-replayedFrom s h (Refused n p) = refused n p
+replayedFrom s h (Refused why) = refused why
 
 unfoldable pub replayOf : List ℕ → List ℕ → ReplayAnswer
 replayOf s h = replayedFrom s h (checkOf s)

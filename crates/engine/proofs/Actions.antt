@@ -23,7 +23,7 @@ use Rattle.demands.specs.Decoded.{recordsOf, interruptsIn}
 use Rattle.demands.specs.Compact.{extendedRecords}
 use Rattle.state.specs.Performed.{Performable, ConditionsBelow}
 use Rattle.engine.specs.Going.{IsAction}
-use Rattle.engine.proofs.Parts.{part-length, in-order}
+use Rattle.sheet.proofs.Parts.{part-length, in-order}
 
 module _ (s : List ℕ) (accepted : Accepts s) where
   act-known : (i : ℕ) (r : Program) → ProgramRow (layoutOf s .q) (layoutOf s .a) i r → r .kind ≡ 1 → IsAction s (r .a)

@@ -9,6 +9,7 @@ use mathlib.Core.Path.{_≡_, refl, sym, _∙_, ap, subst}
 use lib.Dec.{lit≤}
 use lib.ListN.{length}
 use Rattle.height.specs.Work.{levels, workWords}
+use Rattle.height.proofs.Levels.{at-most-two}
 use Rattle.sheet.specs.Layout.{layoutOf}
 use Rattle.sheet.specs.Check.{Accepts}
 use Rattle.sheet.proofs.Accepted.{ruled, laid}
@@ -27,8 +28,9 @@ use Rattle.leaves.specs.Tallies.{extendedSize}
 use Rattle.words.specs.Words.{At, Stands, Room}
 use Rattle.words.proofs.Standing.{at-unique}
 use Rattle.words.proofs.Moved.{at-kept}
-use Rattle.engine.specs.declared.Machine.{Machine}
-use Rattle.engine.specs.Frames.{Of, header, frameOf, frameAt, nodesAt, Frame, KeptFrames}
+use Rattle.sheet.specs.declared.Inspection.{Inspection}
+use Rattle.sheet.specs.Inspection.{Of}
+use Rattle.engine.specs.Frames.{header, frameOf, frameAt, nodesAt, Frame, KeptFrames}
 
 -- where frames begin
 module _ (s : List ℕ) where
@@ -41,7 +43,7 @@ module _ (s : List ℕ) where
   next-at d = add-mul d 1 (frameOf s) ∙ ap (λ (n : ℕ). d * frameOf s + n) (one-mul (frameOf s))
 
 -- where a frame begins, as it is computed
-pub frame-by : {s : List ℕ} {m : Machine} → Of s m → (d : ℕ) → d * m .frame ≡ frameAt s d
+pub frame-by : {s : List ℕ} {m : Inspection} → Of s m → (d : ℕ) → d * m .frame ≡ frameAt s d
 unfolding frameAt
 frame-by O d = ap (λ (n : ℕ). d * n) (O .frame-is)
 
@@ -116,10 +118,6 @@ module _ {s w : List ℕ} {left d : ℕ} {p : Prog} (F : Frame s (suc left) w d 
               within = record { number = omega (arith, number, r .within .number); height = omega (arith, lower, r .within .height) };
             };
       }
-
-pub at-most-two : (b : Bool) → cond b 2 0 ≤ 2
-at-most-two true = lit≤ tt
-at-most-two false = lit≤ tt
 
 levels-low : (s : List ℕ) → Accepts s → levelsOf s ≤ 18
 unfolding levels

@@ -29,9 +29,9 @@ use Rattle.leaves.proofs.Marking.{bounds-above, bounds-after, places-few}
 use Rattle.leaves.proofs.Skipping.{skips-settled}
 use Rattle.leaves.proofs.Entries.{finals-whole, counts-whole}
 use Rattle.engine.specs.Tables.{Only, flagPlaces, endableIn, truthsFrom, truthsAt, finalsAt, numberPlaces, skipsIn, countsFrom, countsAt, extendedSizeOf, Prepared, Judged, Surveyed}
-use Rattle.engine.specs.Frames.{Of}
-use Rattle.engine.specs.declared.Machine.{Machine}
-use Rattle.engine.proofs.Parts.{by-machine, of-machine}
+use Rattle.sheet.specs.Inspection.{Of}
+use Rattle.sheet.specs.declared.Inspection.{Inspection}
+use Rattle.sheet.proofs.Found.{by-found, of-found}
 use Rattle.engine.proofs.Seen.{sees}
 use Rattle.engine.proofs.Tables.{finals-long, counts-long, endable-kept, skips-kept, none-by}
 
@@ -42,12 +42,12 @@ runs s l b = extended b (programAt (programsIn s l)) (l .p)
 abbrev pub many : Layout → (interrupts : Bool) → ℕ
 many l b = extendedSize b (l .p)
 
-few-places : {s : List ℕ} {m : Machine} → Of s m → extendedSizeOf s ≤ 260
+few-places : {s : List ℕ} {m : Inspection} → Of s m → extendedSizeOf s ≤ 260
 few-places {s} O = places-few (interruptsIn s) _ (laid s (O .accepted) .p)
 
-module _ {s : List ℕ} {m : Machine} (O : Of s m) where
+module _ {s : List ℕ} {m : Inspection} (O : Of s m) where
   pub runs-lower : AllLower (runs s (m .layout) (m .interrupts))
-  runs-lower = by-machine O (λ (l : Layout) (b : Bool) (f : ℕ). AllLower (runs s l b)) (all-lower s (O .accepted))
+  runs-lower = by-found O (λ (l : Layout) (b : Bool). AllLower (runs s l b)) (all-lower s (O .accepted))
 
   -- what the formulas say in a state
   pub truths-told :
@@ -68,10 +68,10 @@ module _ {s : List ℕ} {m : Machine} (O : Of s m) where
       → Prepared s flags numbers
   prepared {flags} {numbers} marks n k e eb ec es =
       let low = all-lower s (O .accepted) in
-      let e₂ = e ∙ of-machine O (λ (l : Layout) (b : Bool) (f : ℕ). marks ≡ finalBoundsOf true (runs s l b) (many l b)) eb in
+      let e₂ = e ∙ of-found O (λ (l : Layout) (b : Bool). marks ≡ finalBoundsOf true (runs s l b) (many l b)) eb in
       let E : Endable (extendedRecords s) (extendedSizeOf s) (endableIn flags) = subst (Endable (extendedRecords s) (extendedSizeOf s)) (sym e₂) (bounds-above (extendedRecords s) low (extendedSizeOf s)) in
       let S = skips-settled (extendedRecords s) (extendedSizeOf s) (endableIn flags) low E in
-      let e₃ = of-machine O (λ (l : Layout) (b : Bool) (f : ℕ). skipsIn numbers ≡ skipsOf (runs s l b) (many l b) marks) es in
+      let e₃ = of-found O (λ (l : Layout) (b : Bool). skipsIn numbers ≡ skipsOf (runs s l b) (many l b) marks) es in
       let e₄ = e₃ ∙ ap (skipsOf (extendedRecords s) (extendedSizeOf s)) (sym e) in
       record {
         flags-long = n;
@@ -88,7 +88,7 @@ module _ {s : List ℕ} {m : Machine} (O : Of s m) where
         (finals : List Bool) (skips : List ℕ) → finals ≡ endableIn flags → skips ≡ skipsIn numbers
         → Skips (runs s (m .layout) (m .interrupts)) (many (m .layout) (m .interrupts)) finals skips
     skips-by finals skips e k =
-        by-machine O (λ (l : Layout) (b : Bool) (f : ℕ). Skips (runs s l b) (many l b) finals skips)
+        by-found O (λ (l : Layout) (b : Bool). Skips (runs s l b) (many l b) finals skips)
         (subst (λ (x : List Bool). Skips (extendedRecords s) (extendedSizeOf s) x skips) (sym e)
         (subst (Skips (extendedRecords s) (extendedSizeOf s) (endableIn flags)) (sym k) (P .skipping)))
 
@@ -113,8 +113,8 @@ module _ {s : List ℕ} {m : Machine} (O : Of s m) where
     judged st d flags′ n K H D A =
         let W = worldOf s in
         let Q = prepared-kept flags′ n (endable-kept (omega arith) K) in
-        let D₂ = of-machine O (λ (l : Layout) (b : Bool) (f : ℕ). FinalsKnown (runs s l b) (many l b) (truthsAt d flags′) (st .running) (finalsAt d flags′)) D in
-        let A₂ = of-machine O (λ (l : Layout) (b : Bool) (f : ℕ). (i : ℕ) → many l b ≤ i → getD (finalsAt d flags′) i true ≡ getD (endableIn flags) i true) A in
+        let D₂ = of-found O (λ (l : Layout) (b : Bool). FinalsKnown (runs s l b) (many l b) (truthsAt d flags′) (st .running) (finalsAt d flags′)) D in
+        let A₂ = of-found O (λ (l : Layout) (b : Bool). (i : ℕ) → many l b ≤ i → getD (finalsAt d flags′) i true ≡ getD (endableIn flags) i true) A in
         let F = D₂ W st _ (sees s (O .accepted) st (truthsAt d flags′) H) in
         record {
           prepared = Q;
@@ -128,7 +128,7 @@ module _ {s : List ℕ} {m : Machine} (O : Of s m) where
     seenBy l = possibleIn (actionsIn s l) (l .a) (truthsAt d flags)
 
     pub decides-by : FinalsKnown (runs s (m .layout) (m .interrupts)) (many (m .layout) (m .interrupts)) (truthsAt d flags) (st .running) (finalsAt d flags)
-    decides-by = by-machine O (λ (l : Layout) (b : Bool) (f : ℕ). FinalsKnown (runs s l b) (many l b) (truthsAt d flags) (st .running) (finalsAt d flags)) (J .decides)
+    decides-by = by-found O (λ (l : Layout) (b : Bool). FinalsKnown (runs s l b) (many l b) (truthsAt d flags) (st .running) (finalsAt d flags)) (J .decides)
 
     -- behind the records no transition is counted
     nil-counts : drop (extendedSizeOf s) (countsAt d numbers) ≡ replicate (260 - extendedSizeOf s) 0
@@ -154,7 +154,7 @@ module _ {s : List ℕ} {m : Machine} (O : Of s m) where
     surveyed numbers′ n K T =
         let W = worldOf s in
         let P = J .prepared in
-        let T₂ = of-machine O (λ (l : Layout) (b : Bool) (f : ℕ). Tallied (runs s l b) (many l b) (truthsAt d flags) (seenBy l) (st .running) (countsAt d numbers) (countsAt d numbers′)) T in
+        let T₂ = of-found O (λ (l : Layout) (b : Bool). Tallied (runs s l b) (many l b) (truthsAt d flags) (seenBy l) (st .running) (countsAt d numbers) (countsAt d numbers′)) T in
         let S = sees s (O .accepted) st (truthsAt d flags) (J .truths-are) in
         let c = T₂ W st S ∙ counts-whole W st (extendedRecords s) (extendedSizeOf s) (countsAt d numbers) nil-counts in
         let here : (i : ℕ) → extendedSizeOf s ≤ i → getD (countsAt d numbers′) i 0 ≡ 0 = λ i l. ap (λ (x : List ℕ). getD x i 0) c ∙ counts-after i l in

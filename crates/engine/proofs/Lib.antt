@@ -1,4 +1,3 @@
-pub mod Parts
 pub mod Codes
 pub mod Seen
 pub mod Actions

@@ -22,13 +22,14 @@ use Rattle.steps.specs.declared.Turn.{Turn}
 use Rattle.steps.specs.declared.Turn.the-variants as turn
 use Rattle.steps.proofs.Nth.{nth-member}
 use Rattle.engine.specs.Tables.{truthsAt, finalsAt, countsAt, Surveyed}
-use Rattle.engine.specs.Frames.{Of, header, frameOf, frameAt, nodesAt, KeptFrames}
+use Rattle.sheet.specs.Inspection.{Of}
+use Rattle.engine.specs.Frames.{header, frameOf, frameAt, nodesAt, KeptFrames}
 use Rattle.engine.specs.Going.{Known, IsAction, moveOf, MakesNext, CanGoOn}
-use Rattle.engine.specs.declared.Machine.{Machine}
+use Rattle.sheet.specs.declared.Inspection.{Inspection}
 use Rattle.engine.specs.Turns.{Turns}
 use Rattle.engine.specs.declared.Cursor.{Cursor}
 use Rattle.engine.specs.declared.Taken.{Taken}
-use Rattle.engine.proofs.Parts.{by-machine, of-machine}
+use Rattle.sheet.proofs.Found.{by-found, of-found}
 use Rattle.engine.proofs.Codes.{decoded}
 use Rattle.engine.proofs.Actions.{acts-known}
 use Rattle.engine.proofs.Moves.{rest-known}
@@ -43,14 +44,14 @@ madeAt k e st = record { made = true; entry = e; state = st; cursor = record { n
 abbrev viewBy : List ℕ → State → (truths : List Bool) (counts : List ℕ) → Layout → (interrupts : Bool) → Sources
 viewBy s st truths counts l interrupts = sourcesOf (programsIn s l) (l .p) interrupts truths (st .running) counts
 
-module _ {s : List ℕ} {m : Machine} {st : State} {d : ℕ} {flags : List Bool} {numbers : List ℕ} (O : Of s m) (S : Surveyed s st d flags numbers) where
+module _ {s : List ℕ} {m : Inspection} {st : State} {d : ℕ} {flags : List Bool} {numbers : List ℕ} (O : Of s m) (S : Surveyed s st d flags numbers) where
   -- by the names that a step is asked by: tables, where it reads and where it writes
   module _
       (truths finals : List Bool) (counts : List ℕ) (a b : ℕ) (et : truths ≡ truthsAt d flags) (ef : finals ≡ finalsAt d flags)
       (ec : counts ≡ countsAt d numbers) (ea : a ≡ nodesAt s d) (eb : b ≡ frameAt s d + frameOf s + header) where
     pub asked : {w : List ℕ} {k : Cursor} → CanGoOn s st w d k → CanStep (viewBy s st truths counts (m .layout) (m .interrupts)) finals w a b
     asked {w} g =
-        by-machine O (λ (l : Layout) (i : Bool) (f : ℕ). CanStep (viewBy s st truths counts l i) finals w a b)
+        by-found O (λ (l : Layout) (i : Bool). CanStep (viewBy s st truths counts l i) finals w a b)
         (rw (et, ef, ec, ea, eb)
         record {
           world = worldOf s;
@@ -67,7 +68,7 @@ module _ {s : List ℕ} {m : Machine} {st : State} {d : ℕ} {flags : List Bool}
         {w w′ : List ℕ} {t : Turn} (k : Cursor)
         → StepsRest (viewBy s st truths counts (m .layout) (m .interrupts)) finals a (k .next) b w w′ t → Turns s st d k w w′ t
     turned {w} {w′} {t} k A g =
-        let B = of-machine O (λ (l : Layout) (i : Bool) (f : ℕ). StepsRest (viewBy s st truths counts l i) finals a (k .next) b w w′ t) A in
+        let B = of-found O (λ (l : Layout) (i : Bool). StepsRest (viewBy s st truths counts l i) finals a (k .next) b w w′ t) A in
         (rw (et, ef, ec, ea, eb) at B) (worldOf s) st (S .tabled) (g .frame .rest) (g .frame .words-are)
 
 module _

@@ -5,16 +5,13 @@ use mathlib.Core.Path.{_≡_}
 use mathlib.Core.List.{List}
 use lib.ListN.{length}
 use Rattle.height.specs.Work.{frameWords}
-use Rattle.sheet.specs.Layout.{layoutOf}
-use Rattle.sheet.specs.Check.{Accepts}
 use Rattle.golog.specs.Prog.{Prog}
 use Rattle.remaining.specs.Rest.{Rest, unfolded, nodes, high}
-use Rattle.demands.specs.Decoded.{interruptsIn, boundOf}
+use Rattle.demands.specs.Decoded.{boundOf}
 use Rattle.demands.specs.Compact.{extendedRecords, levelsOf}
 use Rattle.words.specs.Words.{At, Kept}
 use Rattle.ends.specs.Ends.{InTable}
 use Rattle.engine.specs.Tables.{extendedSizeOf}
-use Rattle.engine.specs.declared.Machine.{Machine}
 
 -- the words before a frame's nodes (document 01's 64)
 abbrev pub header : ℕ
@@ -30,13 +27,6 @@ frameAt s d = d * frameOf s
 
 abbrev pub nodesAt : List ℕ → (d : ℕ) → ℕ
 nodesAt s d = frameAt s d + header
-
--- a machine is that of an accepted sheet
-pub record Of (s : List ℕ) (m : Machine) : Type 0 where
-  pub accepted : Accepts s
-  pub layout-is : m .layout ≡ layoutOf s
-  pub interrupts-are : m .interrupts ≡ interruptsIn s
-  pub frame-is : m .frame ≡ frameOf s
 
 -- frame d may grow by what `left` transitions add to g, and as many frames follow it
 pub record Roomy (s : List ℕ) (left : ℕ) (w : List ℕ) (d : ℕ) (g : Rest) : Type 0 where

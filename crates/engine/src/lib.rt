@@ -6,16 +6,14 @@ ghost use mathlib.Core.Bool.{true, false};
 ghost use mathlib.Core.List.{List};
 ghost use Prim.Native.Nat.{ℕ, _+_, _*_, _^_, _≤_, _<_};
 ghost use lib.ListN.{length, getD};
-ghost use Rattle.height.specs.Work.{workWords};
-ghost use Rattle.sheet.specs.Check.{Accepts};
 ghost use Rattle.sheet.specs.Layout.{layoutOf};
+ghost use Rattle.sheet.specs.Inspection.{Of};
 ghost use Rattle.records.specs.Records.{programAt};
 ghost use Rattle.golog.specs.World.{after};
 ghost use Rattle.golog.specs.Prog.{Prog};
 ghost use Rattle.golog.specs.Transitions.{Configuration, Transition, isNone};
 ghost use Rattle.golog.specs.declared.State.{State};
 ghost use Rattle.demands.specs.Decoded.{worldOf, startingWith, initialOf, firstOf, boundOf};
-ghost use Rattle.demands.specs.Compact.{levelsOf};
 ghost use Rattle.remaining.specs.Rest.{Rest, AllLower};
 ghost use Rattle.remaining.specs.Extended.{extended, top};
 ghost use Rattle.leaves.specs.Tallies.{extendedSize, finalBy};
@@ -24,13 +22,13 @@ ghost use Rattle.words.specs.Words.{At, Stands};
 ghost use Rattle.ends.specs.Ends.{Totalled};
 ghost use Rattle.state.specs.Truths.{AreTruths};
 ghost use Rattle.engine.specs.Tables.{window, Only, flagPlaces, endableIn, truthsFrom, finalsAt, numberPlaces, countsFrom, countsAt, Prepared, Judged, Surveyed, Filled};
-ghost use Rattle.engine.specs.Frames.{Of, Frame};
+ghost use Rattle.engine.specs.Frames.{Frame};
 ghost use Rattle.engine.specs.Going.{isFinal, Ahead, Tells, Known, IsAction, moveOf, CanGoOn, GoesOn};
 ghost use Rattle.engine.specs.Turns.{Turns};
 use ends::Totals;
 use golog::State;
 use records::Program;
-use sheet::Layout;
+use sheet::Inspection;
 use steps::Setting;
 use steps::Turn;
 
@@ -55,13 +53,6 @@ pub const FLAGS: usize = RECORDS + SETS * (FORMULAS + RECORDS);
 
 pub const NUMBERS: usize = SKIPS + SETS * RECORDS;
 
-// What stays the same for a sheet: where its tables lie, whether there are interrupts, and the words of a frame.
-pub struct Machine {
-    pub layout: Layout,
-    pub interrupts: bool,
-    pub frame: usize,
-}
-
 // How far the transitions of a configuration have been gone through: the number of the next one, and how many there are.
 pub struct Cursor {
     pub next: usize,
@@ -81,23 +72,6 @@ pub struct Taken {
     pub entry: u32,
     pub state: State,
     pub cursor: Cursor,
-}
-
-// The machine of an accepted sheet: the frames are as large as the work figure says.
-pub fn machine_of(s: &[u8], l: Layout) -> Machine
-    requires { ⌜ Accepts (now s) × (l ≡ layoutOf (now s)) ⌝ }
-    ensures { λ r. ⌜ Of (now (s .entry)) r ⌝ }
-{
-    let a = l.programs;
-    let b = l.end;
-    let t = &s[a..b];
-    let interrupts = height::has_interrupts(t, l.p);
-    let h = height::levels_from(height::height(t, l.p), interrupts);
-    Machine {
-        layout: l,
-        interrupts,
-        frame: height::frame_words(h, l.d),
-    }
 }
 
 fn byte(x: usize) -> u8
@@ -126,7 +100,7 @@ fn initial(fluents: &[u8], n: usize) -> State
 }
 
 // The sheet's initial state.
-pub fn initial_of(s: &[u8], m: Machine) -> State
+pub fn initial_of(s: &[u8], m: Inspection) -> State
     requires { ⌜ Of (now s) m ⌝ }
     ensures { λ r. ⌜ r ≡ initialOf (now (s .entry)) ⌝ }
 {
@@ -145,8 +119,8 @@ fn top_of(n: usize, interrupts: bool) -> usize
 }
 
 // Puts what runs at first, whatever the state, into frame 0 of a work area that is as long as required.
-pub fn put_first(work: &mut [u32], s: &[u8], m: Machine)
-    requires { ⌜ Of (now s) m × (length (now work) ≡ workWords (levelsOf (now s)) (boundOf (now s))) ⌝ }
+pub fn put_first(work: &mut [u32], s: &[u8], m: Inspection)
+    requires { ⌜ Of (now s) m × (length (now work) ≡ m .words) ⌝ }
     ensures { λ _. ⌜ Frame (now (s .entry)) (boundOf (now (s .entry))) (now (work .exit)) 0 (firstOf (now (s .entry)) .0) ⌝ }
     ensures { λ _. ⌜ length (now (work .exit)) ≡ length (now (work .entry)) ⌝ }
 {
@@ -178,7 +152,7 @@ fn copy_numbers(to: &mut [u32], from: &[u32])
 }
 
 // Fills in once what depends on the sheet alone: which records may be final in some state, and which depend on it.
-pub fn prepare(flags: &mut [bool], numbers: &mut [u32], s: &[u8], m: Machine)
+pub fn prepare(flags: &mut [bool], numbers: &mut [u32], s: &[u8], m: Inspection)
     requires { ⌜ Of (now s) m × (length (now flags) ≡ flagPlaces) × (length (now numbers) ≡ numberPlaces) × ((i : ℕ) → getD (now numbers) i 0 ≡ 0) ⌝ }
     ensures { λ _. ⌜ Prepared (now (s .entry)) (now (flags .exit)) (now (numbers .exit)) ⌝ }
 {
@@ -261,7 +235,7 @@ fn mark_finals(
 }
 
 // Fills in what the formulas say in a state, and which records are final, in the tables for depth d.
-fn judge(flags: &mut [bool], numbers: &[u32], s: &[u8], m: Machine, st: State, d: usize)
+fn judge(flags: &mut [bool], numbers: &[u32], s: &[u8], m: Inspection, st: State, d: usize)
     requires { ⌜ Of (now s) m × Prepared (now s) (now flags) (now numbers) ⌝ }
     ensures { λ _. ⌜ Judged (now (s .entry)) st d (now (flags .exit)) (now (numbers .entry)) ⌝ }
     ensures { λ _. ⌜ Only (truthsFrom d) 772 (now (flags .entry)) (now (flags .exit)) ⌝ }
@@ -292,7 +266,7 @@ pub fn is_final(
     numbers: &[u32],
     work: &[u32],
     s: &[u8],
-    m: Machine,
+    m: Inspection,
     st: State,
     d: usize,
 ) -> bool
@@ -309,7 +283,7 @@ pub fn is_final(
 }
 
 // Fills in how many transitions each record has in a state, in the tables for depth d.
-fn tally(numbers: &mut [u32], flags: &[bool], s: &[u8], m: Machine, st: State, d: usize)
+fn tally(numbers: &mut [u32], flags: &[bool], s: &[u8], m: Inspection, st: State, d: usize)
     requires { ⌜ Of (now s) m × Judged (now s) st d (now flags) (now numbers) ⌝ }
     ensures { λ _. ⌜ Surveyed (now (s .entry)) st d (now (flags .entry)) (now (numbers .exit)) ⌝ }
     ensures { λ _. ⌜ Only (countsFrom d) 260 (now (numbers .entry)) (now (numbers .exit)) ⌝ }
@@ -360,7 +334,7 @@ pub fn survey(
     numbers: &mut [u32],
     work: &[u32],
     s: &[u8],
-    m: Machine,
+    m: Inspection,
     st: State,
     d: usize,
 ) -> Findings
@@ -384,7 +358,7 @@ pub fn survey(
 }
 
 // The state after a transition, where `held` has what the formulas say in the state before it.
-fn state_after(s: &[u8], m: Machine, held: &[bool], entry: u32, st: State) -> State
+fn state_after(s: &[u8], m: Inspection, held: &[bool], entry: u32, st: State) -> State
     requires { ⌜ Of (now s) m × AreTruths (worldOf (now s)) st (layoutOf (now s) .q) (now held) ⌝ }
     requires { ⌜ Known (IsAction (now s)) (moveOf entry) ⌝ }
     ensures { λ r. ⌜ r ≡ after (worldOf (now (s .entry))) (moveOf entry) st ⌝ }
@@ -419,7 +393,7 @@ fn lay_next(
     flags: &[bool],
     numbers: &[u32],
     s: &[u8],
-    m: Machine,
+    m: Inspection,
     st: State,
     d: usize,
     k: Cursor,
@@ -472,7 +446,7 @@ pub fn next(
     flags: &[bool],
     numbers: &[u32],
     s: &[u8],
-    m: Machine,
+    m: Inspection,
     st: State,
     d: usize,
     k: Cursor,

@@ -5,7 +5,7 @@ ghost use Prim.Native.Nat.{ℕ, _+_, _-_, _*_, _≤_, _<_, max};
 ghost use lib.ListN.{length, getD};
 ghost use Rattle.records.specs.Records.{programAt};
 ghost use Rattle.height.specs.Height.{hasTwo, hasOne, heightOver, links, heightAt, heightOf, plain, interrupts};
-ghost use Rattle.height.specs.Work.{levels, frameWords, workWords};
+ghost use Rattle.height.specs.Work.{frameWords};
 use records::Program;
 
 fn larger(a: usize, b: usize) -> usize
@@ -105,10 +105,10 @@ pub fn frame_words(h: usize, d: usize) -> usize
     64 + 3 * (1 + 2 * h * d)
 }
 
-// The words that planning and replay require.
-pub fn work_words(h: usize, d: usize) -> usize
-    requires { ⌜ (h ≤ 18) × (d ≤ 64) ⌝ }
-    ensures { λ r. ⌜ (r ≡ workWords h d) × (r ≤ 453635) ⌝ }
+// The words that planning and replay require, from those of one frame.
+pub fn work_words(frame: usize, d: usize) -> usize
+    requires { ⌜ (frame ≤ 6979) × (d ≤ 64) ⌝ }
+    ensures { λ r. ⌜ (r ≡ (d + 1) * frame) × (r ≤ 453635) ⌝ }
 {
-    (d + 1) * frame_words(h, d)
+    (d + 1) * frame
 }

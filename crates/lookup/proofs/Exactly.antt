@@ -25,15 +25,15 @@ use Rattle.lookup.specs.declared.Looked.the-variants as looked
 -- the answer by its number and place alone
 abbrev seen : Looked → Checked
 seen (looked.Found m i) = checked.Accepted 0
-seen (looked.Refused n p) = checked.Refused n p
+seen (looked.Refused why) = checked.Refused why
 
 seen-number : (a : Looked) → lookNumber a ≡ numberOf (seen a)
 seen-number (looked.Found m i) = refl
-seen-number (looked.Refused n p) = refl
+seen-number (looked.Refused why) = refl
 
 seen-place : (a : Looked) → lookPlace a ≡ placeOf (seen a)
 seen-place (looked.Found m i) = refl
-seen-place (looked.Refused n p) = refl
+seen-place (looked.Refused why) = refl
 
 module _ (s : List ℕ) (x : ℕ) where
   beyond : (ltb x (layoutOf s .f) ≡ false) ↔ (layoutOf s .f ≤ x)
@@ -57,7 +57,7 @@ module _ (s : List ℕ) (x : ℕ) where
     where
       go : (c : Checked) → By (Cause s) c → Numbered c → By (LookCause s x) (seen (lookedUp s x c))
       go (checked.Accepted w) none n = wider (Cause s) Twelve none (seen (lookedUp s x (checked.Accepted w))) (own-answered w)
-      go (checked.Refused k p) by n = sooner (Cause s) Twelve 9 k p (n .1) (λ j q c. omega (arith, c .0)) by
+      go (checked.Refused r) by n = sooner (Cause s) Twelve 9 (r .number) (r .place) (n .1) (λ j q c. omega (arith, c .0)) by
 
   some : (k p : ℕ) → LookCause s x k p → 1 ≤ k
   some k p = ⊎-elim (λ c. caused s k p c .0) (λ c. omega (arith, c .0))

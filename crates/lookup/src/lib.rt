@@ -3,11 +3,12 @@ ghost use mathlib.Core.Path.{_≡_};
 ghost use Prim.Native.Nat.{_*_, _≤_};
 ghost use lib.ListN.{length};
 ghost use Rattle.lookup.specs.LookUp.{lookedIn};
+use sheet::Refusal;
 
-// What a look-up answers: a fluent's domain size and initial value, or a number and a place.
+// What a look-up answers: a fluent's domain size and initial value, or why there is none.
 pub enum Looked {
     Found { size: usize, initial: usize },
-    Refused { number: u32, place: usize },
+    Refused { why: Refusal },
 }
 
 // Fluent x of a table of n.
@@ -23,7 +24,9 @@ pub fn look_in(fluents: &[u8], n: usize, x: usize) -> Looked
         };
     }
     Looked::Refused {
-        number: 12,
-        place: 0,
+        why: Refusal {
+            number: 12,
+            place: 0,
+        },
     }
 }

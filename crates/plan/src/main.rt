@@ -45,7 +45,7 @@ fn report(sheet: &[u8]) {
             line(b"found", n, t);
             entries(&trace, n);
         }
-        Planned::Refused { number: m, place } => line(b"refused", m as usize, place),
+        Planned::Refused { why } => line(b"refused", why.number as usize, why.place),
     }
 }
 

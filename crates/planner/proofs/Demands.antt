@@ -13,7 +13,8 @@ use lib.ListN.{length, take, drop, replicate}
 use lib.Seq.{take-at, drop-at}
 use Rattle.runs.specs.Search.{Verdict, plan, nothing, more}
 use Rattle.height.specs.Work.{workWords}
-use Rattle.sheet.specs.Check.{checkOf}
+use Rattle.sheet.specs.Check.{refusalOf, checkOf}
+use Rattle.sheet.specs.declared.Refusal.{Refusal}
 use Rattle.sheet.specs.Notes.{FirstRecord, withNotes}
 use Rattle.sheet.proofs.OtherNotes.{check-same, tables-same}
 use Rattle.sheet.specs.declared.Checked.{Checked}
@@ -41,15 +42,15 @@ use Rattle.planner.specs.declared.Sized.the-variants as sized
 -- Demand 1: "turns away what it can't use by a number; what it returns and leaves in each lent slice is written down"
 
 -- a sheet with a cause of 1 to 9: that number and place, all else untouched, whatever was lent
-module _ (s : List ℕ) (number place : ℕ) (cause : checkOf s ≡ checked.Refused number place) where
-  sheet-stage : (work trace : ℕ) → planStage s work trace ≡ refused number place
+module _ (s : List ℕ) (why : Refusal) (cause : checkOf s ≡ checked.Refused why) where
+  sheet-stage : (work trace : ℕ) → planStage s work trace ≡ refused why
   sheet-stage work trace = ap (planChecked s work trace) cause
 
-  pub sheet-refused : (work trace : ℕ) → answerOf s work trace ≡ planned.Refused number place
+  pub sheet-refused : (work trace : ℕ) → answerOf s work trace ≡ planned.Refused why
   unfolding answerOf
   sheet-refused work trace = ap (planAt s) (sheet-stage work trace)
 
-  pub sheet-refused-reply : (h : List ℕ) (work : ℕ) → replyOf s h work ≡ replayed.Refused number place
+  pub sheet-refused-reply : (h : List ℕ) (work : ℕ) → replyOf s h work ≡ replayed.Refused why
   unfolding replyOf
   sheet-refused-reply h work = ap (λ (c : Stage). replayAt s h c) (ap (replayChecked work) cause)
 
@@ -70,31 +71,31 @@ module _ (s : List ℕ) (w : ℕ) (accepted : checkOf s ≡ checked.Accepted w) 
 
   -- 10, where the trace is shorter than D
   module _ (work trace : List ℕ) (short : length trace < boundOf s) where
-    stage-ten : planStage s (length work) (length trace) ≡ refused 10 0
+    stage-ten : planStage s (length work) (length trace) ≡ refused (refusalOf 10 0)
     stage-ten = ap (planChecked s (length work) (length trace)) accepted ∙ simp (lt-ltb (length trace) (boundOf s) short)
 
-    pub ten : (answerOf s (length work) (length trace) ≡ planned.Refused 10 0) × (traceOf s (length work) trace ≡ trace) × (planWork s work (length trace) ≡ work)
+    pub ten : (answerOf s (length work) (length trace) ≡ planned.Refused (refusalOf 10 0)) × (traceOf s (length work) trace ≡ trace) × (planWork s work (length trace) ≡ work)
     unfolding answerOf traceOf planWork
     ten = (ap (planAt s) stage-ten, ap (λ (c : Stage). traceAt s c trace) stage-ten, ap (λ (c : Stage). workAt c work) stage-ten)
 
   -- 11, where the work area is shorter than required
   module _ (work : List ℕ) (short : length work < w) where
-    stage-eleven : replayStage s (length work) ≡ refused 11 0
+    stage-eleven : replayStage s (length work) ≡ refused (refusalOf 11 0)
     stage-eleven = ap (replayChecked (length work)) accepted ∙ simp (lt-ltb (length work) w short)
 
-    plan-stage-eleven : (trace : List ℕ) → boundOf s ≤ length trace → planStage s (length work) (length trace) ≡ refused 11 0
+    plan-stage-eleven : (trace : List ℕ) → boundOf s ≤ length trace → planStage s (length work) (length trace) ≡ refused (refusalOf 11 0)
     plan-stage-eleven trace long =
         ap (planChecked s (length work) (length trace)) accepted
         ∙ simp (le-ltb (length trace) (boundOf s) long, lt-ltb (length work) w short)
 
-    pub eleven : (trace : List ℕ) → boundOf s ≤ length trace → (answerOf s (length work) (length trace) ≡ planned.Refused 11 0) × (traceOf s (length work) trace ≡ trace) ×
+    pub eleven : (trace : List ℕ) → boundOf s ≤ length trace → (answerOf s (length work) (length trace) ≡ planned.Refused (refusalOf 11 0)) × (traceOf s (length work) trace ≡ trace) ×
         (planWork s work (length trace) ≡ work)
     unfolding answerOf traceOf planWork
     eleven trace long =
         let e = plan-stage-eleven trace long in
         (ap (planAt s) e, ap (λ (c : Stage). traceAt s c trace) e, ap (λ (c : Stage). workAt c work) e)
 
-    pub eleven-reply : (h : List ℕ) → (replyOf s h (length work) ≡ replayed.Refused 11 0) × (replayWork s work ≡ work)
+    pub eleven-reply : (h : List ℕ) → (replyOf s h (length work) ≡ replayed.Refused (refusalOf 11 0)) × (replayWork s work ≡ work)
     unfolding replyOf replayWork
     eleven-reply h = (ap (λ (c : Stage). replayAt s h c) stage-eleven, ap (λ (c : Stage). workAt c work) stage-eleven)
 
@@ -175,10 +176,10 @@ module _ (s : List ℕ) (w : ℕ) (accepted : checkOf s ≡ checked.Accepted w) 
       none-iff nothing = (λ e. absurd (omega arith), λ (h, t, e). cc)
       none-iff more = (λ e. absurd (omega arith), λ (h, t, e). cc)
 
-      some-iff : (k : ℕ) → 1 ≤ k → (v : Verdict) → (planNumber (answerAs (answer v)) ≡ k) ↔ (answer v ≡ meant.PlanAnswer.refused k 0)
-      some-iff k l (plan h t) = (λ e. absurd (omega arith), λ e. cc)
-      some-iff k l nothing = (λ e. ap (λ (n : ℕ). meant.PlanAnswer.refused n 0) e, λ e. cc)
-      some-iff k l more = (λ e. ap (λ (n : ℕ). meant.PlanAnswer.refused n 0) e, λ e. cc)
+      some-iff : (k : ℕ) → 1 ≤ k → (v : Verdict) → (planNumber (answerAs (answer v)) ≡ k) ↔ (answer v ≡ meant.refusedBy k)
+      some-iff k l (plan h t) = (λ e. absurd (omega arith), ap (λ (a : meant.PlanAnswer). planNumber (answerAs a)))
+      some-iff k l nothing = (ap meant.refusedBy, ap (λ (a : meant.PlanAnswer). planNumber (answerAs a)))
+      some-iff k l more = (ap meant.refusedBy, ap (λ (a : meant.PlanAnswer). planNumber (answerAs a)))
 
       verdict-is : answerOf s (length work) (length trace) ≡ answerAs (answer (verdictOf s))
       verdict-is = answer-is ∙ ap answerAs (plan-is s (w, accepted))
@@ -191,7 +192,7 @@ module _ (s : List ℕ) (w : ℕ) (accepted : checkOf s ≡ checked.Accepted w) 
             λ (h, t, f). e ∙ none-iff (verdictOf s) .1 (h, t, sym q ∙ f),
           )
 
-      number-iff : (k : ℕ) → 1 ≤ k → (planNumber (answerOf s (length work) (length trace)) ≡ k) ↔ (planOf s ≡ meant.PlanAnswer.refused k 0)
+      number-iff : (k : ℕ) → 1 ≤ k → (planNumber (answerOf s (length work) (length trace)) ≡ k) ↔ (planOf s ≡ meant.refusedBy k)
       number-iff k l =
           let e = ap planNumber verdict-is in
           let q = plan-is s (w, accepted) in
@@ -276,15 +277,15 @@ module _ (s other : List ℕ) (first : FirstRecord s) where
   stage-same work trace = ap (planChecked (withNotes s other) work trace) (check-same s other first) ∙ go (checkOf s)
     where
       go : (c : Checked) → planChecked (withNotes s other) work trace c ≡ planChecked s work trace c
-      go (checked.Accepted w) = ap (λ (b : ℕ). cond (ltb trace b) (refused 10 0) (withWork work w)) (bound-same s other first)
-      go (checked.Refused n p) = refl
+      go (checked.Accepted w) = ap (λ (b : ℕ). cond (ltb trace b) (refused (refusalOf 10 0)) (withWork work w)) (bound-same s other first)
+      go (checked.Refused why) = refl
 
   pub answer-same : (work trace : ℕ) → answerOf (withNotes s other) work trace ≡ answerOf s work trace
   unfolding answerOf
   answer-same work trace = ap (planAt (withNotes s other)) (stage-same work trace) ∙ go (planStage s work trace)
     where
       go : (c : Stage) → planAt (withNotes s other) c ≡ planAt s c
-      go (refused n p) = refl
+      go (refused why) = refl
       go (searching w) = ap answerAs (plan-same s other first)
 
   pub trace-same : (work : ℕ) (trace : List ℕ) → traceOf (withNotes s other) work trace ≡ traceOf s work trace
@@ -292,7 +293,7 @@ module _ (s other : List ℕ) (first : FirstRecord s) where
   trace-same work trace = ap (λ (c : Stage). traceAt (withNotes s other) c trace) (stage-same work (length trace)) ∙ go (planStage s work (length trace))
     where
       go : (c : Stage) → traceAt (withNotes s other) c trace ≡ traceAt s c trace
-      go (refused n p) = refl
+      go (refused why) = refl
       go (searching w) = ap (λ (a : meant.PlanAnswer). traced a trace) (plan-same s other first)
 
   pub reply-same : (h : List ℕ) (work : ℕ) → replyOf (withNotes s other) h work ≡ replyOf s h work
@@ -300,7 +301,7 @@ module _ (s other : List ℕ) (first : FirstRecord s) where
   reply-same h work = ap (λ (c : Checked). replayAt (withNotes s other) h (replayChecked work c)) (check-same s other first) ∙ go (replayStage s work)
     where
       go : (c : Stage) → replayAt (withNotes s other) h c ≡ replayAt s h c
-      go (refused n p) = refl
+      go (refused why) = refl
       go (searching w) = ap reply (replay-same s other first h)
 
   pub work-same : (work : List ℕ) (trace : ℕ) → (planWork (withNotes s other) work trace ≡ planWork s work trace) × (replayWork (withNotes s other) work ≡ replayWork s work)
@@ -316,4 +317,4 @@ module _ (s other : List ℕ) (first : FirstRecord s) where
     where
       go : (c : Checked) → sizedAs (withNotes s other) c ≡ sizedAs s c
       go (checked.Accepted w) = λ i. sized.Known (tables-same s other first .f i) (bound-same s other first i)
-      go (checked.Refused n p) = refl
+      go (checked.Refused why) = refl

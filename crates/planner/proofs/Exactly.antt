@@ -9,7 +9,7 @@ use native.Mathlib.Omega.{arith}
 use borrow.Author.Tests.{ltb-true, lt-ltb}
 use lib.Dec.{ltb}
 use Rattle.runs.specs.Search.{Verdict, plan, nothing, more}
-use Rattle.sheet.specs.Check.{checkOf, numberOf, placeOf, Accepts}
+use Rattle.sheet.specs.Check.{refusalOf, checkOf, numberOf, placeOf, Accepts}
 use Rattle.sheet.specs.Causes.{Cause, First}
 use Rattle.sheet.proofs.Rising.{By, Told, unplaced, then, last, wider, sooner}
 use Rattle.sheet.proofs.Exactly.{answered-by}
@@ -34,30 +34,30 @@ use Rattle.planner.specs.declared.Replayed.the-variants as replayed
 -- an answer by its number and place alone
 abbrev seen : Planned → Checked
 seen (planned.Found n t) = checked.Accepted 0
-seen (planned.Refused n p) = checked.Refused n p
+seen (planned.Refused why) = checked.Refused why
 
 seen-number : (a : Planned) → planNumber a ≡ numberOf (seen a)
 seen-number (planned.Found n t) = refl
-seen-number (planned.Refused n p) = refl
+seen-number (planned.Refused why) = refl
 
 seen-place : (a : Planned) → planPlace a ≡ placeOf (seen a)
 seen-place (planned.Found n t) = refl
-seen-place (planned.Refused n p) = refl
+seen-place (planned.Refused why) = refl
 
 abbrev heard : Replayed → Checked
 heard replayed.Yes = checked.Accepted 0
 heard replayed.No = checked.Accepted 0
-heard (replayed.Refused n p) = checked.Refused n p
+heard (replayed.Refused why) = checked.Refused why
 
 heard-number : (a : Replayed) → replyNumber a ≡ numberOf (heard a)
 heard-number replayed.Yes = refl
 heard-number replayed.No = refl
-heard-number (replayed.Refused n p) = refl
+heard-number (replayed.Refused why) = refl
 
 heard-place : (a : Replayed) → replyPlace a ≡ placeOf (heard a)
 heard-place replayed.Yes = refl
 heard-place replayed.No = refl
-heard-place (replayed.Refused n p) = refl
+heard-place (replayed.Refused why) = refl
 
 -- a test between two stages
 at-test : {A : Type 0} (f : Stage → A) (b : Bool) (x y : Stage) → cond b (f x) (f y) ≡ f (cond b x y)
@@ -79,8 +79,8 @@ module _ (s : List ℕ) (accepted : Accepts s) where
   planned-by : (v : Verdict) → verdictOf s ≡ v → By (Ending s) (seen (answerAs (answer v)))
   planned-by (plan h t) e = λ k p. ⊎-elim (λ (a, b, c). no 13 (thirteen-exactly s accepted .1 c)) (λ (a, b, c). no 14 (fourteen-exactly s accepted .1 c))
     where
-      no : (n : ℕ) → planOf s ≡ meant.PlanAnswer.refused n 0 → ⊥
-      no n q = let z : _≡_ {A = ℕ} 0 1 = let y : meant.found h t ≡ meant.PlanAnswer.refused n 0 = sym (plan-is s accepted ∙ ap answer e) ∙ q in cc in omega arith
+      no : (n : ℕ) → planOf s ≡ meant.refusedBy n → ⊥
+      no n q = let z : _≡_ {A = ℕ} 0 1 = let y : meant.found h t ≡ meant.refusedBy n = sym (plan-is s accepted ∙ ap answer e) ∙ q in cc in omega arith
   planned-by nothing e = (
     inl (refl, refl, thirteen-exactly s accepted .0 (plan-is s accepted ∙ ap answer e)),
     λ j q l. ⊎-elim (λ c. omega (arith, c .0)) (λ c. omega (arith, c .0)),
@@ -92,8 +92,8 @@ module _ (s : List ℕ) (accepted : Accepts s) where
     λ q. ⊎-elim (λ c. c .1) (λ c. c .1),
   )
     where
-      no : planOf s ≡ meant.PlanAnswer.refused 13 0 → ⊥
-      no q = let z : _≡_ {A = ℕ} 0 1 = let y : answer more ≡ meant.PlanAnswer.refused 13 0 = sym (plan-is s accepted ∙ ap answer e) ∙ q in cc in omega arith
+      no : planOf s ≡ meant.refusedBy 13 → ⊥
+      no q = omega (arith, ap (λ (a : meant.PlanAnswer). planNumber (answerAs a)) (sym (plan-is s accepted ∙ ap answer e) ∙ q))
 
   searched-by : By (Ending s) (seen (answerAs (planOf s)))
   searched-by = subst (λ (a : meant.PlanAnswer). By (Ending s) (seen (answerAs a))) (sym (plan-is s accepted)) (planned-by (verdictOf s) refl)
@@ -116,8 +116,8 @@ module _ (s : List ℕ) (work trace : ℕ) where
     lent : Told 9 (Unit {0}) Lent (seen (planAt s (planChecked s work trace (checked.Accepted w))))
     lent =
         subst (Told 9 (Unit {0}) Lent)
-        (ap (cond (ltb trace (boundOf s)) (checked.Refused 10 0)) (at-test (λ (c : Stage). seen (planAt s c)) (ltb work w) (refused 11 0) (searching w))
-        ∙ at-test (λ (c : Stage). seen (planAt s c)) (ltb trace (boundOf s)) (refused 10 0) (withWork work w))
+        (ap (cond (ltb trace (boundOf s)) (checked.Refused (refusalOf 10 0))) (at-test (λ (c : Stage). seen (planAt s c)) (ltb work w) (refused (refusalOf 11 0)) (searching w))
+        ∙ at-test (λ (c : Stage). seen (planAt s c)) (ltb trace (boundOf s)) (refused (refusalOf 10 0)) (withWork work w))
         (then (unplaced 10 _ (λ g. (ltb-true trace (boundOf s), lt-ltb trace (boundOf s)))) 9 (omega arith) (λ g e. g)
         (then (unplaced 11 _ (λ g. short-work s w work (figure-required s w accepted))) 10 (omega arith) (λ g e. g) searched))
 
@@ -130,7 +130,7 @@ module _ (s : List ℕ) (work trace : ℕ) where
     where
       go : (c : Checked) → checkOf s ≡ c → By (Cause s) c → Numbered c → By (PlanCause s work trace) (seen (planAt s (planChecked s work trace c)))
       go (checked.Accepted w) e none n = wider (Cause s) Lent none (seen (planAt s (planChecked s work trace (checked.Accepted w)))) (lent w e .by tt)
-      go (checked.Refused k p) e by n = sooner (Cause s) Lent 9 k p (n .1) lent-high by
+      go (checked.Refused r) e by n = sooner (Cause s) Lent 9 (r .number) (r .place) (n .1) lent-high by
 
   plan-some : (k p : ℕ) → PlanCause s work trace k p → 1 ≤ k
   plan-some k p = ⊎-elim (λ c. caused s k p c .0) (λ c. let l = lent-high k p c in omega arith)
@@ -161,8 +161,8 @@ module _ (s h : List ℕ) (work : ℕ) where
     worked : By (Eleven s work) (heard (replayAt s h (replayChecked work (checked.Accepted w))))
     worked =
         subst (By (Eleven s work))
-        (ap (cond (ltb work w) (checked.Refused 11 0)) (sym replied-none)
-        ∙ at-test (λ (c : Stage). heard (replayAt s h c)) (ltb work w) (refused 11 0) (searching w))
+        (ap (cond (ltb work w) (checked.Refused (refusalOf 11 0))) (sym replied-none)
+        ∙ at-test (λ (c : Stage). heard (replayAt s h c)) (ltb work w) (refused (refusalOf 11 0)) (searching w))
         (last (unplaced {G = Unit {0}} 11 _ (λ g. short-work s w work (figure-required s w accepted))) 9 (omega arith) 0 .by tt)
 
   replay-answered : By (ReplayCause s work) (heard (replyOf s h work))
@@ -171,7 +171,7 @@ module _ (s h : List ℕ) (work : ℕ) where
     where
       go : (c : Checked) → checkOf s ≡ c → By (Cause s) c → Numbered c → By (ReplayCause s work) (heard (replayAt s h (replayChecked work c)))
       go (checked.Accepted w) e none n = wider (Cause s) (Eleven s work) none (heard (replayAt s h (replayChecked work (checked.Accepted w)))) (worked w e)
-      go (checked.Refused k p) e by n = sooner (Cause s) (Eleven s work) 9 k p (n .1) (λ j q c. omega (arith, c .0)) by
+      go (checked.Refused r) e by n = sooner (Cause s) (Eleven s work) 9 (r .number) (r .place) (n .1) (λ j q c. omega (arith, c .0)) by
 
   replay-some : (k p : ℕ) → ReplayCause s work k p → 1 ≤ k
   replay-some k p = ⊎-elim (λ c. caused s k p c .0) (λ c. omega (arith, c .0))
@@ -192,11 +192,11 @@ module _ (s h : List ℕ) (work : ℕ) where
 module _ (s : List ℕ) where
   sizes-number : (c : Checked) → sizesNumber (sizedAs s c) ≡ numberOf c
   sizes-number (checked.Accepted w) = refl
-  sizes-number (checked.Refused k p) = refl
+  sizes-number (checked.Refused why) = refl
 
   sizes-place : (c : Checked) → sizesPlace (sizedAs s c) ≡ placeOf c
   sizes-place (checked.Accepted w) = refl
-  sizes-place (checked.Refused k p) = refl
+  sizes-place (checked.Refused why) = refl
 
   sizes-some : (k p : ℕ) → Cause s k p → 1 ≤ k
   sizes-some k p c = caused s k p c .0

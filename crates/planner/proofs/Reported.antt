@@ -1,22 +1,21 @@
 -- What the search reports is what the calls answer and leave: its outcome is that of the sheet's verdict, and a plan's history, which has
 -- no more moves than transitions, stands in the trace. Assumes nothing.
-use Prim.Native.Nat.{ℕ, zero, suc, _+_, _≤_}
+use Prim.Native.Nat.{ℕ, suc, _+_, _≤_, _<_}
 use native.Mathlib.Nat.{suc-add, zero-add}
 use native.Mathlib.Omega.{arith}
 use mathlib.Core.Bool.{Bool, true, false}
 use mathlib.Core.List.{List, [], _∷_, _++_}
-use mathlib.Core.Option.{Option, none, some}
 use mathlib.Core.Path.{_≡_, refl, sym, _∙_, ap, ap₂, subst}
 use lib.ListN.{length, take, drop, set, replicate}
 use lib.Seq.{length-take-le}
-use Rattle.runs.specs.Runs.{add, Run}
+use Rattle.runs.proofs.Histories.{run-length}
 use Rattle.runs.specs.Search.{Verdict, plan, nothing, more, isPlan}
 use Rattle.sheet.specs.Check.{checkOf}
 use Rattle.sheet.specs.declared.Checked.the-variants.{Accepted}
 use Rattle.demands.specs.Decoded.{worldOf, boundOf, firstOf}
 use Rattle.demands.specs.Planning as meant
 use Rattle.demands.specs.Planning.{answer, verdictOf, acceptsOf, RunOf}
-use Rattle.demands.proofs.Demands.{plan-is, replay-is, plan-transitions}
+use Rattle.demands.proofs.Demands.{plan-is, replay-is, plan-transitions, longer-no}
 use Rattle.search.specs.Outcome.{lay, ReportsVerdict, Reported, isFound}
 use Rattle.search.specs.Searching.{verdictFrom}
 use Rattle.runs.proofs.Bounded.{outcome-free, outcome-closed}
@@ -25,15 +24,7 @@ use Rattle.search.specs.declared.Outcome.the-variants.{Found}
 use Rattle.planner.specs.Answers.{answerAs, traced, reply, answerOf, traceOf, replyOf}
 use Rattle.planner.proofs.Demands.{answer-is, trace-is, reply-is}
 use Rattle.planner.specs.Reports.{plannedAs, repliedAs}
-
--- a history has no more entries than the run has transitions
-pub run-length : {C : Type 0} (Step : C → Option ℕ → C → Type 0) (n : ℕ) (c : C) (h : List ℕ) (d : C) → Run Step n c h d → length h ≤ n
-run-length Step zero c h d (e, q) = omega (arith, ap length e)
-run-length Step (suc n) c h d (m, e, r, st, q, run) = let k = run-length Step n e r d run in go m q k
-  where
-    go : (m : Option ℕ) → h ≡ add m r → length r ≤ n → length h ≤ suc n
-    go none q k = omega (arith, ap length q)
-    go (some a) q k = omega (arith, ap length q)
+use Rattle.planner.specs.declared.Replayed.the-variants as replayed
 
 lay-cons : (h : List ℕ) (x : ℕ) (trace : List ℕ) (n : ℕ) → lay (x ∷ trace) (suc n) h ≡ x ∷ lay trace n h
 lay-cons [] x trace n = refl
@@ -106,6 +97,12 @@ replaying s w accepted work enough h trace trace′ o R =
     ∙ replied-as (acceptsOf s h)
     ∙ sym (ap reply (replay-is s (w, accepted) h))
     ∙ sym (reply-is s w accepted work enough h)
+
+-- a history of more moves than the bound is answered with no
+pub longer :
+    (s : List ℕ) (w : ℕ) (accepted : checkOf s ≡ Accepted w) (work : List ℕ) (enough : w ≤ length work) (h : List ℕ) → boundOf s < length h
+    → replayed.No ≡ replyOf s h (length work)
+longer s w accepted work enough h l = sym (reply-is s w accepted work enough h ∙ ap reply (longer-no s (w, accepted) h l))
 
 -- the required words cleared, those beyond untouched
 pub cleared : (w : ℕ) (work part : List ℕ) → part ≡ replicate (length (take w work)) 0 → w ≤ length work → part ++ drop w work ≡ replicate w 0 ++ drop w work

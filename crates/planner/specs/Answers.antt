@@ -6,7 +6,8 @@ use mathlib.Core.Bool.{Bool, true, false, cond}
 use mathlib.Core.List.{List, _++_}
 use lib.ListN.{length, drop, replicate}
 use lib.Dec.{ltb}
-use Rattle.sheet.specs.Check.{checkOf}
+use Rattle.sheet.specs.Check.{refusalOf, checkOf}
+use Rattle.sheet.specs.declared.Refusal.{Refusal}
 use Rattle.sheet.specs.declared.Checked.{Checked}
 use Rattle.sheet.specs.declared.Checked.the-variants as checked
 use Rattle.demands.specs.Decoded.{boundOf}
@@ -19,25 +20,25 @@ use Rattle.planner.specs.declared.Replayed.the-variants as replayed
 
 -- how far a call comes: turned away by a number and a place, or searching with w words of work
 pub data Stage : Type 0 where
-  refused : (number place : ℕ) → Stage
+  refused : (why : Refusal) → Stage
   searching : (w : ℕ) → Stage
 
 -- 11: work shorter than required
 abbrev pub withWork : (work w : ℕ) → Stage
-withWork work w = cond (ltb work w) (refused 11 0) (searching w)
+withWork work w = cond (ltb work w) (refused (refusalOf 11 0)) (searching w)
 
 -- replay: 1 to 9, then 11
 abbrev pub replayChecked : (work : ℕ) → Checked → Stage
 replayChecked work (checked.Accepted w) = withWork work w
-replayChecked work (checked.Refused n p) = refused n p
+replayChecked work (checked.Refused why) = refused why
 
 abbrev pub replayStage : List ℕ → (work : ℕ) → Stage
 replayStage s work = replayChecked work (checkOf s)
 
 -- planning: 1 to 9, then 10 where the trace is shorter than D, then 11
 abbrev pub planChecked : List ℕ → (work trace : ℕ) → Checked → Stage
-planChecked s work trace (checked.Accepted w) = cond (ltb trace (boundOf s)) (refused 10 0) (withWork work w)
-planChecked s work trace (checked.Refused n p) = refused n p
+planChecked s work trace (checked.Accepted w) = cond (ltb trace (boundOf s)) (refused (refusalOf 10 0)) (withWork work w)
+planChecked s work trace (checked.Refused why) = refused why
 
 abbrev pub planStage : List ℕ → (work trace : ℕ) → Stage
 planStage s work trace = planChecked s work trace (checkOf s)
@@ -45,24 +46,24 @@ planStage s work trace = planChecked s work trace (checkOf s)
 -- planning's answer: n moves and t transitions, or a number and a place
 abbrev pub answerAs : meant.PlanAnswer → Planned
 answerAs (meant.found h t) = planned.Found (length h) t
-answerAs (meant.PlanAnswer.refused n p) = planned.Refused n p
+answerAs (meant.PlanAnswer.refused why) = planned.Refused why
 
 abbrev pub planAt : List ℕ → Stage → Planned
-planAt s (refused n p) = planned.Refused n p
+planAt s (refused why) = planned.Refused why
 planAt s (searching w) = answerAs (planOf s)
 
 -- the trace: "the first n trace entries hold it, the rest are untouched"; "untouched under every number"
 abbrev pub traced : meant.PlanAnswer → List ℕ → List ℕ
 traced (meant.found h t) trace = h ++ drop (length h) trace
-traced (meant.PlanAnswer.refused n p) trace = trace
+traced (meant.PlanAnswer.refused why) trace = trace
 
 abbrev pub traceAt : List ℕ → Stage → List ℕ → List ℕ
-traceAt s (refused n p) trace = trace
+traceAt s (refused why) trace = trace
 traceAt s (searching w) trace = traced (planOf s) trace
 
 -- work: untouched under 1 to 12; else "the required work words are 0 and those beyond untouched"
 abbrev pub workAt : Stage → List ℕ → List ℕ
-workAt (refused n p) work = work
+workAt (refused why) work = work
 workAt (searching w) work = replicate w 0 ++ drop w work
 
 -- what `plan` answers and leaves
@@ -79,10 +80,10 @@ planWork s work trace = workAt (planStage s (length work) trace) work
 abbrev pub reply : meant.ReplayAnswer → Replayed
 reply (meant.replied true) = replayed.Yes
 reply (meant.replied false) = replayed.No
-reply (meant.ReplayAnswer.refused n p) = replayed.Refused n p
+reply (meant.ReplayAnswer.refused why) = replayed.Refused why
 
 abbrev pub replayAt : List ℕ → List ℕ → Stage → Replayed
-replayAt s h (refused n p) = replayed.Refused n p
+replayAt s h (refused why) = replayed.Refused why
 replayAt s h (searching w) = reply (replayOf s h)
 
 unfoldable pub replyOf : List ℕ → List ℕ → (work : ℕ) → Replayed

@@ -2,9 +2,9 @@
 ghost use mathlib.Core.Path.{_≡_};
 ghost use lib.ListN.{length};
 ghost use denote.Ref.{ptr};
-ghost use Rattle.sheet.specs.Check.{checkOf, numberOf, placeOf};
+ghost use Rattle.sheet.specs.Check.{refusalOf, checkOf, numberOf, placeOf};
 ghost use Rattle.sheet.specs.Notes.{notesOf};
-ghost use Rattle.sheet.specs.declared.Checked.the-variants.{Accepted};
+ghost use Rattle.sheet.specs.Inspection.{Of};
 ghost use Rattle.lookup.specs.LookUp.{lookOf};
 ghost use Rattle.search.specs.Outcome.{isFound};
 ghost use Rattle.planner.specs.Answers.{answerOf, traceOf, planWork, replyOf, replayWork};
@@ -14,24 +14,27 @@ ghost use Rattle.planner.specs.Sizes.{sizesOf};
 use lookup::Looked;
 use search::Outcome;
 use sheet::Checked;
+use sheet::Inspected;
+use sheet::Inspection;
+use sheet::Refusal;
 
-// What planning answers: n moves and t transitions, the moves standing in the trace; or a number and a place.
+// What planning answers: n moves and t transitions, the moves standing in the trace; or why there is none.
 pub enum Planned {
     Found { n: usize, t: usize },
-    Refused { number: u32, place: usize },
+    Refused { why: Refusal },
 }
 
-// What replay answers: yes, no, or a number and a place.
+// What replay answers: yes, no, or why there is none.
 pub enum Replayed {
     Yes,
     No,
-    Refused { number: u32, place: usize },
+    Refused { why: Refusal },
 }
 
-// What is told of a sheet's sizes: the number of its fluents and its bound, or a number and a place.
+// What is told of a sheet's sizes: the number of its fluents and its bound, or why there is none.
 pub enum Sized {
     Known { fluents: usize, bound: usize },
-    Refused { number: u32, place: usize },
+    Refused { why: Refusal },
 }
 
 // Checks a sheet: the words of work that planning and replay require, or a number and a place.
@@ -45,15 +48,15 @@ pub fn check(s: &[u8]) -> Checked
 pub fn sizes(s: &[u8]) -> Sized
     ensures { λ r. ⌜ r ≡ sizesOf (now (s .entry)) ⌝ }
 {
-    match sheet::check(s) {
-        Checked::Accepted { words: _ } => {
-            let l = sheet::layout_of(s);
+    match sheet::inspect(s) {
+        Inspected::Accepted { found } => {
+            let l = found.layout;
             Sized::Known {
                 fluents: l.f,
                 bound: l.d,
             }
         }
-        Checked::Refused { number, place } => Sized::Refused { number, place },
+        Inspected::Refused { why } => Sized::Refused { why },
     }
 }
 
@@ -76,10 +79,12 @@ pub fn look_up(s: &[u8], x: usize) -> Looked
 
 // A number whose place is 0.
 fn refused(number: u32) -> Planned
-    ensures { λ r. ⌜ r ≡ Refused number 0 ⌝ }
+    ensures { λ r. ⌜ r ≡ Refused (refusalOf number 0) ⌝ }
 {
     let place = 0;
-    Planned::Refused { number, place }
+    Planned::Refused {
+        why: Refusal { number, place },
+    }
 }
 
 fn answer_of(o: Outcome) -> Planned
@@ -102,15 +107,16 @@ fn reply_of(o: Outcome) -> Replayed
     }
 }
 
-// Plans on an accepted sheet that requires so many words.
-fn plan_accepted(s: &[u8], words: usize, work: &mut [u32], trace: &mut [u16]) -> Planned
-    requires { ⌜ checkOf (now s) ≡ Accepted words ⌝ }
+// Plans on a sheet of which so much was found.
+fn plan_found(s: &[u8], found: Inspection, work: &mut [u32], trace: &mut [u16]) -> Planned
+    requires { ⌜ Of (now s) found ⌝ }
     ensures { λ r. ⌜ r ≡ answerOf (now (s .entry)) (length (now (work .entry))) (length (now (trace .entry))) ⌝ }
     ensures { λ _. ⌜ now (trace .exit) ≡ traceOf (now (s .entry)) (length (now (work .entry))) (now (trace .entry)) ⌝ }
     ensures { λ _. ⌜ now (work .exit) ≡ planWork (now (s .entry)) (now (work .entry)) (length (now (trace .entry))) ⌝ }
 {
-    let l = sheet::layout_of(s);
+    let l = found.layout;
     let d = l.d;
+    let words = found.words;
     if trace.len() < d {
         return refused(10);
     }
@@ -118,7 +124,7 @@ fn plan_accepted(s: &[u8], words: usize, work: &mut [u32], trace: &mut [u16]) ->
         return refused(11);
     }
     let none = [0u16; 1];
-    answer_of(search::run(s, l, true, &none[..0], &mut work[..words], trace))
+    answer_of(search::run(s, found, true, &none[..0], &mut work[..words], trace))
 }
 
 // Plans: a history of moves that some run of at most D transitions makes and that ends final, or why there is none.
@@ -127,27 +133,35 @@ pub fn plan(s: &[u8], work: &mut [u32], trace: &mut [u16]) -> Planned
     ensures { λ _. ⌜ now (trace .exit) ≡ traceOf (now (s .entry)) (length (now (work .entry))) (now (trace .entry)) ⌝ }
     ensures { λ _. ⌜ now (work .exit) ≡ planWork (now (s .entry)) (now (work .entry)) (length (now (trace .entry))) ⌝ }
 {
-    match sheet::check(s) {
-        Checked::Accepted { words } => plan_accepted(s, words, work, trace),
-        Checked::Refused { number, place } => Planned::Refused { number, place },
+    match sheet::inspect(s) {
+        Inspected::Accepted { found } => plan_found(s, found, work, trace),
+        Inspected::Refused { why } => Planned::Refused { why },
     }
 }
 
-// Replays on an accepted sheet that requires so many words.
-fn replay_accepted(s: &[u8], required: usize, history: &[u16], work: &mut [u32]) -> Replayed
-    requires { ⌜ checkOf (now s) ≡ Accepted required ⌝ }
+// Replays on a sheet of which so much was found. A history of more moves than the bound is answered at once.
+fn replay_found(s: &[u8], found: Inspection, history: &[u16], work: &mut [u32]) -> Replayed
+    requires { ⌜ Of (now s) found ⌝ }
     ensures { λ r. ⌜ r ≡ replyOf (now (s .entry)) (now (history .entry)) (length (now (work .entry))) ⌝ }
     ensures { λ _. ⌜ now (work .exit) ≡ replayWork (now (s .entry)) (now (work .entry)) ⌝ }
 {
-    let l = sheet::layout_of(s);
+    let l = found.layout;
+    let d = l.d;
+    let required = found.words;
     if work.len() < required {
         return Replayed::Refused {
-            number: 11,
-            place: 0,
+            why: Refusal {
+                number: 11,
+                place: 0,
+            },
         };
     }
-    let mut trace = [0u16; 64];
-    reply_of(search::run(s, l, false, history, &mut work[..required], &mut trace))
+    if d < history.len() {
+        search::clear(&mut work[..required]);
+        return Replayed::No;
+    }
+    let mut trace = [0u16; sheet::MOST_TRANSITIONS];
+    reply_of(search::run(s, found, false, history, &mut work[..required], &mut trace))
 }
 
 // Replays a history: whether some run of at most D transitions makes exactly these moves and ends final.
@@ -155,8 +169,8 @@ pub fn replay(s: &[u8], history: &[u16], work: &mut [u32]) -> Replayed
     ensures { λ r. ⌜ r ≡ replyOf (now (s .entry)) (now (history .entry)) (length (now (work .entry))) ⌝ }
     ensures { λ _. ⌜ now (work .exit) ≡ replayWork (now (s .entry)) (now (work .entry)) ⌝ }
 {
-    match sheet::check(s) {
-        Checked::Accepted { words } => replay_accepted(s, words, history, work),
-        Checked::Refused { number, place } => Replayed::Refused { number, place },
+    match sheet::inspect(s) {
+        Inspected::Accepted { found } => replay_found(s, found, history, work),
+        Inspected::Refused { why } => Replayed::Refused { why },
     }
 }

@@ -26,13 +26,10 @@ pub extern "C" fn planner_raw_check(sheet: &[u8], words: &mut usize, place: &mut
             *place = 0;
             0
         }
-        Checked::Refused {
-            number: n,
-            place: p,
-        } => {
+        Checked::Refused { why } => {
             *words = 0;
-            *place = p;
-            n
+            *place = why.place;
+            why.number
         }
     }
 }
@@ -58,14 +55,11 @@ pub extern "C" fn planner_raw_sizes(
             *place = 0;
             0
         }
-        Sized::Refused {
-            number: n,
-            place: p,
-        } => {
+        Sized::Refused { why } => {
             *fluents = 0;
             *bound = 0;
-            *place = p;
-            n
+            *place = why.place;
+            why.number
         }
     }
 }
@@ -96,14 +90,11 @@ pub extern "C" fn planner_raw_plan(
             *place = 0;
             0
         }
-        Planned::Refused {
-            number: m,
-            place: p,
-        } => {
+        Planned::Refused { why } => {
             *n = 0;
             *t = 0;
-            *place = p;
-            m
+            *place = why.place;
+            why.number
         }
     }
 }
@@ -132,13 +123,10 @@ pub extern "C" fn planner_raw_replay(
             *place = 0;
             0
         }
-        Replayed::Refused {
-            number: n,
-            place: p,
-        } => {
+        Replayed::Refused { why } => {
             *yes = 0;
-            *place = p;
-            n
+            *place = why.place;
+            why.number
         }
     }
 }
@@ -165,14 +153,11 @@ pub extern "C" fn planner_raw_look_up(
             *place = 0;
             0
         }
-        Looked::Refused {
-            number: n,
-            place: p,
-        } => {
+        Looked::Refused { why } => {
             *size = 0;
             *initial = 0;
-            *place = p;
-            n
+            *place = why.place;
+            why.number
         }
     }
 }

@@ -1,10 +1,12 @@
 -- What every move of a run has, every entry of its history has: a history is the moves in order. An invariant of the configurations may
--- say what their moves have. Assumes nothing.
-use Prim.Native.Nat.{ℕ, zero, suc}
+-- say what their moves have. It has no more moves than the run has transitions. Assumes nothing.
+use Prim.Native.Nat.{ℕ, zero, suc, _≤_}
+use native.Mathlib.Omega.{arith}
 use mathlib.Core.List.{List, _∷_, List·Memᴰ, List·Memᴰ·not-nil, List·Memᴰ·cases-cons}
 use mathlib.Core.Logic.{⊎-elim}
 use mathlib.Core.Option.{Option, none, some}
-use mathlib.Core.Path.{_≡_, refl, sym, subst}
+use mathlib.Core.Path.{_≡_, refl, sym, ap, subst}
+use lib.ListN.{length}
 use Rattle.runs.specs.Runs.{add, Run}
 
 module _ (K : ℕ → Type 0) where
@@ -19,3 +21,12 @@ module _ (K : ℕ → Type 0) where
     history-has (suc n) c h d i (m, x, r, st, q, run) e k =
         let next = kept c m x i st in
         added m r (next .1) (history-has n x r d (next .0) run) e (subst (List·Memᴰ e) q k)
+
+-- a history has no more entries than the run has transitions
+pub run-length : {C : Type 0} (Trans : C → Option ℕ → C → Type 0) (n : ℕ) (c : C) (h : List ℕ) (d : C) → Run Trans n c h d → length h ≤ n
+run-length Trans zero c h d (e, q) = omega (arith, ap length e)
+run-length Trans (suc n) c h d (m, e, r, st, q, run) = let k = run-length Trans n e r d run in go m q k
+  where
+    go : (m : Option ℕ) → h ≡ add m r → length r ≤ n → length h ≤ suc n
+    go none q k = omega (arith, ap length q)
+    go (some a) q k = omega (arith, ap length q)

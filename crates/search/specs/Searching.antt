@@ -12,7 +12,8 @@ use Rattle.runs.specs.Bounded.{verdictWithin, join, flagged}
 use Rattle.demands.specs.Decoded.{worldOf}
 use Rattle.demands.specs.Planning.{transitionsIn, isFinalIn}
 use Rattle.engine.specs.Tables.{Prepared, Surveyed, Filled}
-use Rattle.engine.specs.Frames.{Of, Frame, KeptFrames}
+use Rattle.sheet.specs.Inspection.{Of}
+use Rattle.engine.specs.Frames.{Frame, KeptFrames}
 use Rattle.engine.specs.Going.{transitionsOf, Ahead, moveOf}
 use Rattle.engine.specs.declared.Cursor.{Cursor}
 use Rattle.engine.specs.declared.Taken.{Taken}
@@ -33,7 +34,7 @@ branchesOf s free left g xs = tries (λ (d : Configuration × List ℕ). verdict
 
 -- a visit to the configuration of the remaining program p: it stands in the frame of its depth, and given moves are made up to there
 pub record Visited (s w moves : List ℕ) (t : Task) (q : Visit) (p : Prog) : Type 0 where
-  pub of : Of s (t .machine)
+  pub of : Of s (t .found)
   pub frame : Frame s (q .left) w (q .depth) p
   pub used-up : q .used ≤ length moves
 

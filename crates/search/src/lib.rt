@@ -3,21 +3,17 @@ ghost use mathlib.Core.Path.{_≡_};
 ghost use mathlib.Core.Bool.{true, false};
 ghost use Prim.Native.Nat.{ℕ, _≤_};
 ghost use lib.ListN.{length, replicate};
-ghost use Rattle.sheet.specs.Layout.{layoutOf};
-ghost use Rattle.sheet.specs.Check.{Accepts};
-ghost use Rattle.height.specs.Work.{workWords};
 ghost use Rattle.golog.specs.Prog.{Prog};
 ghost use Rattle.demands.specs.Decoded.{firstOf, boundOf};
-ghost use Rattle.demands.specs.Compact.{levelsOf};
 ghost use Rattle.engine.specs.Tables.{Prepared, Surveyed, Filled};
-ghost use Rattle.engine.specs.Frames.{Of, Frame};
+ghost use Rattle.sheet.specs.Inspection.{Of};
+ghost use Rattle.engine.specs.Frames.{Frame};
 ghost use Rattle.search.specs.Outcome.{Reported, isMore, told};
 ghost use Rattle.search.specs.Searching.{verdictFrom, Visited, Ready, verdictAt, LookedAt, Going, Preserves, Expanded, Follows};
 use engine::Cursor;
-use engine::Machine;
 use engine::Taken;
 use golog::State;
-use sheet::Layout;
+use sheet::Inspection;
 
 mod guide;
 mod pruning;
@@ -29,9 +25,9 @@ pub enum Outcome {
     More,
 }
 
-// What stays the same throughout a search: the machine, and whether moves may follow those that are given.
+// What stays the same throughout a search: what was found of the sheet, and whether moves may follow those that are given.
 pub struct Task {
-    pub machine: Machine,
+    pub found: Inspection,
     pub free: bool,
 }
 
@@ -53,7 +49,7 @@ struct Seen {
 }
 
 // Every word 0.
-fn clear(work: &mut [u32])
+pub fn clear(work: &mut [u32])
     ensures { λ _. ⌜ now (work .exit) ≡ replicate (length (now (work .entry))) 0 ⌝ }
 {
     let mut i = 0;
@@ -106,13 +102,13 @@ fn look(
     ensures { λ r. ⌜ LookedAt (now (s .entry)) (now (work .entry)) (now (moves .entry)) t q cut (now (flags .entry)) (now (flags .exit)) (now (numbers .entry)) (now (numbers .exit)) r ⌝ }
 {
     if pruning::only_final(cut, q.left) {
-        let end = engine::is_final(flags, numbers, work, s, t.machine, q.state, q.depth);
+        let end = engine::is_final(flags, numbers, work, s, t.found, q.state, q.depth);
         if guide::is_over(moves, q.used, end) {
             return known(Outcome::Found { n: q.n, t: q.depth });
         }
         return known(Outcome::More);
     }
-    let x = engine::survey(flags, numbers, work, s, t.machine, q.state, q.depth);
+    let x = engine::survey(flags, numbers, work, s, t.found, q.state, q.depth);
     let first = x.first;
     if guide::is_over(moves, q.used, x.done) {
         return known(Outcome::Found { n: q.n, t: q.depth });
@@ -151,7 +147,7 @@ fn refresh(
     numbers: &mut [u32],
     work: &[u32],
     s: &[u8],
-    m: Machine,
+    m: Inspection,
     q: Visit,
     stale: bool,
 )
@@ -187,8 +183,8 @@ fn expand(
     let mut k = first;
     let mut stale = false;
     while !engine::is_spent(k) {
-        refresh(flags, numbers, work, s, t.machine, q, stale);
-        let x = engine::next(work, flags, numbers, s, t.machine, q.state, q.depth, k);
+        refresh(flags, numbers, work, s, t.found, q, stale);
+        let x = engine::next(work, flags, numbers, s, t.found, q.state, q.depth, k);
         k = x.cursor;
         stale = false;
         if guide::lets_pass(moves, q.used, t.free, x.entry) {
@@ -240,23 +236,22 @@ fn explore(
 // Searches from a sheet's first configuration, along the moves given first: the work area is as long as required.
 pub fn run(
     s: &[u8],
-    l: Layout,
+    found: Inspection,
     free: bool,
     moves: &[u16],
     work: &mut [u32],
     trace: &mut [u16],
 ) -> Outcome
-    requires { ⌜ Accepts (now s) × (l ≡ layoutOf (now s)) ⌝ }
-    requires { ⌜ (length (now work) ≡ workWords (levelsOf (now s)) (boundOf (now s))) × (boundOf (now s) ≤ length (now trace)) ⌝ }
+    requires { ⌜ Of (now s) found × (length (now work) ≡ found .words) × (boundOf (now s) ≤ length (now trace)) ⌝ }
     ensures { λ r. ⌜ Reported 0 0 (now (trace .entry)) (now (trace .exit)) r (verdictFrom (now (s .entry)) free (boundOf (now (s .entry))) (firstOf (now (s .entry)), now (moves .entry))) ⌝ }
     ensures { λ _. ⌜ now (work .exit) ≡ replicate (length (now (work .entry))) 0 ⌝ }
 {
-    let machine = engine::machine_of(s, l);
-    engine::put_first(work, s, machine);
-    let state = engine::initial_of(s, machine);
+    engine::put_first(work, s, found);
+    let state = engine::initial_of(s, found);
     let mut flags = [false; engine::FLAGS];
     let mut numbers = [0u32; engine::NUMBERS];
-    engine::prepare(&mut flags, &mut numbers, s, machine);
+    engine::prepare(&mut flags, &mut numbers, s, found);
+    let l = found.layout;
     let q = Visit {
         depth: 0,
         left: l.d,
@@ -264,7 +259,7 @@ pub fn run(
         n: 0,
         state,
     };
-    let t = Task { machine, free };
+    let t = Task { found, free };
     let o = explore(work, trace, &mut flags, &mut numbers, s, moves, t, q);
     clear(work);
     o

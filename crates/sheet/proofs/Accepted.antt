@@ -16,14 +16,14 @@ use Rattle.height.specs.Height.{heightOf}
 use Rattle.height.specs.Work.{levels, workWords}
 use Rattle.sheet.specs.Trailer.{trailerOf, limitsOk, WithinLimits, recordBytes, distanceOk}
 use Rattle.sheet.specs.Layout.{layoutIn, layoutOf, LaidOut, fluentsIn, formulasIn, effectsIn, actionsIn, programsIn}
-use Rattle.sheet.specs.Check.{refusedAt, heightChecked, programsChecked, actionsChecked, effectsChecked, formulasChecked, fluentsChecked, trailerChecked, checkOf, Accepts}
+use Rattle.sheet.specs.Check.{refused, refusedAt, tablesChecked, heightChecked, recordsChecked, trailerChecked, checkOf, Accepts}
 use Rattle.sheet.proofs.Laws.{within, limits-exactly, placed, placed-exactly, fits, in-place}
 use Rattle.sheet.specs.declared.Layout.{Layout}
 use Rattle.sheet.specs.declared.Checked.{Checked}
-use Rattle.sheet.specs.declared.Checked.the-variants.{Accepted, Refused}
+use Rattle.sheet.specs.declared.Checked.the-variants.{Accepted}
 
 -- an answer that accepts has passed the test
-passed : (b : Bool) (n p : ℕ) (x : Checked) {w : ℕ} → cond b (Refused n p) x ≡ Accepted w → (b ≡ false) × (x ≡ Accepted w)
+passed : (b : Bool) (n p : ℕ) (x : Checked) {w : ℕ} → cond b (refused n p) x ≡ Accepted w → (b ≡ false) × (x ≡ Accepted w)
 passed true n p x e = (cc, cc)
 passed false n p x e = (refl, e)
 
@@ -44,7 +44,7 @@ pub record Trailed (s : List ℕ) : Type 0 where
   pub room : trailerOf s .distance ≤ length s - 18
 
 -- of such a sheet numbers 4 to 9 are asked
-pub trailed-checked : (s : List ℕ) → Trailed s → checkOf s ≡ fluentsChecked s (layoutOf s)
+pub trailed-checked : (s : List ℕ) → Trailed s → checkOf s ≡ recordsChecked s (layoutOf s)
 unfolding layoutOf
 trailed-checked s t =
     let r = trailerOf s in
@@ -63,8 +63,8 @@ pub record Ruled (s : List ℕ) (l : Layout) (w : ℕ) : Type 0 where
 figure-of : (x w : ℕ) → Accepted x ≡ Accepted w → w ≡ x
 figure-of x w e = cc
 
-ruled-in : (s : List ℕ) (l : Layout) (w : ℕ) → fluentsChecked s l ≡ Accepted w → Ruled s l w
-unfolding fluentsChecked formulasChecked effectsChecked actionsChecked programsChecked heightChecked
+ruled-in : (s : List ℕ) (l : Layout) (w : ℕ) → recordsChecked s l ≡ Accepted w → Ruled s l w
+unfolding tablesChecked heightChecked
 ruled-in s l w e =
     let p = programAt (programsIn s l) in
     let k₄ = kept 4 (fluentsOk (fluentsIn s l)) (l .f) _ e in

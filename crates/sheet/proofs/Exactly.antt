@@ -25,7 +25,7 @@ use Rattle.height.proofs.Levels.{levels-exactly}
 use Rattle.height.proofs.Paths.{Lower, above-exactly}
 use Rattle.sheet.specs.Trailer.{trailerOf, WithinLimits, recordBytes, distanceOk}
 use Rattle.sheet.specs.Layout.{layoutOf, layoutIn, programsIn}
-use Rattle.sheet.specs.Check.{refusedAt, heightChecked, programsChecked, actionsChecked, effectsChecked, formulasChecked, fluentsChecked, trailerChecked, checkOf, Accepts}
+use Rattle.sheet.specs.Check.{refused, refusedAt, tablesChecked, heightChecked, trailerChecked, checkOf, Accepts}
 use Rattle.sheet.specs.Causes.{Cause, First, Figure}
 use Rattle.sheet.proofs.Accepted.{ruled, laid}
 use Rattle.sheet.proofs.Laws.{limits-exactly, placed-exactly}
@@ -33,7 +33,7 @@ use Rattle.sheet.proofs.Lower.{rules-lower, lower}
 use Rattle.sheet.proofs.Rising.{By, Told, then, last, unplaced, lowest-placed, first-answered, none-accepted}
 use Rattle.sheet.specs.declared.Trailer.{Trailer}
 use Rattle.sheet.specs.declared.Checked.{Checked}
-use Rattle.sheet.specs.declared.Checked.the-variants.{Accepted, Refused}
+use Rattle.sheet.specs.declared.Checked.the-variants.{Accepted}
 
 -- two tests one after the other with the same answer are one test
 either-test : (a b : Bool) (x y : Checked) → cond (a || b) x y ≡ cond a x (cond b x y)
@@ -71,11 +71,11 @@ module _ (s : List ℕ) where
   has-root w = w .some-record
 
   told : Told 0 (Unit {0}) (Cause s) (checkOf s)
-  unfolding checkOf trailerChecked layoutOf fluentsChecked formulasChecked effectsChecked actionsChecked programsChecked heightChecked refusedAt
+  unfolding checkOf trailerChecked layoutOf tablesChecked heightChecked refusedAt
   told =
       let t = trailerOf s in
       let l = layoutOf s in
-      subst (Told 0 (Unit {0}) (Cause s)) (either-test (ltb (length s) 18) (not (eqb (t .magic) 0x5142)) (Refused 1 0) _)
+      subst (Told 0 (Unit {0}) (Cause s)) (either-test (ltb (length s) 18) (not (eqb (t .magic) 0x5142)) (refused 1 0) _)
       (then (unplaced 1 _ (λ g. or-exactly _ _ (ltb-true _ _, lt-ltb _ _) (not-exactly _ (eqb-true _ _, eq-eqb _ _)))) 0 (omega arith) (λ g e. g)
       (then (unplaced 2 _ (λ g. not-exactly _ (limits-exactly t))) 1 {H = 1 ≤ l .p} (omega arith) (λ g e. has-root (limits-exactly t .0 (not-false _ e)))
       (then (unplaced 3 _ (λ g. misplaced-exactly t (length s - 18))) 2 (omega arith) (λ g e. g)
@@ -91,7 +91,7 @@ module _ (s : List ℕ) where
   answered-by = told .by tt
 
   -- refused with k and p exactly when k is the least number whose cause holds and p its place
-  pub refused-exactly : (k p : ℕ) → (checkOf s ≡ Refused k p) ↔ First (Cause s) k p
+  pub refused-exactly : (k p : ℕ) → (checkOf s ≡ refused k p) ↔ First (Cause s) k p
   refused-exactly k p = (λ e. let t = subst (By (Cause s)) e answered-by in (t .0, t .1), first-answered (Cause s) k p (checkOf s) answered-by)
 
   -- accepted exactly when no cause holds

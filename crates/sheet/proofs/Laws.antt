@@ -9,19 +9,20 @@ use borrow.Author.Tests.{lt-ltb, le-ltb, le-leb, eq-eqb, ne-eqb, leb-true, eqb-t
 use lib.ListN.{length}
 use lib.Dec.{leb, eqb}
 use Rattle.records.proofs.Truth.{and-left, and-right}
-use Rattle.records.specs.declared.Program.{Program}
+use Rattle.records.specs.Records.{programAt}
 use Rattle.height.specs.Height.{heightOf}
 use Rattle.height.specs.Work.{levels, workWords}
 use Rattle.sheet.specs.Trailer.{trailerOf, limitsOk, WithinLimits, recordBytes, distanceOk}
-use Rattle.sheet.specs.Layout.{layoutIn, LaidOut}
-use Rattle.sheet.specs.Check.{refusedAt, heightChecked, fluentsChecked, trailerChecked, checkOf}
+use Rattle.sheet.specs.Layout.{layoutIn, LaidOut, programsIn}
+use Rattle.sheet.specs.Check.{refused, refusedAt, heightChecked, recordsChecked, trailerChecked, checkOf}
 use Rattle.sheet.specs.declared.Trailer.{Trailer}
+use Rattle.sheet.specs.declared.Layout.{Layout}
 use Rattle.sheet.specs.declared.Checked.{Checked}
-use Rattle.sheet.specs.declared.Checked.the-variants.{Refused, Accepted}
+use Rattle.sheet.specs.declared.Checked.the-variants.{Accepted}
 
 module _ (number i j n : ℕ) (next : Checked) (e : i ≡ j) where
   -- the record at i is faulty: the answer is its number and place
-  pub faulty : i < n → Refused number i ≡ refusedAt number j n next
+  pub faulty : i < n → refused number i ≡ refusedAt number j n next
   unfolding refusedAt
   faulty l = rw (← e) (simp (lt-ltb i n l))
 
@@ -30,14 +31,14 @@ module _ (number i j n : ℕ) (next : Checked) (e : i ≡ j) where
   unfolding refusedAt
   clear l r = rw (← e) (simp (le-ltb i n l) r)
 
-module _ (p : ℕ → Program) (n d h : ℕ) (e : h ≡ heightOf p n) where
-  pub too-high : 16 < h → Refused 9 0 ≡ heightChecked p n d
+module _ (s : List ℕ) (l : Layout) (h : ℕ) (e : h ≡ heightOf (programAt (programsIn s l)) (l .p)) where
+  pub too-high : 16 < h → refused 9 0 ≡ heightChecked s l
   unfolding heightChecked
-  too-high l = rw (← e) (simp (lt-ltb 16 h l))
+  too-high a = rw (← e) (simp (lt-ltb 16 h a))
 
-  pub low-enough : {w : ℕ} → h ≤ 16 → w ≡ workWords (levels p n) d → Accepted w ≡ heightChecked p n d
+  pub low-enough : h ≤ 16 → Accepted (workWords (levels (programAt (programsIn s l)) (l .p)) (l .d)) ≡ heightChecked s l
   unfolding heightChecked
-  low-enough l v = rw (← e) (simp (le-ltb 16 h l) (ap Accepted v))
+  low-enough a = rw (← e) (simp (le-ltb 16 h a))
 
 pub within : (t : Trailer) → limitsOk t ≡ true → WithinLimits t
 unfolding limitsOk
@@ -116,7 +117,7 @@ fits t room w e l =
     }
 
 module _ (s : List ℕ) where
-  pub short : length s < 18 → Refused 1 0 ≡ checkOf s
+  pub short : length s < 18 → refused 1 0 ≡ checkOf s
   unfolding checkOf
   short l = simp (lt-ltb (length s) 18 l)
 
@@ -125,24 +126,24 @@ module _ (s : List ℕ) where
     unfolding checkOf
     long r = simp (le-ltb (length s) 18 l) (r ∙ ap (trailerChecked s) e)
 
-    pub unmarked : (t .magic ≡ 0x5142 → ⊥) → Refused 1 0 ≡ checkOf s
+    pub unmarked : (t .magic ≡ 0x5142 → ⊥) → refused 1 0 ≡ checkOf s
     unfolding trailerChecked
     unmarked m = long (simp (ne-eqb (t .magic) 0x5142 m))
 
     module _ (m : t .magic ≡ 0x5142) where
-      pub outside : limitsOk t ≡ false → Refused 2 0 ≡ checkOf s
+      pub outside : limitsOk t ≡ false → refused 2 0 ≡ checkOf s
       unfolding trailerChecked
       outside u = long (simp (eq-eqb (t .magic) 0x5142 m, u))
 
       module _ (u : limitsOk t ≡ true) where
-        pub misplaced : distanceOk t (length s - 18) ≡ false → Refused 3 0 ≡ checkOf s
+        pub misplaced : distanceOk t (length s - 18) ≡ false → refused 3 0 ≡ checkOf s
         unfolding trailerChecked
         misplaced v = long (simp (eq-eqb (t .magic) 0x5142 m, u, v))
 
         pub in-place :
             {x : Checked}
             → distanceOk t (length s - 18) ≡ true
-            → x ≡ fluentsChecked s (layoutIn t (length s - 18))
+            → x ≡ recordsChecked s (layoutIn t (length s - 18))
             → x ≡ checkOf s
         unfolding trailerChecked
         in-place v r = long (simp (eq-eqb (t .magic) 0x5142 m, u, v) r)

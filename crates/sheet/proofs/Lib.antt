@@ -1,4 +1,6 @@
 pub mod Accepted
+pub mod Parts
+pub mod Found
 pub mod Exactly
 pub mod Laws
 pub mod Lower

@@ -4,7 +4,7 @@ use mathlib.Core.List.{List}
 use mathlib.Core.Logic.{⊎-elim}
 use Prim.Native.Nat.{ℕ, _≤_}
 use native.Mathlib.Omega.{arith}
-use Rattle.sheet.specs.Check.{checkOf}
+use Rattle.sheet.specs.Check.{refused, checkOf}
 use Rattle.sheet.specs.Causes.{Cause, First}
 use Rattle.sheet.proofs.Exactly.{refused-exactly}
 use Rattle.sheet.specs.declared.Checked.{Checked}
@@ -13,7 +13,7 @@ use Rattle.sheet.specs.declared.Checked.the-variants.{Accepted, Refused}
 -- a number that an answer gives is one of 1 to 9
 abbrev pub Numbered : Checked → Type 0
 Numbered (Accepted w) = Unit {0}
-Numbered (Refused n p) = (1 ≤ n) × (n ≤ 9)
+Numbered (Refused r) = (1 ≤ r .number) × (r .number ≤ 9)
 
 -- and so is one that has a cause
 pub caused : (s : List ℕ) (n p : ℕ) → Cause s n p → (1 ≤ n) × (n ≤ 9)
@@ -31,6 +31,6 @@ caused s n p =
 pub numbered : (s : List ℕ) → Numbered (checkOf s)
 numbered s = go (checkOf s) (λ n p e. refused-exactly s n p .0 e)
   where
-    go : (x : Checked) → ((n p : ℕ) → x ≡ Refused n p → First (Cause s) n p) → Numbered x
+    go : (x : Checked) → ((n p : ℕ) → x ≡ refused n p → First (Cause s) n p) → Numbered x
     go (Accepted w) first = tt
-    go (Refused n p) first = caused s n p (first n p refl .0)
+    go (Refused r) first = caused s _ _ (first _ _ refl .0)

@@ -12,12 +12,11 @@ use lib.Dec.{eqb}
 use Rattle.records.specs.Bytes.{part}
 use Rattle.sheet.specs.Trailer.{trailerIn, trailerOf, limitsOk, recordBytes, distanceOk}
 use Rattle.sheet.specs.Layout.{layoutIn, layoutOf, fluentsIn, formulasIn, effectsIn, actionsIn, programsIn}
-use Rattle.sheet.specs.Check.{trailerChecked, checkOf, Accepts}
+use Rattle.sheet.specs.Check.{refused, trailerChecked, checkOf, Accepts}
 use Rattle.sheet.specs.Notes.{notesCount, notesOf, FirstRecord, withNotes}
 use Rattle.sheet.specs.declared.Trailer.{Trailer}
 use Rattle.sheet.specs.declared.Layout.{Layout}
 use Rattle.sheet.specs.declared.Checked.{Checked}
-use Rattle.sheet.specs.declared.Checked.the-variants.{Refused}
 use Rattle.sheet.proofs.Accepted.{trailed}
 use Rattle.sheet.proofs.Tables.{SameTables, checked-same}
 
@@ -111,9 +110,9 @@ module _ (s notes : List ℕ) (first : FirstRecord s) where
       let k = len in
       simp (le-ltb (length s) 18 (first .long), le-ltb (length (withNotes s notes)) 18 (omega arith))
       (λ i.
-      cond (not (eqb (trailer-same i .magic) 0x5142)) (Refused 1 0)
-      (cond (not (limitsOk (trailer-same i))) (Refused 2 0)
-      (cond (not (distance-same i)) (Refused 3 0) (checked-same tables-same bound-same i))))
+      cond (not (eqb (trailer-same i .magic) 0x5142)) (refused 1 0)
+      (cond (not (limitsOk (trailer-same i))) (refused 2 0)
+      (cond (not (distance-same i)) (refused 3 0) (checked-same tables-same bound-same i))))
 
 -- an accepted sheet has a first record
 pub accepted-first : (s : List ℕ) → Accepts s → FirstRecord s

@@ -10,36 +10,37 @@ use borrow.Author.Tests.{ltb-true, lt-ltb}
 use lib.Dec.{ltb}
 use Rattle.records.specs.Lowest.{lowest, LowestFaulty}
 use Rattle.records.proofs.Lowest.{lowest-exactly}
+use Rattle.sheet.specs.Check.{refused}
 use Rattle.sheet.specs.declared.Checked.{Checked}
 use Rattle.sheet.specs.declared.Checked.the-variants.{Accepted, Refused}
 
 -- the answer that causes C give: the least number that has one, with its only place
 abbrev pub By : (ℕ → ℕ → Type 0) → Checked → Type 0
 By C (Accepted w) = (k p : ℕ) → ¬ C k p
-By C (Refused k p) = C k p × ((j q : ℕ) → j < k → ¬ C j q) × ((q : ℕ) → C k q → q ≡ p)
+By C (Refused r) = C (r .number) (r .place) × ((j q : ℕ) → j < r .number → ¬ C j q) × ((q : ℕ) → C (r .number) q → q ≡ r .place)
 
 -- it is the only one
 module _ (C : ℕ → ℕ → Type 0) where
-  pub first-answered : (k p : ℕ) (x : Checked) → By C x → C k p × ((j q : ℕ) → j < k → ¬ C j q) → x ≡ Refused k p
+  pub first-answered : (k p : ℕ) (x : Checked) → By C x → C k p × ((j q : ℕ) → j < k → ¬ C j q) → x ≡ refused k p
   first-answered k p (Accepted w) none (c, least) = absurd (none k p c)
-  first-answered k p (Refused j q) (d, lower, one) (c, least) = go (decLt j k) (decLt k j)
+  first-answered k p (Refused r) (d, lower, one) (c, least) = go (decLt (r .number) k) (decLt k (r .number))
     where
-      go : Dec (j < k) → Dec (k < j) → Refused j q ≡ Refused k p
-      go (yes l) h = absurd (least j q l d)
+      go : Dec (r .number < k) → Dec (k < r .number) → Refused r ≡ refused k p
+      go (yes l) h = absurd (least _ _ l d)
       go (no l) (yes h) = absurd (lower k p h c)
-      go (no l) (no h) = let e : k ≡ j = omega arith in ap₂ Refused (sym e) (sym (one p (subst (λ (m : ℕ). C m p) e c)))
+      go (no l) (no h) = let e : k ≡ r .number = omega arith in ap₂ refused (sym e) (sym (one p (subst (λ (m : ℕ). C m p) e c)))
 
   pub none-accepted : (x : Checked) → By C x → ((k p : ℕ) → ¬ C k p) → (w : ℕ) × (x ≡ Accepted w)
   none-accepted (Accepted w) none off = (w, refl)
-  none-accepted (Refused j q) (d, lower, one) off = absurd (off j q d)
+  none-accepted (Refused r) (d, lower, one) off = absurd (off _ _ d)
 
 -- causes that do not hold, before others
 pub wider : (L C : ℕ → ℕ → Type 0) → ((k p : ℕ) → ¬ L k p) → (x : Checked) → By C x → By (λ k p. L k p ⊎ C k p) x
 wider L C off (Accepted w) none = λ k p. ⊎-elim (off k p) (none k p)
-wider L C off (Refused k p) (c, least, one) = (inr c, λ j q l. ⊎-elim (off j q) (least j q l), λ q. ⊎-elim (λ c. absurd (off k q c)) (one q))
+wider L C off (Refused r) (c, least, one) = (inr c, λ j q l. ⊎-elim (off j q) (least j q l), λ q. ⊎-elim (λ c. absurd (off _ q c)) (one q))
 
 -- a number that is given by the first causes, before others of higher numbers
-pub sooner : (L C : ℕ → ℕ → Type 0) (m k p : ℕ) → k ≤ m → ((j q : ℕ) → C j q → m < j) → By L (Refused k p) → By (λ k p. L k p ⊎ C k p) (Refused k p)
+pub sooner : (L C : ℕ → ℕ → Type 0) (m k p : ℕ) → k ≤ m → ((j q : ℕ) → C j q → m < j) → By L (refused k p) → By (λ k p. L k p ⊎ C k p) (refused k p)
 sooner L C m k p h above (c, least, one) = (
   inl c,
   λ j q l. ⊎-elim (least j q l) (λ d. omega (arith, above j q d)),
@@ -62,23 +63,23 @@ module _ {G : Type 0} {m i : ℕ} {b : Bool} {L : ℕ → ℕ → Type 0} (d : D
   never g e k p h = false≢true (sym e ∙ d .holds-true g k p h .0)
 
   -- the last line
-  pub last : (l : ℕ) → l < m → (w : ℕ) → Told l G L (cond b (Refused m i) (Accepted w))
+  pub last : (l : ℕ) → l < m → (w : ℕ) → Told l G L (cond b (refused m i) (Accepted w))
   last l h w = record { above = λ k p c. omega (arith, d .number k p c); by = λ g. go g b refl }
     where
-      go : G → (c : Bool) → b ≡ c → By L (cond c (Refused m i) (Accepted w))
+      go : G → (c : Bool) → b ≡ c → By L (cond c (refused m i) (Accepted w))
       go g true e = (d .true-holds g e, λ j q l c. omega (arith, d .number j q c), λ q c. d .holds-true g m q c .1)
       go g false e = never g e
 
   -- a line, and those below it, for which H is known
   pub then :
       (l : ℕ) {H : Type 0} {C : ℕ → ℕ → Type 0} {x : Checked}
-      → l < m → (G → b ≡ false → H) → Told m H C x → Told l G (λ k p. L k p ⊎ C k p) (cond b (Refused m i) x)
+      → l < m → (G → b ≡ false → H) → Told m H C x → Told l G (λ k p. L k p ⊎ C k p) (cond b (refused m i) x)
   then l {H} {C} {x} h more rest = record {
     above = λ k p. ⊎-elim (λ c. omega (arith, d .number k p c)) (λ c. omega (arith, rest .above k p c));
     by = λ g. go g b refl;
   }
     where
-      go : G → (c : Bool) → b ≡ c → By (λ k p. L k p ⊎ C k p) (cond c (Refused m i) x)
+      go : G → (c : Bool) → b ≡ c → By (λ k p. L k p ⊎ C k p) (cond c (refused m i) x)
       go g true e = (
         inl (d .true-holds g e),
         λ j q l. ⊎-elim (λ c. omega (arith, d .number j q c)) (λ c. omega (arith, rest .above j q c)),

@@ -12,7 +12,8 @@ use Rattle.rules.specs.Tables.{fluentsOk, formulasOk, effectsOk, actionsOk, pro
 use Rattle.height.specs.Height.{heightOf}
 use Rattle.height.specs.Work.{levels, workWords}
 use Rattle.sheet.specs.Layout.{layoutOf, fluentsIn, formulasIn, effectsIn, actionsIn, programsIn}
-use Rattle.sheet.specs.Check.{refusedAt, heightChecked, programsChecked, actionsChecked, effectsChecked, formulasChecked, fluentsChecked}
+use Rattle.sheet.specs.Check.{refused, refusedAt, tablesChecked, heightChecked, recordsChecked}
+use Rattle.sheet.specs.declared.Layout.{Layout}
 use Rattle.sheet.specs.declared.Checked.{Checked}
 use Rattle.sheet.specs.declared.Checked.the-variants.{Accepted, Refused}
 
@@ -36,17 +37,22 @@ figureOf s d = workWords (levels (programAt (programsIn s (layoutOf s))) (layout
 -- an answer, with another figure where it accepts
 abbrev pub figured : (w : ℕ) → Checked → Checked
 figured w (Accepted v) = Accepted w
-figured w (Refused n p) = Refused n p
+figured w (Refused why) = Refused why
 
 -- a number is given before any figure
-number-first : (w : ℕ) (b : Bool) (n p : ℕ) (x : Checked) → cond b (Refused n p) (figured w x) ≡ figured w (cond b (Refused n p) x)
+number-first : (w : ℕ) (b : Bool) (n p : ℕ) (x : Checked) → cond b (refused n p) (figured w x) ≡ figured w (cond b (refused n p) x)
 number-first w true n p x = refl
 number-first w false n p x = refl
 
 -- the heights of the same records
-height-alike : (p : ℕ → Program) (n d d′ : ℕ) → heightChecked p n d′ ≡ figured (workWords (levels p n) d′) (heightChecked p n d)
+height-alike :
+    (s s′ : List ℕ) (l l′ : Layout) → programsIn s′ l′ ≡ programsIn s l → l′ .p ≡ l .p
+    → heightChecked s′ l′ ≡ figured (workWords (levels (programAt (programsIn s l)) (l .p)) (l′ .d)) (heightChecked s l)
 unfolding heightChecked
-height-alike p n d d′ = number-first (workWords (levels p n) d′) (ltb 16 (heightOf p n)) 9 0 (Accepted (workWords (levels p n) d))
+height-alike s s′ l l′ t n =
+    let w : (ℕ → Program) → ℕ → (d : ℕ) → ℕ = λ p n d. workWords (levels p n) d in
+    (λ i. cond (ltb 16 (heightOf (programAt (t i)) (n i))) (refused 9 0) (Accepted (w (programAt (t i)) (n i) (l′ .d))))
+    ∙ number-first (w (programAt (programsIn s l)) (l .p) (l′ .d)) (ltb 16 (heightOf (programAt (programsIn s l)) (l .p))) 9 0 (Accepted (w (programAt (programsIn s l)) (l .p) (l .d)))
 
 -- a table in which the same record is the lowest faulty one, and then the same answer
 table-alike :
@@ -57,7 +63,7 @@ table-alike :
     → refusedAt number i′ n′ x′ ≡ figured w (refusedAt number i n x)
 unfolding refusedAt
 table-alike w number {i} {i′} {n} {n′} x at count next =
-    (λ k. cond (ltb (at k) (count k)) (Refused number (at k)) (next k)) ∙ number-first w (ltb i n) number i x
+    (λ k. cond (ltb (at k) (count k)) (refused number (at k)) (next k)) ∙ number-first w (ltb i n) number i x
 
 itself : (s : List ℕ) → SameTables s s
 itself s =
@@ -76,26 +82,24 @@ itself s =
 
 module _ {s s′ : List ℕ} (same : SameTables s s′) where
   -- the verdict is the same, with the figure for the second sheet's bound
-  pub checked-alike : fluentsChecked s′ (layoutOf s′) ≡ figured (figureOf s (layoutOf s′ .d)) (fluentsChecked s (layoutOf s))
-  unfolding fluentsChecked formulasChecked effectsChecked actionsChecked programsChecked
+  pub checked-alike : recordsChecked s′ (layoutOf s′) ≡ figured (figureOf s (layoutOf s′ .d)) (recordsChecked s (layoutOf s))
+  unfolding tablesChecked
   checked-alike =
       let w = figureOf s (layoutOf s′ .d) in
-      let p = programAt (programsIn s (layoutOf s)) in
       table-alike w 4 _ (λ i. lowest (fluentsOk (same .fluents i)) (same .f i)) (same .f)
       (table-alike w 5 _ (λ i. lowest (formulasOk (same .fluents i) (same .f i) (same .formulas i)) (same .q i)) (same .q)
       (table-alike w 6 _ (λ i. lowest (effectsOk (same .fluents i) (same .f i) (same .q i) (same .effects i)) (same .e i)) (same .e)
       (table-alike w 7 _ (λ i. lowest (actionsOk (same .q i) (same .e i) (same .actions i)) (same .a i)) (same .a)
       (table-alike w 8 _ (λ i. lowest (programsOk (same .q i) (same .a i) (same .programs i)) (same .p i)) (same .p)
-      ((λ i. heightChecked (programAt (same .programs i)) (same .p i) (layoutOf s′ .d))
-      ∙ height-alike p (layoutOf s .p) (layoutOf s .d) (layoutOf s′ .d))))))
+      (height-alike s s′ (layoutOf s) (layoutOf s′) (same .programs) (same .p))))))
 
 -- with the same bound the figure is the same too
 pub checked-same :
     {s s′ : List ℕ}
     → SameTables s s′
     → layoutOf s′ .d ≡ layoutOf s .d
-    → fluentsChecked s′ (layoutOf s′) ≡ fluentsChecked s (layoutOf s)
+    → recordsChecked s′ (layoutOf s′) ≡ recordsChecked s (layoutOf s)
 checked-same {s} {s′} same bound =
     checked-alike same
-    ∙ ap (λ (d : ℕ). figured (figureOf s d) (fluentsChecked s (layoutOf s))) bound
+    ∙ ap (λ (d : ℕ). figured (figureOf s d) (recordsChecked s (layoutOf s))) bound
     ∙ sym (checked-alike (itself s))

@@ -3,11 +3,34 @@ ghost use mathlib.Core.Path.{_≡_};
 ghost use Prim.Native.Nat.{_+_, _*_, _≤_};
 ghost use lib.ListN.{length};
 ghost use denote.Ref.{ptr};
-ghost use Rattle.records.specs.Records.{programAt};
 ghost use Rattle.sheet.specs.Trailer.{trailerOf, limitsOk, WithinLimits, recordBytes, distanceOk};
-ghost use Rattle.sheet.specs.Layout.{layoutIn, layoutOf, LaidOut};
-ghost use Rattle.sheet.specs.Check.{heightChecked, programsChecked, actionsChecked, effectsChecked, formulasChecked, fluentsChecked, checkOf, Accepts, numberOf, placeOf};
+ghost use Rattle.sheet.specs.Layout.{layoutIn, LaidOut};
+ghost use Rattle.sheet.specs.Check.{refusalOf, tablesChecked, heightChecked, checkOf, numberOf, placeOf};
+ghost use Rattle.sheet.specs.Inspection.{unless, inspectedIn, inspectOf};
 ghost use Rattle.sheet.specs.Notes.{notesOf};
+ghost use Rattle.sheet.specs.declared.Checked.{Checked};
+ghost use Rattle.sheet.specs.declared.Inspected.the-variants.{Refused};
+
+// The bytes of the trailer, and what its last two say.
+const TRAILER: usize = 18;
+
+const MAGIC: usize = 0x5142;
+
+// The most fluents, formulas, effects, actions, program records and transitions that a sheet may count.
+const MOST_FLUENTS: usize = 32;
+
+const MOST_FORMULAS: usize = 512;
+
+const MOST_EFFECTS: usize = 512;
+
+const MOST_ACTIONS: usize = 64;
+
+const MOST_PROGRAMS: usize = 256;
+
+pub const MOST_TRANSITIONS: usize = 64;
+
+// The most height that a program may have.
+const MOST_HEIGHT: usize = 16;
 
 // Document 01: "the trailer", the last 18 bytes.
 pub struct Trailer {
@@ -37,10 +60,30 @@ pub struct Layout {
     pub end: usize,
 }
 
-// What a check answers: the words of work that planning and replay require, or a number and a place.
+// Why a call turns its input away: document 01's number, and its place, which is 0 unless a record is at fault.
+pub struct Refusal {
+    pub number: u32,
+    pub place: usize,
+}
+
+// What a check answers: the words of work that planning and replay require, or why it turns the sheet away.
 pub enum Checked {
     Accepted { words: usize },
-    Refused { number: u32, place: usize },
+    Refused { why: Refusal },
+}
+
+// What was found of an accepted sheet: where its tables lie, whether there are interrupts, the words of a frame and of the work area.
+pub struct Inspection {
+    pub layout: Layout,
+    pub interrupts: bool,
+    pub frame: usize,
+    pub words: usize,
+}
+
+// What an inspection answers: a check, with all that it found.
+pub enum Inspected {
+    Accepted { found: Inspection },
+    Refused { why: Refusal },
 }
 
 pub fn read_trailer(s: &[u8]) -> Trailer
@@ -48,7 +91,7 @@ pub fn read_trailer(s: &[u8]) -> Trailer
     ensures { λ r. ⌜ r ≡ trailerOf (now (s .entry)) ⌝ }
 {
     let end = s.len();
-    let start = end - 18;
+    let start = end - TRAILER;
     let t = &s[start..end];
     let f = records::read16(t, 0);
     let q = records::read16(t, 2);
@@ -74,13 +117,13 @@ fn limits_ok(t: Trailer) -> bool
     ensures { λ r. ⌜ r ≡ limitsOk t ⌝ }
 {
     (1 <= t.f)
-        & (t.f <= 32)
-        & (t.q <= 512)
-        & (t.e <= 512)
-        & (t.a <= 64)
+        & (t.f <= MOST_FLUENTS)
+        & (t.q <= MOST_FORMULAS)
+        & (t.e <= MOST_EFFECTS)
+        & (t.a <= MOST_ACTIONS)
         & (1 <= t.p)
-        & (t.p <= 256)
-        & (t.d <= 64)
+        & (t.p <= MOST_PROGRAMS)
+        & (t.d <= MOST_TRANSITIONS)
 }
 
 // `room` is the number of bytes before the trailer.
@@ -119,158 +162,115 @@ fn lay_out(t: Trailer, room: usize) -> Layout
     }
 }
 
-// The height of a program table of n records, then the figure.
-fn check_height(t: &[u8], n: usize, d: usize) -> Checked
-    requires { ⌜ (8 * n ≤ length (now t)) × (1 ≤ n) × (n ≤ 256) × (d ≤ 64) ⌝ }
-    ensures { λ r. ⌜ r ≡ heightChecked (programAt (now (t .entry))) n d ⌝ }
+fn refusal_of(number: u32, place: usize) -> Refusal
+    ensures { λ r. ⌜ r ≡ refusalOf number place ⌝ }
 {
-    let h = height::height(t, n);
-    if 16 < h {
-        return Checked::Refused {
-            number: 9,
-            place: 0,
-        };
+    Refusal { number, place }
+}
+
+// The first table with a record that breaks its rule, and the lowest such record; number 0 where there is none.
+fn check_tables(s: &[u8], l: Layout) -> Refusal
+    requires { ⌜ LaidOut l (length (now s)) ⌝ }
+    ensures { λ r. ⌜ ((next : Checked) → unless r next ≡ tablesChecked (now (s .entry)) l next) ⌝ }
+{
+    let at_fluents = l.fluents;
+    let at_formulas = l.formulas;
+    let at_effects = l.effects;
+    let at_actions = l.actions;
+    let at_programs = l.programs;
+    let end = l.end;
+    let sizes = &s[at_fluents..at_formulas];
+    let a = rules::fluents(sizes, l.f);
+    if a < l.f {
+        return refusal_of(4, a);
     }
-    let levels = height::levels_from(h, height::has_interrupts(t, n));
-    Checked::Accepted {
-        words: height::work_words(levels, d),
+    let b = rules::formulas(sizes, l.f, &s[at_formulas..at_effects], l.q);
+    if b < l.q {
+        return refusal_of(5, b);
+    }
+    let c = rules::effects(sizes, l.f, l.q, &s[at_effects..at_actions], l.e);
+    if c < l.e {
+        return refusal_of(6, c);
+    }
+    let d = rules::actions(l.q, l.e, &s[at_actions..at_programs], l.a);
+    if d < l.a {
+        return refusal_of(7, d);
+    }
+    let e = rules::programs(l.q, l.a, &s[at_programs..end], l.p);
+    if e < l.p {
+        return refusal_of(8, e);
+    }
+    refusal_of(0, 0)
+}
+
+fn refused(number: u32) -> Inspected
+    ensures { λ r. ⌜ r ≡ Refused (refusalOf number 0) ⌝ }
+{
+    let place = 0;
+    Inspected::Refused {
+        why: refusal_of(number, place),
     }
 }
 
-// The program table, then the height.
-fn check_programs(s: &[u8], l: Layout) -> Checked
+// What is found where every record keeps its rule, unless the program is too high.
+fn measure(s: &[u8], l: Layout) -> Inspected
     requires { ⌜ LaidOut l (length (now s)) ⌝ }
-    ensures { λ r. ⌜ r ≡ programsChecked (now (s .entry)) l ⌝ }
+    ensures { λ r. ⌜ r ≡ inspectedIn (now (s .entry)) l (heightChecked (now (s .entry)) l) ⌝ }
 {
-    let n = l.p;
     let start = l.programs;
     let end = l.end;
-    let t = &s[start..end];
-    let i = rules::programs(l.q, l.a, t, n);
-    if i < n {
-        return Checked::Refused {
-            number: 8,
-            place: i,
-        };
+    let programs = &s[start..end];
+    let h = height::height(programs, l.p);
+    if MOST_HEIGHT < h {
+        return refused(9);
     }
-    check_height(t, n, l.d)
+    let interrupts = height::has_interrupts(programs, l.p);
+    let frame = height::frame_words(height::levels_from(h, interrupts), l.d);
+    Inspected::Accepted {
+        found: Inspection {
+            layout: l,
+            interrupts,
+            frame,
+            words: height::work_words(frame, l.d),
+        },
+    }
 }
 
-// The action table, then those after it.
-fn check_actions(s: &[u8], l: Layout) -> Checked
-    requires { ⌜ LaidOut l (length (now s)) ⌝ }
-    ensures { λ r. ⌜ r ≡ actionsChecked (now (s .entry)) l ⌝ }
+// Checks a sheet, and keeps what was found.
+pub fn inspect(s: &[u8]) -> Inspected
+    ensures { λ r. ⌜ r ≡ inspectOf (now (s .entry)) ⌝ }
 {
-    let n = l.a;
-    let start = l.actions;
-    let end = l.programs;
-    let i = rules::actions(l.q, l.e, &s[start..end], n);
-    if i < n {
-        return Checked::Refused {
-            number: 7,
-            place: i,
-        };
+    let n = s.len();
+    if n < TRAILER {
+        return refused(1);
     }
-    check_programs(s, l)
-}
-
-// The effect table, then those after it.
-fn check_effects(s: &[u8], l: Layout) -> Checked
-    requires { ⌜ LaidOut l (length (now s)) ⌝ }
-    ensures { λ r. ⌜ r ≡ effectsChecked (now (s .entry)) l ⌝ }
-{
-    let n = l.e;
-    let first = l.fluents;
-    let second = l.formulas;
-    let start = l.effects;
-    let end = l.actions;
-    let i = rules::effects(&s[first..second], l.f, l.q, &s[start..end], n);
-    if i < n {
-        return Checked::Refused {
-            number: 6,
-            place: i,
-        };
+    let t = read_trailer(s);
+    if t.magic != MAGIC {
+        return refused(1);
     }
-    check_actions(s, l)
-}
-
-// The formula table, then those after it.
-fn check_formulas(s: &[u8], l: Layout) -> Checked
-    requires { ⌜ LaidOut l (length (now s)) ⌝ }
-    ensures { λ r. ⌜ r ≡ formulasChecked (now (s .entry)) l ⌝ }
-{
-    let n = l.q;
-    let first = l.fluents;
-    let start = l.formulas;
-    let end = l.effects;
-    let i = rules::formulas(&s[first..start], l.f, &s[start..end], n);
-    if i < n {
-        return Checked::Refused {
-            number: 5,
-            place: i,
-        };
+    if !limits_ok(t) {
+        return refused(2);
     }
-    check_effects(s, l)
-}
-
-// The fluent table, then those after it.
-fn check_fluents(s: &[u8], l: Layout) -> Checked
-    requires { ⌜ LaidOut l (length (now s)) ⌝ }
-    ensures { λ r. ⌜ r ≡ fluentsChecked (now (s .entry)) l ⌝ }
-{
-    let n = l.f;
-    let start = l.fluents;
-    let end = l.formulas;
-    let i = rules::fluents(&s[start..end], n);
-    if i < n {
-        return Checked::Refused {
-            number: 4,
-            place: i,
-        };
+    let room = n - TRAILER;
+    if !distance_ok(t, room) {
+        return refused(3);
     }
-    check_formulas(s, l)
+    let l = lay_out(t, room);
+    let fault = check_tables(s, l);
+    if fault.number != 0 {
+        return Inspected::Refused { why: fault };
+    }
+    measure(s, l)
 }
 
 // Checks a sheet.
 pub fn check(s: &[u8]) -> Checked
     ensures { λ r. ⌜ r ≡ checkOf (now (s .entry)) ⌝ }
 {
-    let n = s.len();
-    if n < 18 {
-        return Checked::Refused {
-            number: 1,
-            place: 0,
-        };
+    match inspect(s) {
+        Inspected::Accepted { found } => Checked::Accepted { words: found.words },
+        Inspected::Refused { why } => Checked::Refused { why },
     }
-    let t = read_trailer(s);
-    if t.magic != 0x5142 {
-        return Checked::Refused {
-            number: 1,
-            place: 0,
-        };
-    }
-    if !limits_ok(t) {
-        return Checked::Refused {
-            number: 2,
-            place: 0,
-        };
-    }
-    if !distance_ok(t, n - 18) {
-        return Checked::Refused {
-            number: 3,
-            place: 0,
-        };
-    }
-    check_fluents(s, lay_out(t, n - 18))
-}
-
-// Where the tables of an accepted sheet lie.
-pub fn layout_of(s: &[u8]) -> Layout
-    requires { ⌜ Accepts (now s) ⌝ }
-    ensures { λ r. ⌜ r ≡ layoutOf (now (s .entry)) ⌝ }
-    ensures { λ r. ⌜ LaidOut r (length (now (s .entry))) ⌝ }
-{
-    lay_out(read_trailer(s), s.len() - 18)
 }
 
 // The notes: the caller's own bytes ahead of the first record. Under a number, the empty part at the slice's start.
@@ -280,20 +280,17 @@ pub fn notes<'a>(s: &'a [u8], number: &mut u32, place: &mut usize) -> &'a [u8]
     ensures { λ r. ⌜ now (number .exit) ≡ numberOf (checkOf (now (s .entry))) ⌝ }
     ensures { λ r. ⌜ now (place .exit) ≡ placeOf (checkOf (now (s .entry))) ⌝ }
 {
-    match check(s) {
-        Checked::Accepted { words: _ } => {
+    match inspect(s) {
+        Inspected::Accepted { found } => {
             *number = 0;
             *place = 0;
-            let l = layout_of(s);
+            let l = found.layout;
             let end = l.fluents;
             &s[..end]
         }
-        Checked::Refused {
-            number: n,
-            place: p,
-        } => {
-            *number = n;
-            *place = p;
+        Inspected::Refused { why } => {
+            *number = why.number;
+            *place = why.place;
             let end = 0;
             &s[..end]
         }

@@ -14,7 +14,7 @@ use Rattle.records.specs.Bytes.{part}
 use Rattle.records.specs.Records.{fluentAt}
 use Rattle.sheet.specs.Trailer.{trailerOf}
 use Rattle.sheet.specs.Layout.{layoutOf, layoutIn, fluentsIn}
-use Rattle.sheet.specs.Check.{checkOf}
+use Rattle.sheet.specs.Check.{refusalOf, checkOf}
 use Rattle.sheet.specs.declared.Checked.{Checked}
 use Rattle.sheet.specs.declared.Checked.the-variants.{Accepted, Refused}
 use Rattle.sheet.proofs.Accepted.{trailed, laid}
@@ -34,7 +34,7 @@ same-in t u n x same =
 
 module _ (s : List ℕ) (at : ℕ) where
   -- past the end there is no fluent
-  pub past-end : (x : ℕ) → length s < at → looked.Refused 12 0 ≡ lookedIn (part s at (length s)) (countFrom s at) x
+  pub past-end : (x : ℕ) → length s < at → looked.Refused (refusalOf 12 0) ≡ lookedIn (part s at (length s)) (countFrom s at) x
   unfolding lookedIn countFrom
   past-end x l =
       let none : (length s - at) / 2 ≡ 0 = omega arith in
@@ -82,13 +82,13 @@ module _ (s : List ℕ) (w x : ℕ) (e : checkOf s ≡ Accepted w) where
       let g : j < l .formulas - l .fluents = omega (arith, f .at-formulas) in
       getD-take (n - l .fluents) (drop (l .fluents) s) j 0 (omega arith) ∙ sym (getD-take (l .formulas - l .fluents) (drop (l .fluents) s) j 0 g))
 
-refused : (s : List ℕ) (n p x : ℕ) → 1 ≤ n → foundFrom s 0 n p x ≡ looked.Refused n p
+refused : (s : List ℕ) (n p x : ℕ) → 1 ≤ n → foundFrom s 0 n p x ≡ looked.Refused (refusalOf n p)
 unfolding foundFrom
 refused s n p x l = simp (ne-eqb n 0 (λ (z : n ≡ 0). omega arith))
 
 found-as : (s : RefT (List ℕ)) (x : ℕ) (c : Checked) → checkOf (now s) ≡ c → Numbered c → foundIn (viewWith s (openedAs (now s) c)) x ≡ lookedUp (now s) x c
 found-as s x (Accepted w) e h = accepted (now s) w x e
-found-as s x (Refused n p) e h = refused (now s) n p x (h .0)
+found-as s x (Refused why) e h = refused (now s) (why .number) (why .place) x (h .0)
 
 pub found : (s : RefT (List ℕ)) (x : ℕ) → foundIn (viewOf s) x ≡ lookOf (now s) x
 unfolding lookOf

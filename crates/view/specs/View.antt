@@ -9,7 +9,7 @@ use denote.Ref.{RefT, now}
 use Rattle.records.specs.Bytes.{part}
 use Rattle.sheet.specs.Trailer.{trailerOf}
 use Rattle.sheet.specs.Layout.{layoutOf}
-use Rattle.sheet.specs.Check.{checkOf}
+use Rattle.sheet.specs.Check.{refusalOf, checkOf}
 use Rattle.sheet.specs.declared.Checked.{Checked}
 use Rattle.sheet.specs.declared.Checked.the-variants as checked
 use Rattle.lookup.specs.LookUp.{lookedIn}
@@ -21,7 +21,7 @@ use Rattle.view.specs.declared.View.{View}
 -- of a sheet that is accepted, where its fluents start; of one that is not, why
 abbrev pub openedAs : List ℕ → Checked → Opened
 openedAs s (checked.Accepted w) = record { at = layoutOf s .fluents; number = 0; place = 0 }
-openedAs s (checked.Refused n p) = record { at = 0; number = n; place = p }
+openedAs s (checked.Refused why) = record { at = 0; number = why .number; place = why .place }
 
 abbrev pub openedOf : List ℕ → Opened
 openedOf s = openedAs s (checkOf s)
@@ -39,7 +39,7 @@ countFrom s at = cond (ltb (length s) 18) 0 (min (trailerOf s .f) ((length s - a
 
 unfoldable pub foundFrom : List ℕ → (at number place x : ℕ) → Looked
 foundFrom s at number place x =
-    cond (eqb number 0) (lookedIn (part s at (length s)) (countFrom s at) x) (looked.Refused number place)
+    cond (eqb number 0) (lookedIn (part s at (length s)) (countFrom s at) x) (looked.Refused (refusalOf number place))
 
 -- fluent x in a view, whatever it holds
 abbrev pub foundIn : View → (x : ℕ) → Looked

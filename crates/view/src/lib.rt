@@ -5,7 +5,8 @@ ghost use Prim.Native.Nat.{min};
 ghost use Rattle.lookup.specs.LookUp.{lookOf};
 ghost use Rattle.view.specs.View.{openedOf, countFrom, foundFrom, viewOf, foundIn};
 use lookup::Looked;
-use sheet::Checked;
+use sheet::Inspected;
+use sheet::Refusal;
 
 // Document 01: "a struct holding the sheet slice and table offset"; the number and the place say why a sheet was turned away, and are 0
 // where it was not.
@@ -26,19 +27,19 @@ pub struct Opened {
 fn opened_of(s: &[u8]) -> Opened
     ensures { λ r. ⌜ r ≡ openedOf (now (s .entry)) ⌝ }
 {
-    match sheet::check(s) {
-        Checked::Accepted { words: _ } => {
-            let l = sheet::layout_of(s);
+    match sheet::inspect(s) {
+        Inspected::Accepted { found } => {
+            let l = found.layout;
             Opened {
                 at: l.fluents,
                 number: 0,
                 place: 0,
             }
         }
-        Checked::Refused { number, place } => Opened {
+        Inspected::Refused { why } => Opened {
             at: 0,
-            number,
-            place,
+            number: why.number,
+            place: why.place,
         },
     }
 }
@@ -69,13 +70,17 @@ fn find_in(s: &[u8], at: usize, number: u32, place: usize, x: usize) -> Looked
     ensures { λ r. ⌜ r ≡ foundFrom (now (s .entry)) at number place x ⌝ }
 {
     if number != 0 {
-        return Looked::Refused { number, place };
+        return Looked::Refused {
+            why: Refusal { number, place },
+        };
     }
     let n = s.len();
     if n < at {
         return Looked::Refused {
-            number: 12,
-            place: 0,
+            why: Refusal {
+                number: 12,
+                place: 0,
+            },
         };
     }
     lookup::look_in(&s[at..n], count_from(s, at), x)

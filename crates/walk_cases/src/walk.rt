@@ -3,23 +3,18 @@ ghost use mathlib.Core.Path.{_≡_};
 ghost use mathlib.Core.Bool.{true};
 ghost use Prim.Native.Nat.{ℕ, _+_};
 ghost use lib.ListN.{length};
-ghost use Rattle.sheet.specs.Check.{Accepts, checkOf};
-ghost use Rattle.sheet.specs.Layout.{layoutOf};
-ghost use Rattle.sheet.specs.declared.Checked.the-variants.{Accepted};
-ghost use Rattle.height.specs.Work.{workWords};
 ghost use Rattle.golog.specs.Prog.{Prog};
 ghost use Rattle.demands.specs.Decoded.{boundOf};
-ghost use Rattle.demands.specs.Compact.{levelsOf};
 ghost use Rattle.engine.specs.Tables.{Prepared, Surveyed};
-ghost use Rattle.engine.specs.Frames.{Of, Frame};
+ghost use Rattle.sheet.specs.Inspection.{Of};
+ghost use Rattle.engine.specs.Frames.{Frame};
 ghost use Rattle.engine.specs.Going.{Ahead, transitionsOf, CanGoOn};
 use crate::report;
 use engine::Cursor;
-use engine::Machine;
 use engine::Taken;
 use golog::State;
-use sheet::Checked;
-use sheet::Layout;
+use sheet::Inspected;
+use sheet::Inspection;
 
 fn wide(x: u8) -> usize {
     x as usize
@@ -39,7 +34,7 @@ fn tell(
     numbers: &mut [u32],
     work: &[u32],
     s: &[u8],
-    m: Machine,
+    m: Inspection,
     st: State,
     d: usize,
 ) -> Cursor
@@ -62,7 +57,7 @@ fn make(
     flags: &[bool],
     numbers: &[u32],
     s: &[u8],
-    m: Machine,
+    m: Inspection,
     st: State,
     d: usize,
     k: Cursor,
@@ -93,7 +88,7 @@ fn walk(
     numbers: &mut [u32],
     s: &[u8],
     choices: &[u8],
-    m: Machine,
+    m: Inspection,
     first: State,
 )
     requires { ⌜ Of (now s) m × Prepared (now s) (now flags) (now numbers) ⌝ }
@@ -116,40 +111,35 @@ fn walk(
     tell(flags, numbers, work, s, m, st, d);
 }
 
-// Walks from a sheet's first configuration.
-fn walk_from(work: &mut [u32], s: &[u8], l: Layout, choices: &[u8])
-    requires { ⌜ Accepts (now s) × (l ≡ layoutOf (now s)) ⌝ }
-    requires { ⌜ length (now work) ≡ workWords (levelsOf (now s)) (boundOf (now s)) ⌝ }
+// Walks from the first configuration of a sheet of which so much was found.
+fn walk_from(work: &mut [u32], s: &[u8], found: Inspection, choices: &[u8])
+    requires { ⌜ Of (now s) found × (length (now work) ≡ found .words) ⌝ }
 {
-    let m = engine::machine_of(s, l);
     let mut flags = [false; engine::FLAGS];
     let mut numbers = [0u32; engine::NUMBERS];
-    engine::prepare(&mut flags, &mut numbers, s, m);
-    engine::put_first(work, s, m);
-    let st = engine::initial_of(s, m);
-    walk(work, &mut flags, &mut numbers, s, choices, m, st);
+    engine::prepare(&mut flags, &mut numbers, s, found);
+    engine::put_first(work, s, found);
+    let st = engine::initial_of(s, found);
+    walk(work, &mut flags, &mut numbers, s, choices, found, st);
 }
 
-// Walks on an accepted sheet that requires so many words.
-fn walk_accepted(s: &[u8], words: usize, choices: &[u8], work: &mut [u32])
-    requires { ⌜ checkOf (now s) ≡ Accepted words ⌝ }
+// The same, if so many words can be lent.
+fn walk_lent(work: &mut [u32], s: &[u8], found: Inspection, choices: &[u8])
+    requires { ⌜ Of (now s) found ⌝ }
 {
-    let l = sheet::layout_of(s);
+    let words = found.words;
     if work.len() < words {
         report::text(b"too large\n");
         return;
     }
-    walk_from(&mut work[..words], s, l, choices);
+    walk_from(&mut work[..words], s, found, choices);
 }
 
 // Walks a sheet, if it is accepted and not too large.
 pub fn walk_sheet(s: &[u8], choices: &[u8]) {
     let mut work = [0u32; 1024];
-    match sheet::check(s) {
-        Checked::Accepted { words } => walk_accepted(s, words, choices, &mut work),
-        Checked::Refused {
-            number: _,
-            place: _,
-        } => report::text(b"refused\n"),
+    match sheet::inspect(s) {
+        Inspected::Accepted { found } => walk_lent(&mut work, s, found, choices),
+        Inspected::Refused { why: _ } => report::text(b"refused\n"),
     }
 }

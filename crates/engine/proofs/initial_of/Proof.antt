@@ -5,21 +5,22 @@ use mathlib.Core.Path.{_∙_, ap}
 use Rattle.sheet.specs.Layout.{fluentsIn}
 use Rattle.sheet.specs.declared.Layout.{Layout}
 use Rattle.demands.specs.Decoded.{startingWith}
-use Rattle.engine.proofs.Parts.{in-order, fits-in, fluents-long}
+use Rattle.sheet.proofs.Parts.{in-order, fluents-long}
+use Rattle.sheet.proofs.Found.{in-sheet}
 use Rattle.engine.proofs.initial_of.Statement.{statement}
 use Rattle.engine.proofs.initial_of.Tie as tie
 
 sub-initial : tie.Need-sub-initial
-sub-initial c = in-order (fits-in (c .before .before .pre)) .fluents
+sub-initial c = in-order (in-sheet (c .before .before .pre)) .fluents
 
 part-initial-start : tie.Need-part-initial-start
-part-initial-start c = let o = in-order (fits-in (c .before .before .pre)) in omega arith
+part-initial-start c = let o = in-order (in-sheet (c .before .before .pre)) in omega arith
 
 part-initial-end : tie.Need-part-initial-end
-part-initial-end c = let o = in-order (fits-in (c .before .before .pre)) in omega arith
+part-initial-end c = let o = in-order (in-sheet (c .before .before .pre)) in omega arith
 
 initial-requires : tie.Need-initial-requires
-initial-requires c κs = fluents-long _ _ (fits-in (c .before .before .before .pre))
+initial-requires c κs = fluents-long _ _ (in-sheet (c .before .before .before .pre))
 
 returns : tie.Need-returns
 returns c =

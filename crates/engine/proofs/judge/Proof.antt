@@ -14,7 +14,8 @@ use Rattle.sheet.specs.declared.Layout.{Layout}
 use Rattle.sheet.proofs.Lower.{lower-formulas}
 use Rattle.leaves.specs.Endable.{FinalsKnown}
 use Rattle.engine.specs.Tables.{window, Only, endableIn, truthsFrom, finalsFrom, truthsAt, finalsAt}
-use Rattle.engine.proofs.Parts.{in-order, fits-in, formulas-long, programs-long}
+use Rattle.sheet.proofs.Parts.{in-order, formulas-long, programs-long}
+use Rattle.sheet.proofs.Found.{in-sheet}
 use Rattle.engine.proofs.Tables.{truths-long, endable-kept}
 use Rattle.engine.proofs.Windows.{window-at, window-at-long, only-in, only-then, only-put, window-put, window-before}
 use Rattle.engine.proofs.Judging.{runs, many, runs-lower, skips-by, truths-told, judged}
@@ -45,13 +46,13 @@ abbrev settle-from-mark-finals : tie.After-mark-finals → tie.After-settle
 settle-from-mark-finals c = settle-from-slice-aggregate-mark-finals (c .before)
 
 sub-truths : tie.Need-sub-truths
-sub-truths c = in-order (fits-in (start-from-flags-from c .pre .0)) .formulas
+sub-truths c = in-order (in-sheet (start-from-flags-from c .pre .0)) .formulas
 
 part-truths-start : tie.Need-part-truths-start
-part-truths-start c = let o = in-order (fits-in (start-from-flags-from c .pre .0)) in omega arith
+part-truths-start c = let o = in-order (in-sheet (start-from-flags-from c .pre .0)) in omega arith
 
 part-truths-end : tie.Need-part-truths-end
-part-truths-end c = let o = in-order (fits-in (start-from-flags-from c .pre .0)) in omega arith
+part-truths-end c = let o = in-order (in-sheet (start-from-flags-from c .pre .0)) in omega arith
 
 sub-truths-2 : tie.Need-sub-truths-2
 sub-truths-2 c = search needs
@@ -68,7 +69,7 @@ truths-requires c κs =
     let at-start = start-from-flags-from at-flags-from in
     let O = at-start .pre .0 in
     let s = now (at-start .args .s) in
-    let f = fits-in O in
+    let f = in-sheet O in
     let x = at-flags-from .flags-from .result in
     let T = window-at x (truthsFrom (at-start .args .d)) (x + 512) 512 (now (at-start .args .flags)) (at-flags-from .flags-from .ensures .0) (omega arith) in
     let low = subst (λ (l : Layout). LowerFormulas (formulasIn s l) (l .q)) (sym (O .layout-is)) (lower-formulas s (O .accepted)) in
@@ -78,13 +79,13 @@ settle-requires : tie.Need-settle-requires
 settle-requires c κs = search needs
 
 sub-mark-finals : tie.Need-sub-mark-finals
-sub-mark-finals c = in-order (fits-in (start-from-settle (c .before .before .before) .pre .0)) .programs
+sub-mark-finals c = in-order (in-sheet (start-from-settle (c .before .before .before) .pre .0)) .programs
 
 part-mark-finals-start : tie.Need-part-mark-finals-start
-part-mark-finals-start c = let o = in-order (fits-in (start-from-settle (c .before .before .before) .pre .0)) in omega arith
+part-mark-finals-start c = let o = in-order (in-sheet (start-from-settle (c .before .before .before) .pre .0)) in omega arith
 
 part-mark-finals-end : tie.Need-part-mark-finals-end
-part-mark-finals-end c = in-order (fits-in (start-from-settle (c .before .before .before) .pre .0)) .end
+part-mark-finals-end c = in-order (in-sheet (start-from-settle (c .before .before .before) .pre .0)) .end
 
 slice-aggregate-mark-finals : tie.Need-slice-aggregate-mark-finals
 slice-aggregate-mark-finals c =
@@ -99,7 +100,7 @@ mark-finals-requires c κs =
     let at-start = start-from-flags-from at-flags-from in
     let O = at-start .pre .0 in
     let P = at-start .pre .1 in
-    let r = programs-long _ _ (fits-in O) in
+    let r = programs-long _ _ (in-sheet O) in
     let flags = now (at-start .args .flags) in
     let x = at-flags-from .flags-from .result in
     let fits : x + 772 ≤ length flags = omega (arith, at-flags-from .flags-from .ensures .1, P .flags-long) in

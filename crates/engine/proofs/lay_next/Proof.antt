@@ -10,7 +10,8 @@ use Rattle.steps.specs.Laid.{sourcesOf}
 use Rattle.steps.specs.Stepped.{CanStep, StepsRest}
 use Rattle.engine.specs.Frames.{header, frameAt, frameOf, nodesAt}
 use Rattle.engine.specs.Tables.{truthsFrom, finalsFrom, countsFrom, truthsAt, finalsAt, countsAt}
-use Rattle.engine.proofs.Parts.{in-order, fits-in, programs-long}
+use Rattle.sheet.proofs.Parts.{in-order, programs-long}
+use Rattle.sheet.proofs.Found.{in-sheet}
 use Rattle.engine.proofs.Frames.{frame-by, next-inside}
 use Rattle.engine.proofs.Windows.{window-at}
 use Rattle.engine.proofs.Made.{asked, turned}
@@ -62,13 +63,13 @@ add-at c =
     omega (arith, frame-by (at-start .pre .0) (at-start .args .d), F .roomy .inside, F .roomy .small)
 
 sub-step-rest : tie.Need-sub-step-rest
-sub-step-rest c = in-order (fits-in (start-from-counts-from (c .before) .pre .0)) .programs
+sub-step-rest c = in-order (in-sheet (start-from-counts-from (c .before) .pre .0)) .programs
 
 part-step-rest-start : tie.Need-part-step-rest-start
-part-step-rest-start c = let o = in-order (fits-in (start-from-counts-from (c .before) .pre .0)) in omega arith
+part-step-rest-start c = let o = in-order (in-sheet (start-from-counts-from (c .before) .pre .0)) in omega arith
 
 part-step-rest-end : tie.Need-part-step-rest-end
-part-step-rest-end c = in-order (fits-in (start-from-counts-from (c .before) .pre .0)) .end
+part-step-rest-end c = in-order (in-sheet (start-from-counts-from (c .before) .pre .0)) .end
 
 sub-step-rest-2 : tie.Need-sub-step-rest-2
 sub-step-rest-2 c = search needs
@@ -118,7 +119,7 @@ step-rest-requires c κs =
     let ex = at-flags-from .flags-from .ensures .0 in
     let flags = now (at-start .args .flags) in
     let numbers = now (at-start .args .numbers) in (
-      programs-long _ _ (fits-in O),
+      programs-long _ _ (in-sheet O),
       asked O (at-start .pre .1) _ _ _ _ _
           (window-at x (truthsFrom d) (x + 512) 512 flags ex (omega arith))
           (window-at (x + 512) (finalsFrom d) (x + 512 + 260) 260 flags (omega (arith, ex)) (omega arith))

@@ -7,7 +7,8 @@ use lib.Seq.{length-front, length-take-le, take-at}
 use Prim.Native.Nat.{ℕ}
 use mathlib.Core.List.{List}
 use Rattle.engine.specs.Tables.{countsFrom}
-use Rattle.engine.proofs.Parts.{in-order, fits-in, programs-long}
+use Rattle.sheet.proofs.Parts.{in-order, programs-long}
+use Rattle.sheet.proofs.Found.{in-sheet}
 use Rattle.engine.proofs.Windows.{only-front, window-behind, window-same}
 use Rattle.engine.proofs.Judging.{prepared}
 use borrow.Author.Needs.{needs}
@@ -15,13 +16,13 @@ use Rattle.engine.proofs.prepare.Statement.{statement}
 use Rattle.engine.proofs.prepare.Tie as tie
 
 sub-t : tie.Need-sub-t
-sub-t c = in-order (fits-in (c .before .before .before .before .pre .0)) .programs
+sub-t c = in-order (in-sheet (c .before .before .before .before .pre .0)) .programs
 
 part-t-start : tie.Need-part-t-start
-part-t-start c = let o = in-order (fits-in (c .before .before .before .before .pre .0)) in omega arith
+part-t-start c = let o = in-order (in-sheet (c .before .before .before .before .pre .0)) in omega arith
 
 part-t-end : tie.Need-part-t-end
-part-t-end c = in-order (fits-in (c .before .before .before .before .pre .0)) .end
+part-t-end c = in-order (in-sheet (c .before .before .before .before .pre .0)) .end
 
 -- Places: what stands before a need, by name. Written by `named`: run it again when the code changes.
 abbrev start-from-bounds-requires : tie.After-t → tie.Start
@@ -40,13 +41,13 @@ abbrev copy-flags-from-copy-numbers : tie.After-copy-numbers → tie.After-copy-
 copy-flags-from-copy-numbers c = c .before .before .before .before .before
 
 bounds-requires : tie.Need-bounds-requires
-bounds-requires c κs = programs-long _ _ (fits-in (start-from-bounds-requires c .pre .0))
+bounds-requires c κs = programs-long _ _ (in-sheet (start-from-bounds-requires c .pre .0))
 
 slice-aggregate-skips : tie.Need-slice-aggregate-skips
 slice-aggregate-skips c = search needs
 
 skips-requires : tie.Need-skips-requires
-skips-requires c κs = programs-long _ _ (fits-in (start-from-bounds (c .before) .pre .0))
+skips-requires c κs = programs-long _ _ (in-sheet (start-from-bounds (c .before) .pre .0))
 
 slice-relend-prefix-copy-flags : tie.Need-slice-relend-prefix-copy-flags
 slice-relend-prefix-copy-flags c = search needs

@@ -12,7 +12,8 @@ use Rattle.state.specs.Performed.{performBy}
 use Rattle.state.proofs.Performed.{perform-is}
 use Rattle.engine.proofs.Codes.{is-test, is-move, action-of-code}
 use Rattle.engine.proofs.Actions.{performable, judged}
-use Rattle.engine.proofs.Parts.{in-order, fits-in}
+use Rattle.sheet.proofs.Parts.{in-order}
+use Rattle.sheet.proofs.Found.{in-sheet}
 use Rattle.engine.proofs.state_after.Statement.{statement}
 use Rattle.engine.proofs.state_after.Tie as tie
 
@@ -22,26 +23,26 @@ returns c =
     sym (ap (λ (x : Option ℕ). after (worldOf (now (at-start .args .s))) x (at-start .args .st)) (is-test (at-start .args .entry) (c .if1 .taken)))
 
 sub-perform : tie.Need-sub-perform
-sub-perform c = in-order (fits-in (c .before .before .before .before .pre .0 .0)) .effects
+sub-perform c = in-order (in-sheet (c .before .before .before .before .pre .0 .0)) .effects
 
 part-perform-start : tie.Need-part-perform-start
-part-perform-start c = let o = in-order (fits-in (c .before .before .before .before .pre .0 .0)) in omega arith
+part-perform-start c = let o = in-order (in-sheet (c .before .before .before .before .pre .0 .0)) in omega arith
 
 part-perform-end : tie.Need-part-perform-end
-part-perform-end c = let o = in-order (fits-in (c .before .before .before .before .pre .0 .0)) in omega arith
+part-perform-end c = let o = in-order (in-sheet (c .before .before .before .before .pre .0 .0)) in omega arith
 
 -- Places: what stands before a need, by name. Written by `named`: run it again when the code changes.
 abbrev start-from-else1 : tie.Else1 → tie.Start
 start-from-else1 c = c .before .before .before
 
 sub-perform-2 : tie.Need-sub-perform-2
-sub-perform-2 c = in-order (fits-in (start-from-else1 (c .before .before) .pre .0 .0)) .actions
+sub-perform-2 c = in-order (in-sheet (start-from-else1 (c .before .before) .pre .0 .0)) .actions
 
 part-perform-start-2 : tie.Need-part-perform-start-2
-part-perform-start-2 c = let o = in-order (fits-in (start-from-else1 (c .before .before) .pre .0 .0)) in omega arith
+part-perform-start-2 c = let o = in-order (in-sheet (start-from-else1 (c .before .before) .pre .0 .0)) in omega arith
 
 part-perform-end-2 : tie.Need-part-perform-end-2
-part-perform-end-2 c = let o = in-order (fits-in (start-from-else1 (c .before .before) .pre .0 .0)) in omega arith
+part-perform-end-2 c = let o = in-order (in-sheet (start-from-else1 (c .before .before) .pre .0 .0)) in omega arith
 
 perform-requires : tie.Need-perform-requires
 perform-requires c κs =
@@ -49,7 +50,7 @@ perform-requires c κs =
     let at-start = start-from-else1 at-if1 in
     let O = at-start .pre .0 .0 in
     let a = action-of-code (now (at-start .args .s)) (at-start .args .entry) _ (at-start .pre .1) refl (at-if1 .if1 .left) in
-    (rw (O .layout-is) (performable (now (at-start .args .s)) (O .accepted) (at-start .args .entry) a), fits-in O .f)
+    (rw (O .layout-is) (performable (now (at-start .args .s)) (O .accepted) (at-start .args .entry) a), in-sheet O .f)
 
 returns-2 : tie.Need-returns-2
 returns-2 c =

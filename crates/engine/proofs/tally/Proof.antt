@@ -11,7 +11,8 @@ use Rattle.leaves.specs.Tallies.{possibleIn, Tallied}
 use Rattle.leaves.specs.Endable.{FinalsKnown}
 use Rattle.sheet.specs.Layout.{actionsIn}
 use Rattle.engine.specs.Tables.{window, Only, truthsFrom, finalsFrom, truthsAt, finalsAt, countsFrom, countsAt}
-use Rattle.engine.proofs.Parts.{in-order, fits-in, actions-long, programs-long}
+use Rattle.sheet.proofs.Parts.{in-order, actions-long, programs-long}
+use Rattle.sheet.proofs.Found.{in-sheet}
 use Rattle.engine.proofs.Tables.{counts-long}
 use Rattle.engine.proofs.Windows.{window-at, only-put, window-put}
 use Rattle.engine.proofs.Judging.{runs, many, seenBy, runs-lower, decides-by, surveyed}
@@ -60,22 +61,22 @@ abbrev counts-from-from-tallies : tie.After-tallies → tie.After-counts-from
 counts-from-from-tallies c = counts-from-from-tallies-requires (c .before)
 
 sub-tallies-2 : tie.Need-sub-tallies-2
-sub-tallies-2 c = in-order (fits-in (start-from-counts-from (c .before) .pre .0)) .programs
+sub-tallies-2 c = in-order (in-sheet (start-from-counts-from (c .before) .pre .0)) .programs
 
 part-tallies-start-2 : tie.Need-part-tallies-start-2
-part-tallies-start-2 c = let o = in-order (fits-in (start-from-counts-from (c .before) .pre .0)) in omega arith
+part-tallies-start-2 c = let o = in-order (in-sheet (start-from-counts-from (c .before) .pre .0)) in omega arith
 
 part-tallies-end-2 : tie.Need-part-tallies-end-2
-part-tallies-end-2 c = in-order (fits-in (start-from-counts-from (c .before) .pre .0)) .end
+part-tallies-end-2 c = in-order (in-sheet (start-from-counts-from (c .before) .pre .0)) .end
 
 sub-tallies-3 : tie.Need-sub-tallies-3
-sub-tallies-3 c = in-order (fits-in (start-from-counts-from (c .before .before) .pre .0)) .actions
+sub-tallies-3 c = in-order (in-sheet (start-from-counts-from (c .before .before) .pre .0)) .actions
 
 part-tallies-start-3 : tie.Need-part-tallies-start-3
-part-tallies-start-3 c = let o = in-order (fits-in (start-from-counts-from (c .before .before) .pre .0)) in omega arith
+part-tallies-start-3 c = let o = in-order (in-sheet (start-from-counts-from (c .before .before) .pre .0)) in omega arith
 
 part-tallies-end-3 : tie.Need-part-tallies-end-3
-part-tallies-end-3 c = let o = in-order (fits-in (start-from-counts-from (c .before .before) .pre .0)) in omega arith
+part-tallies-end-3 c = let o = in-order (in-sheet (start-from-counts-from (c .before .before) .pre .0)) in omega arith
 
 sub-tallies-4 : tie.Need-sub-tallies-4
 sub-tallies-4 c = search needs
@@ -112,8 +113,8 @@ tallies-requires c κs =
     let T = window-at x (truthsFrom d) (x + 512) 512 flags e (omega arith) in
     let F = window-at (x + 512) (finalsFrom d) (x + 512 + 260) 260 flags (omega (arith, e)) (omega arith) in
     let N = window-at y (countsFrom d) (y + 260) 260 numbers (at-counts-from .counts-from .ensures .0) (omega arith) in
-    let r = programs-long _ _ (fits-in O) in (
-      (r .0, r .1, r .2, actions-long _ _ (fits-in O), ap length N ∙ counts-long (J .prepared) d),
+    let r = programs-long _ _ (in-sheet O) in (
+      (r .0, r .1, r .2, actions-long _ _ (in-sheet O), ap length N ∙ counts-long (J .prepared) d),
       (
         runs-lower O,
         subst₂ (λ (t f : List Bool). FinalsKnown (runs (now (at-start .args .s)) (m .layout) (m .interrupts)) (many (m .layout) (m .interrupts)) t (at-start .args .st .running) f) (sym T) (sym F)

@@ -1,26 +1,27 @@
--- The check's answer decides. Assumes nothing.
+-- What was found decides. Assumes nothing.
 use denote.Ref.{now}
 use mathlib.Core.Path.{sym, _∙_}
 use lib.ListN.{length}
+use Rattle.sheet.proofs.Found.{found-of, refused-by}
 use Rattle.planner.proofs.Demands.{sheet-refused, sheet-untouched}
 use borrow.Author.Needs.{needs}
 use Rattle.planner.proofs.plan.Statement.{statement}
 use Rattle.planner.proofs.plan.Tie as tie
 
-check-requires : tie.Need-check-requires
-check-requires c κs = search needs
+inspect-requires : tie.Need-inspect-requires
+inspect-requires c κs = search needs
 
-enum-known-words : tie.Need-enum-known-words
-enum-known-words c = search needs
+enum-known-found : tie.Need-enum-known-found
+enum-known-found c = search needs
 
-plan-accepted-requires : tie.Need-plan-accepted-requires
-plan-accepted-requires c κs =
-    let at-words = c .before .before .before in
-    let at-check = at-words .before .before in
-    sym (at-check .check .ensures) ∙ at-words .words .given .1
+plan-found-requires : tie.Need-plan-found-requires
+plan-found-requires c κs =
+    let at-found = c .before .before .before in
+    let at-inspect = at-found .before .before in
+    found-of _ (sym (at-found .found .given .1) ∙ at-inspect .inspect .ensures)
 
-enum-known-number : tie.Need-enum-known-number
-enum-known-number c = search needs
+enum-known-why : tie.Need-enum-known-why
+enum-known-why c = search needs
 
 same-length : tie.Need-same-length
 same-length c = search needs
@@ -33,23 +34,23 @@ returns c = search needs
 
 returns-2 : tie.Need-returns-2
 returns-2 c =
-    let at-check = c .before .before .before in
-    let at-start = at-check .before .before .before .before in
+    let at-inspect = c .before .before .before in
+    let at-start = at-inspect .before .before .before .before in
     let s = now (at-start .args .s) in
     let work = now (at-start .args .work) in
     let trace = now (at-start .args .trace) in
-    let q = sym (at-check .check .ensures) ∙ c .before .number .given .1 in
-    let u = sheet-untouched s _ _ q work trace in
-    (sym (sheet-refused s _ _ q (length work) (length trace)), (sym (u .0), sym (u .1)))
+    let q = refused-by s (sym (c .before .why .given .1) ∙ at-inspect .inspect .ensures) in
+    let u = sheet-untouched s _ q work trace in
+    (sym (sheet-refused s _ q (length work) (length trace)), (sym (u .0), sym (u .1)))
 
 pub plan-spec : {M : Type 1} → statement M
 plan-spec =
     tie.close
     (tie.spec
-    check-requires
-    enum-known-words
-    plan-accepted-requires
-    enum-known-number
+    inspect-requires
+    enum-known-found
+    plan-found-requires
+    enum-known-why
     same-length
     same-length-2
     returns

@@ -1,47 +1,40 @@
--- The check's answer decides; F and D of an accepted sheet are where its layout says. Assumes nothing.
+-- F and D of an accepted sheet are where its layout says. Assumes nothing.
 use denote.Ref.{now}
 use mathlib.Core.Path.{sym, ap, _∙_}
 use Rattle.sheet.specs.declared.Layout.{Layout}
+use Rattle.sheet.proofs.Found.{found-of, refused-by, answered}
 use Rattle.planner.specs.Sizes.{sizedAs, sizesOf}
-use Rattle.planner.specs.declared.Sized.{Sized}
 use Rattle.planner.specs.declared.Sized.the-variants as sized
 use borrow.Author.Needs.{needs}
 use Rattle.planner.proofs.sizes.Statement.{statement}
 use Rattle.planner.proofs.sizes.Tie as tie
 
-abbrev known-by : Layout → Sized
-known-by l = sized.Known (l .f) (l .d)
+inspect-requires : tie.Need-inspect-requires
+inspect-requires c κs = search needs
 
-check-requires : tie.Need-check-requires
-check-requires c κs = search needs
+enum-known-found : tie.Need-enum-known-found
+enum-known-found c = search needs
 
-enum-told : tie.Need-enum-told
-enum-told c = search needs
-
-layout-of-requires : tie.Need-layout-of-requires
-layout-of-requires c κs = (_, sym (c .before .before .check .ensures) ∙ c .enum-told .given .1)
-
-enum-known-number : tie.Need-enum-known-number
-enum-known-number c = search needs
+enum-known-why : tie.Need-enum-known-why
+enum-known-why c = search needs
 
 returns : tie.Need-returns
 unfolding sizesOf
 returns c =
-    let at-check = c .before .before .before in
-    let at-start = at-check .before .before in
+    let at-inspect = c .before .before .before .before in
+    let at-start = at-inspect .before .before in
     let s = now (at-start .args .s) in
-    let q = sym (at-check .check .ensures) ∙ c .before .enum-told .given .1 in
-    ap known-by (c .layout-of .ensures .0) ∙ sym (ap (sizedAs s) q)
+    let O = found-of s (sym (c .before .before .found .given .1) ∙ at-inspect .inspect .ensures) in
+    ap (λ (l : Layout). sized.Known (l .f) (l .d)) (O .layout-is) ∙ sym (ap (sizedAs s) (answered O))
 
 returns-2 : tie.Need-returns-2
 unfolding sizesOf
 returns-2 c =
-    let at-check = c .before .before .before in
-    let at-start = at-check .before .before in
+    let at-inspect = c .before .before .before in
+    let at-start = at-inspect .before .before in
     let s = now (at-start .args .s) in
-    sym (ap (sizedAs s) (sym (at-check .check .ensures) ∙ c .before .number .given .1))
+    sym (ap (sizedAs s) (refused-by s (sym (c .before .why .given .1) ∙ at-inspect .inspect .ensures)))
 
 pub sizes-spec : {M : Type 1} → statement M
 sizes-spec =
-    tie.close
-    (tie.spec check-requires enum-told layout-of-requires enum-known-number returns returns-2)
+    tie.close (tie.spec inspect-requires enum-known-found enum-known-why returns returns-2)

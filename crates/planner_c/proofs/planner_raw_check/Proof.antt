@@ -11,8 +11,8 @@ check-requires c κs = search needs
 enum-known-w : tie.Need-enum-known-w
 enum-known-w c = search needs
 
-enum-known-n : tie.Need-enum-known-n
-enum-known-n c = search needs
+enum-known-why : tie.Need-enum-known-why
+enum-known-why c = search needs
 
 returns : tie.Need-returns
 returns c =
@@ -21,9 +21,9 @@ returns c =
 
 returns-2 : tie.Need-returns-2
 returns-2 c =
-    let q = sym (c .before .before .before .check .ensures) ∙ c .before .n .given .1 in
+    let q = sym (c .before .before .before .check .ensures) ∙ c .before .why .given .1 in
     (sym (ap numberOf q), (sym (ap wordsOf q), sym (ap placeOf q)))
 
 pub planner-raw-check-spec : {M : Type 1} → statement M
 planner-raw-check-spec =
-    tie.close (tie.spec check-requires enum-known-w enum-known-n returns returns-2)
+    tie.close (tie.spec check-requires enum-known-w enum-known-why returns returns-2)

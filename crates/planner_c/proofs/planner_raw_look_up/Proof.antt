@@ -11,8 +11,8 @@ look-up-requires c κs = search needs
 enum-known-m : tie.Need-enum-known-m
 enum-known-m c = search needs
 
-enum-known-n : tie.Need-enum-known-n
-enum-known-n c = search needs
+enum-known-why : tie.Need-enum-known-why
+enum-known-why c = search needs
 
 returns : tie.Need-returns
 returns c =
@@ -21,9 +21,9 @@ returns c =
 
 returns-2 : tie.Need-returns-2
 returns-2 c =
-    let q = sym (c .before .before .before .look-up .ensures) ∙ c .before .n .given .1 in
+    let q = sym (c .before .before .before .look-up .ensures) ∙ c .before .why .given .1 in
     (sym (ap lookNumber q), (sym (ap lookSize q), sym (ap lookInitial q), sym (ap lookPlace q)))
 
 pub planner-raw-look-up-spec : {M : Type 1} → statement M
 planner-raw-look-up-spec =
-    tie.close (tie.spec look-up-requires enum-known-m enum-known-n returns returns-2)
+    tie.close (tie.spec look-up-requires enum-known-m enum-known-why returns returns-2)

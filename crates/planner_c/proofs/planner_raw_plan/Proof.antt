@@ -11,8 +11,8 @@ plan-requires c κs = search needs
 enum-known-moves : tie.Need-enum-known-moves
 enum-known-moves c = search needs
 
-enum-known-m : tie.Need-enum-known-m
-enum-known-m c = search needs
+enum-known-why : tie.Need-enum-known-why
+enum-known-why c = search needs
 
 same-length : tie.Need-same-length
 same-length c = search needs
@@ -21,8 +21,8 @@ same-length-2 : tie.Need-same-length-2
 same-length-2 c = search needs
 
 -- Places: what stands before a need, by name. Written by `named`: run it again when the code changes.
-abbrev plan-from-m : tie.After-m → tie.After-plan
-plan-from-m c = c .before .before .before .before .before .before
+abbrev plan-from-why : tie.After-why → tie.After-plan
+plan-from-why c = c .before .before .before .before .before .before
 
 abbrev plan-from-moves : tie.After-moves → tie.After-plan
 plan-from-moves c = c .before .before .before .before .before .before
@@ -41,8 +41,8 @@ same-length-4 c = search needs
 
 returns-2 : tie.Need-returns-2
 returns-2 c =
-    let at-plan = plan-from-m (c .before) in
-    let q = sym (at-plan .plan .ensures .0) ∙ c .before .m .given .1 in
+    let at-plan = plan-from-why (c .before) in
+    let q = sym (at-plan .plan .ensures .0) ∙ c .before .why .given .1 in
     (sym (ap planNumber q), ((sym (ap planMoves q), sym (ap planTransitions q), sym (ap planPlace q)), (at-plan .plan .ensures .1 .0, at-plan .plan .ensures .1 .1)))
 
 pub planner-raw-plan-spec : {M : Type 1} → statement M
@@ -51,7 +51,7 @@ planner-raw-plan-spec =
     (tie.spec
     plan-requires
     enum-known-moves
-    enum-known-m
+    enum-known-why
     same-length
     same-length-2
     returns

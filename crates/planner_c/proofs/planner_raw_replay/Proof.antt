@@ -14,8 +14,8 @@ enum-told c = search needs
 enum-told-2 : tie.Need-enum-told-2
 enum-told-2 c = search needs
 
-enum-known-n : tie.Need-enum-known-n
-enum-known-n c = search needs
+enum-known-why : tie.Need-enum-known-why
+enum-known-why c = search needs
 
 same-length : tie.Need-same-length
 same-length c = search needs
@@ -39,13 +39,13 @@ same-length-3 : tie.Need-same-length-3
 same-length-3 c = search needs
 
 -- Places: what stands before a need, by name. Written by `named`: run it again when the code changes.
-abbrev replay-from-n : tie.After-n → tie.After-replay
-replay-from-n c = c .before .before .before .before
+abbrev replay-from-why : tie.After-why → tie.After-replay
+replay-from-why c = c .before .before .before .before
 
 returns-3 : tie.Need-returns-3
 returns-3 c =
-    let at-replay = replay-from-n (c .before) in
-    let q = sym (at-replay .replay .ensures .0) ∙ c .before .n .given .1 in
+    let at-replay = replay-from-why (c .before) in
+    let q = sym (at-replay .replay .ensures .0) ∙ c .before .why .given .1 in
     (sym (ap replyNumber q), ((sym (ap replyYes q), sym (ap replyPlace q)), at-replay .replay .ensures .1))
 
 pub planner-raw-replay-spec : {M : Type 1} → statement M
@@ -55,7 +55,7 @@ planner-raw-replay-spec =
     replay-requires
     enum-told
     enum-told-2
-    enum-known-n
+    enum-known-why
     same-length
     returns
     same-length-2

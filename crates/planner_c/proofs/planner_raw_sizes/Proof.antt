@@ -11,8 +11,8 @@ sizes-requires c κs = search needs
 enum-known-f : tie.Need-enum-known-f
 enum-known-f c = search needs
 
-enum-known-n : tie.Need-enum-known-n
-enum-known-n c = search needs
+enum-known-why : tie.Need-enum-known-why
+enum-known-why c = search needs
 
 returns : tie.Need-returns
 returns c =
@@ -21,9 +21,9 @@ returns c =
 
 returns-2 : tie.Need-returns-2
 returns-2 c =
-    let q = sym (c .before .before .before .sizes .ensures) ∙ c .before .n .given .1 in
+    let q = sym (c .before .before .before .sizes .ensures) ∙ c .before .why .given .1 in
     (sym (ap sizesNumber q), (sym (ap sizesFluents q), sym (ap sizesBound q), sym (ap sizesPlace q)))
 
 pub planner-raw-sizes-spec : {M : Type 1} → statement M
 planner-raw-sizes-spec =
-    tie.close (tie.spec sizes-requires enum-known-f enum-known-n returns returns-2)
+    tie.close (tie.spec sizes-requires enum-known-f enum-known-why returns returns-2)

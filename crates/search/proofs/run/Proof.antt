@@ -6,16 +6,13 @@ use lib.ListN.{length, replicate}
 use Rattle.sheet.specs.declared.Layout.{Layout}
 use Rattle.golog.specs.declared.State.{State}
 use Rattle.demands.specs.Decoded.{firstOf, boundOf}
+use Rattle.engine.proofs.Tables.{blank}
 use Rattle.search.specs.Outcome.{Reported}
 use Rattle.search.specs.Searching.{verdictFrom}
-use Rattle.engine.proofs.Tables.{blank}
 use Rattle.search.proofs.Starting.{ready}
 use borrow.Author.Needs.{needs}
 use Rattle.search.proofs.run.Statement.{statement}
 use Rattle.search.proofs.run.Tie as tie
-
-machine-of-requires : tie.Need-machine-of-requires
-machine-of-requires c κs = search needs
 
 put-first-requires : tie.Need-put-first-requires
 put-first-requires c κs = search needs
@@ -30,14 +27,14 @@ slice-aggregate-prepare-2 : tie.Need-slice-aggregate-prepare-2
 slice-aggregate-prepare-2 c = search needs
 
 -- Places: what stands before a need, by name. Written by `named`: run it again when the code changes.
-abbrev start-from-machine-of : tie.After-machine-of → tie.Start
-start-from-machine-of c = c .before .before .before .before .before
+abbrev start-from-put-first : tie.After-put-first → tie.Start
+start-from-put-first c = c .before .before .before .before .before .before
 
-abbrev machine-of-from-initial-of : tie.After-initial-of → tie.After-machine-of
-machine-of-from-initial-of c = c .before .before .before .before .before
+abbrev start-from-initial-of : tie.After-initial-of → tie.Start
+start-from-initial-of c = start-from-put-first (c .before .before .before)
 
 abbrev prepare-from-explore-requires : tie.After-numbers3 → tie.After-prepare
-prepare-from-explore-requires c = c .before .before .before .before .before .before
+prepare-from-explore-requires c = c .before .before .before .before .before .before .before
 
 abbrev initial-of-from-explore : tie.After-explore → tie.After-initial-of
 initial-of-from-explore c = (prepare-from-explore-requires (c .before)) .before .before .before
@@ -46,7 +43,7 @@ abbrev explore-from-clear : tie.After-clear → tie.After-explore
 explore-from-clear c = c .before .before .before .before .before .before .before .before
 
 prepare-requires : tie.Need-prepare-requires
-prepare-requires c κs = (machine-of-from-initial-of (c .before .before) .machine-of .ensures, refl, refl, blank)
+prepare-requires c κs = (start-from-initial-of (c .before .before) .pre .0, refl, refl, blank)
 
 slice-aggregate-explore : tie.Need-slice-aggregate-explore
 slice-aggregate-explore c = search needs
@@ -59,14 +56,13 @@ explore-requires c κs =
     let at-prepare = prepare-from-explore-requires c in
     let at-initial-of = at-prepare .before .before .before in
     let at-put-first = at-initial-of .before .before .before in
-    let at-machine-of = at-put-first .before .before in
-    let at-start = start-from-machine-of at-machine-of in
+    let at-start = start-from-put-first at-put-first in
     let a = at-start .args in (
       at-prepare .prepare .ensures,
       (
         _,
-        ready (now (a .moves)) (length (now (a .trace))) (a .free) (at-initial-of .initial-of .result) (a .l) (at-machine-of .machine-of .ensures)
-            (at-start .pre .0 .1) (at-put-first .put-first .ensures .0) (at-start .pre .1 .1),
+        ready (now (a .moves)) (length (now (a .trace))) (a .free) (at-initial-of .initial-of .result) (at-start .pre .0) (at-put-first .put-first .ensures .0)
+            (at-start .pre .2),
       ),
     )
 
@@ -84,18 +80,16 @@ returns c =
     let at-explore = explore-from-clear (c .before .before) in
     let at-initial-of = initial-of-from-explore at-explore in
     let at-put-first = at-initial-of .before .before .before in
-    let at-machine-of = at-put-first .before .before in
-    let at-start = start-from-machine-of at-machine-of in
+    let at-start = start-from-put-first at-put-first in
     let a = at-start .args in
     let s = now (a .s) in
-    let l = a .l in
+    let left = a .found .layout .d in
     let moves = now (a .moves) in
     let trace = now (a .trace) in
-    let R = ready moves (length trace) (a .free) (at-initial-of .initial-of .result) l (at-machine-of .machine-of .ensures) (at-start .pre .0 .1) (at-put-first .put-first .ensures .0)
-    (at-start .pre .1 .1) in
-    let e : boundOf s ≡ l .d = ap (λ (l : Layout). l .d) (sym (at-start .pre .0 .1)) in
+    let R = ready moves (length trace) (a .free) (at-initial-of .initial-of .result) (at-start .pre .0) (at-put-first .put-first .ensures .0) (at-start .pre .2) in
+    let e : boundOf s ≡ left = ap (λ (l : Layout). l .d) (sym (at-start .pre .0 .layout-is)) in
     let X : State → ℕ → Type 0 = λ st n. Reported 0 0 trace (at-explore .explore .last .1 .0) (at-explore .explore .result) (verdictFrom s (a .free) n ((firstOf s .0, st), moves)) in (
-      subst (λ (n : ℕ). X (firstOf s .1) n) (sym e) (subst (λ (st : State). X st (l .d)) (at-initial-of .initial-of .ensures) (at-explore .explore .ensures .0 _ R)),
+      subst (λ (n : ℕ). X (firstOf s .1) n) (sym e) (subst (λ (st : State). X st left) (at-initial-of .initial-of .ensures) (at-explore .explore .ensures .0 _ R)),
       c .before .before .clear .ensures ∙ ap (λ (n : ℕ). replicate n 0) (at-explore .explore .ensures .1 ∙ at-put-first .put-first .ensures .1),
     )
 
@@ -103,7 +97,6 @@ pub run-spec : {M : Type 1} → statement M
 run-spec =
     tie.close
     (tie.spec
-    machine-of-requires
     put-first-requires
     initial-of-requires
     slice-aggregate-prepare

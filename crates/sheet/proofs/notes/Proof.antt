@@ -1,70 +1,65 @@
 -- Both branches hand out a part of the caller's slice from its start; the check's answer decides its length. Assumes nothing.
 use Prim.Native.Nat.{ℕ}
-use mathlib.Core.Path.{sym, _∙_, ap, refl}
+use mathlib.Core.Path.{refl, sym, _∙_, ap}
 use native.Mathlib.Omega.{arith}
+use denote.Ref.{now}
 use lib.ListN.{take}
 use lib.Seq.{length-take-le}
-use denote.Ref.{now}
 use Rattle.sheet.specs.Check.{numberOf, placeOf}
 use Rattle.sheet.specs.Notes.{notesCount}
 use Rattle.sheet.specs.declared.Layout.{Layout}
+use Rattle.sheet.proofs.Parts.{in-order}
+use Rattle.sheet.proofs.Found.{found-of, refused-by, in-sheet, answered}
 use borrow.Author.Needs.{needs}
 use Rattle.sheet.proofs.notes.Statement.{statement}
 use Rattle.sheet.proofs.notes.Tie as tie
 
-check-requires : tie.Need-check-requires
-check-requires c κs = search needs
+inspect-requires : tie.Need-inspect-requires
+inspect-requires c κs = search needs
 
-enum-told : tie.Need-enum-told
-enum-told c = search needs
-
-layout-of-requires : tie.Need-layout-of-requires
-layout-of-requires c κs = (_, sym (c .before .before .check .ensures) ∙ c .enum-told .given .1)
-
--- Places: what stands before a need, by name. Written by `named`: run it again when the code changes.
-abbrev start-from-layout-of : tie.After-layout-of → tie.Start
-start-from-layout-of c = c .before .before .before .before .before
+enum-known-found : tie.Need-enum-known-found
+enum-known-found c = search needs
 
 slice-aggregate-result : tie.Need-slice-aggregate-result
 slice-aggregate-result c =
-    let at-layout-of = c .before in
-    let at-start = start-from-layout-of at-layout-of in
-    let f = at-layout-of .layout-of .ensures .1 in
-    sym (length-take-le (at-layout-of .layout-of .result .fluents) (now (at-start .args .s)) (omega (arith, f .at-formulas, f .at-effects, f .at-actions, f .at-programs, f .at-end, f .inside)))
+    let at-found = c .before .before .before in
+    let at-inspect = at-found .before .before in
+    let at-start = at-inspect .before .before in
+    let o = in-order (in-sheet (found-of _ (sym (at-found .found .given .1) ∙ at-inspect .inspect .ensures))) in
+    sym (length-take-le (at-found .found .given .0 .0 .layout .fluents) (now (at-start .args .s)) (omega (arith, o .fluents, o .formulas, o .effects, o .actions, o .programs, o .end)))
 
-enum-known-n : tie.Need-enum-known-n
-enum-known-n c = search needs
+enum-known-why : tie.Need-enum-known-why
+enum-known-why c = search needs
 
 slice-aggregate-result-2 : tie.Need-slice-aggregate-result-2
 slice-aggregate-result-2 c = search needs
 
 returns : tie.Need-returns
 returns c =
-    let at-check = c .before .before .before .before in
-    let at-start = at-check .before .before in
+    let at-found = c .before .before .before in
+    let at-inspect = at-found .before .before in
+    let at-start = at-inspect .before .before in
     let s = now (at-start .args .s) in
-    let q = sym (at-check .check .ensures) ∙ c .before .before .enum-told .given .1 in (
-      ap (λ (k : ℕ). take k s) (ap (λ (l : Layout). l .fluents) (c .before .layout-of .ensures .0) ∙ sym (ap (notesCount s) q)),
-      (refl, (sym (ap numberOf q), sym (ap placeOf q))),
-    )
+    let O = found-of s (sym (at-found .found .given .1) ∙ at-inspect .inspect .ensures) in
+    let a = answered O in
+    (ap (λ (k : ℕ). take k s) (ap (λ (l : Layout). l .fluents) (O .layout-is) ∙ sym (ap (notesCount s) a)), (refl, (sym (ap numberOf a), sym (ap placeOf a))))
 
 returns-2 : tie.Need-returns-2
 returns-2 c =
-    let at-check = c .before .before .before .before in
-    let at-start = at-check .before .before in
+    let at-inspect = c .before .before .before .before in
+    let at-start = at-inspect .before .before in
     let s = now (at-start .args .s) in
-    let q = sym (at-check .check .ensures) ∙ c .before .before .n .given .1 in
-    (ap (λ (k : ℕ). take k s) (sym (ap (notesCount s) q)), (refl, (sym (ap numberOf q), sym (ap placeOf q))))
+    let r = refused-by s (sym (c .before .before .why .given .1) ∙ at-inspect .inspect .ensures) in
+    (ap (λ (k : ℕ). take k s) (sym (ap (notesCount s) r)), (refl, (sym (ap numberOf r), sym (ap placeOf r))))
 
 pub notes-spec : {M : Type 1} → statement M
 notes-spec =
     tie.close
     (tie.spec
-    check-requires
-    enum-told
-    layout-of-requires
+    inspect-requires
+    enum-known-found
     slice-aggregate-result
-    enum-known-n
+    enum-known-why
     slice-aggregate-result-2
     returns
     returns-2)

@@ -1,7 +1,8 @@
--- The check's answer decides; the table of an accepted sheet is where its layout says. Assumes nothing.
+-- An accepted sheet's fluents start where its layout says; else the refusal is told. Assumes nothing.
 use denote.Ref.{now}
 use mathlib.Core.Path.{sym, ap, _∙_}
 use Rattle.sheet.specs.declared.Layout.{Layout}
+use Rattle.sheet.proofs.Found.{found-of, refused-by, answered}
 use Rattle.view.specs.View.{openedAs}
 use Rattle.view.specs.declared.Opened.{Opened}
 use borrow.Author.Needs.{needs}
@@ -11,34 +12,30 @@ use Rattle.view.proofs.opened_of.Tie as tie
 abbrev opened-at : Layout → Opened
 opened-at l = record { at = l .fluents; number = 0; place = 0 }
 
-check-requires : tie.Need-check-requires
-check-requires c κs = search needs
+inspect-requires : tie.Need-inspect-requires
+inspect-requires c κs = search needs
 
-enum-told : tie.Need-enum-told
-enum-told c = search needs
+enum-known-found : tie.Need-enum-known-found
+enum-known-found c = search needs
 
-layout-of-requires : tie.Need-layout-of-requires
-layout-of-requires c κs = (_, sym (c .before .before .check .ensures) ∙ c .enum-told .given .1)
-
-enum-known-number : tie.Need-enum-known-number
-enum-known-number c = search needs
+enum-known-why : tie.Need-enum-known-why
+enum-known-why c = search needs
 
 returns : tie.Need-returns
 returns c =
-    let at-check = c .before .before .before in
-    let at-start = at-check .before .before in
+    let at-inspect = c .before .before .before .before in
+    let at-start = at-inspect .before .before in
     let s = now (at-start .args .s) in
-    let q = sym (at-check .check .ensures) ∙ c .before .enum-told .given .1 in
-    ap opened-at (c .layout-of .ensures .0) ∙ sym (ap (openedAs s) q)
+    let O = found-of s (sym (c .before .before .found .given .1) ∙ at-inspect .inspect .ensures) in
+    ap opened-at (O .layout-is) ∙ sym (ap (openedAs s) (answered O))
 
 returns-2 : tie.Need-returns-2
 returns-2 c =
-    let at-check = c .before .before .before in
-    let at-start = at-check .before .before in
+    let at-inspect = c .before .before .before in
+    let at-start = at-inspect .before .before in
     let s = now (at-start .args .s) in
-    sym (ap (openedAs s) (sym (at-check .check .ensures) ∙ c .before .number .given .1))
+    sym (ap (openedAs s) (refused-by s (sym (c .before .why .given .1) ∙ at-inspect .inspect .ensures)))
 
 pub opened-of-spec : {M : Type 1} → statement M
 opened-of-spec =
-    tie.close
-    (tie.spec check-requires enum-told layout-of-requires enum-known-number returns returns-2)
+    tie.close (tie.spec inspect-requires enum-known-found enum-known-why returns returns-2)

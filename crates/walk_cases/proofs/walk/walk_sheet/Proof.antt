@@ -1,20 +1,21 @@
--- What the check answered is what it is said to answer.
+-- What was found of an accepted sheet is its own. Assumes nothing.
 use mathlib.Core.Path.{sym, _∙_}
+use Rattle.sheet.proofs.Found.{found-of}
 use borrow.Author.Needs.{needs}
 use Rattle.walk_cases.proofs.walk.walk_sheet.Statement.{statement}
 use Rattle.walk_cases.proofs.walk.walk_sheet.Tie as tie
 
-check-requires : tie.Need-check-requires
-check-requires c κs = search needs
+inspect-requires : tie.Need-inspect-requires
+inspect-requires c κs = search needs
 
-enum-known-words : tie.Need-enum-known-words
-enum-known-words c = search needs
+enum-known-found : tie.Need-enum-known-found
+enum-known-found c = search needs
 
-slice-aggregate-walk-accepted : tie.Need-slice-aggregate-walk-accepted
-slice-aggregate-walk-accepted c = search needs
+slice-aggregate-walk-lent : tie.Need-slice-aggregate-walk-lent
+slice-aggregate-walk-lent c = search needs
 
-walk-accepted-requires : tie.Need-walk-accepted-requires
-walk-accepted-requires c κs = sym (c .before .before .before .before .check .ensures) ∙ c .before .before .words .given .1
+walk-lent-requires : tie.Need-walk-lent-requires
+walk-lent-requires c κs = found-of _ (sym (c .before .before .found .given .1) ∙ c .before .before .before .before .inspect .ensures)
 
 enum-told : tie.Need-enum-told
 enum-told c = search needs
@@ -35,10 +36,10 @@ pub walk-sheet-spec : {M : Type 1} → statement M
 walk-sheet-spec =
     tie.close
     (tie.spec
-    check-requires
-    enum-known-words
-    slice-aggregate-walk-accepted
-    walk-accepted-requires
+    inspect-requires
+    enum-known-found
+    slice-aggregate-walk-lent
+    walk-lent-requires
     enum-told
     slice-aggregate-text
     text-requires

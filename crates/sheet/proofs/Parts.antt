@@ -1,20 +1,13 @@
--- The tables of an accepted sheet lie in it one behind the other, by any name of its layout; and they are as long as their records.
--- Assumes nothing.
-use mathlib.Core.Path.{_≡_, sym, subst}
-use mathlib.Core.Bool.{Bool}
+-- Where tables are laid out in a sheet they lie in it one behind the other, and are as long as their records. Assumes nothing.
+use mathlib.Core.Path.{_≡_}
 use mathlib.Core.List.{List}
 use Prim.Native.Nat.{ℕ, _-_, _*_, _≤_}
 use native.Mathlib.Omega.{arith}
 use lib.ListN.{length, length-drop}
 use lib.Seq.{length-take-le}
 use Rattle.records.specs.Bytes.{part}
-use Rattle.sheet.specs.Layout.{layoutOf, LaidOut, fluentsIn, formulasIn, actionsIn, programsIn}
-use Rattle.sheet.specs.Check.{Accepts}
+use Rattle.sheet.specs.Layout.{LaidOut, fluentsIn, formulasIn, actionsIn, programsIn}
 use Rattle.sheet.specs.declared.Layout.{Layout}
-use Rattle.sheet.proofs.Accepted.{laid}
-use Rattle.demands.specs.Decoded.{interruptsIn}
-use Rattle.engine.specs.Frames.{Of, frameOf}
-use Rattle.engine.specs.declared.Machine.{Machine}
 
 -- the length of a part that lies in a list
 pub part-length : (s : List ℕ) (a e : ℕ) → a ≤ e → e ≤ length s → length (part s a e) ≡ e - a
@@ -38,24 +31,6 @@ in-order f = record {
   programs = omega (arith, f .at-end);
   end = omega (arith, f .inside);
 }
-
-pub fits-of : (s : List ℕ) (l : Layout) → Accepts s × (l ≡ layoutOf s) → LaidOut l (length s)
-fits-of s l (accepted, e) = subst (λ (x : Layout). LaidOut x (length s)) (sym e) (laid s accepted)
-
--- what holds of a sheet's layout, interrupts and frames holds of those that its machine names, and the other way
-module _ {s : List ℕ} {m : Machine} (O : Of s m) where
-  pub by-machine : (X : Layout → Bool → ℕ → Type 0) → X (layoutOf s) (interruptsIn s) (frameOf s) → X (m .layout) (m .interrupts) (m .frame)
-  by-machine X x =
-      subst (λ (l : Layout). X l (m .interrupts) (m .frame)) (sym (O .layout-is))
-      (subst (λ (b : Bool). X (layoutOf s) b (m .frame)) (sym (O .interrupts-are)) (subst (X (layoutOf s) (interruptsIn s)) (sym (O .frame-is)) x))
-
-  pub of-machine : (X : Layout → Bool → ℕ → Type 0) → X (m .layout) (m .interrupts) (m .frame) → X (layoutOf s) (interruptsIn s) (frameOf s)
-  of-machine X x =
-      subst (X (layoutOf s) (interruptsIn s)) (O .frame-is)
-      (subst (λ (b : Bool). X (layoutOf s) b (m .frame)) (O .interrupts-are) (subst (λ (l : Layout). X l (m .interrupts) (m .frame)) (O .layout-is) x))
-
-  pub fits-in : LaidOut (m .layout) (length s)
-  fits-in = fits-of s (m .layout) (O .accepted, O .layout-is)
 
 module _ (s : List ℕ) (l : Layout) (f : LaidOut l (length s)) where
   pub fluents-long : (2 * l .f ≤ length (fluentsIn s l)) × (l .f ≤ 32)

@@ -1,14 +1,10 @@
--- The words lent are as many as the check said, which is document 01's figure.
+-- The words lent are as many as were found to be required. Assumes nothing.
 use denote.Ref.{now}
-use mathlib.Core.Path.{sym, _∙_}
+use mathlib.Core.Path.{sym}
 use lib.Seq.{length-take-le}
-use Rattle.sheet.proofs.Accepted.{ruled}
 use borrow.Author.Needs.{needs}
-use Rattle.walk_cases.proofs.walk.walk_accepted.Statement.{statement}
-use Rattle.walk_cases.proofs.walk.walk_accepted.Tie as tie
-
-layout-of-requires : tie.Need-layout-of-requires
-layout-of-requires c κs = search needs
+use Rattle.walk_cases.proofs.walk.walk_lent.Statement.{statement}
+use Rattle.walk_cases.proofs.walk.walk_lent.Tie as tie
 
 slice-aggregate-text : tie.Need-slice-aggregate-text
 slice-aggregate-text c = search needs
@@ -24,20 +20,17 @@ slice-relend-prefix-walk-from c = search needs
 
 -- Places: what stands before a need, by name. Written by `named`: run it again when the code changes.
 abbrev start-from-else1 : tie.Else1 → tie.Start
-start-from-else1 c = c .before .before .before .before .before
+start-from-else1 c = c .before .before .before .before
 
 slice-aggregate-walk-from : tie.Need-slice-aggregate-walk-from
 slice-aggregate-walk-from c =
     let at-start = start-from-else1 (c .before) in
-    sym (length-take-le (at-start .args .words) (now (at-start .args .work)) (c .before .if1 .left))
+    sym (length-take-le (at-start .args .found .words) (now (at-start .args .work)) (c .before .if1 .left))
 
 walk-from-requires : tie.Need-walk-from-requires
 walk-from-requires c κs =
     let at-start = start-from-else1 (c .before) in
-    let s = now (at-start .args .s) in
-    let w = at-start .args .words in
-    let p = at-start .pre in
-    (((w, p), c .before .before .layout-of .ensures .0), length-take-le w (now (at-start .args .work)) (c .before .if1 .left) ∙ ruled s (w, p) .figure)
+    (at-start .pre, length-take-le (at-start .args .found .words) (now (at-start .args .work)) (c .before .if1 .left))
 
 same-length : tie.Need-same-length
 same-length c = search needs
@@ -45,11 +38,10 @@ same-length c = search needs
 returns-2 : tie.Need-returns-2
 returns-2 c = search needs
 
-pub walk-accepted-spec : {M : Type 1} → statement M
-walk-accepted-spec =
+pub walk-lent-spec : {M : Type 1} → statement M
+walk-lent-spec =
     tie.close
     (tie.spec
-    layout-of-requires
     slice-aggregate-text
     text-requires
     returns
