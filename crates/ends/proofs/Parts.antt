@@ -3,7 +3,7 @@
 use mathlib.Core.Path.{_≡_, refl, sym, ap, ap₂, _∙_}
 use mathlib.Core.Bool.{Bool, true, false, not, cond, _&&_, _||_}
 use mathlib.Core.List.{List}
-use Prim.Native.Nat.{ℕ, _+_, _*_, _≤_}
+use Prim.Native.Nat.{ℕ, _+_, _*_, _≤_, _<_}
 use native.Mathlib.Omega.{arith}
 use lib.Dec.{eqb}
 use lib.ListN.{getD}
@@ -59,7 +59,7 @@ module _ (finals endable : List Bool) (counts : List ℕ) where
     few = omega arith;
   }
 
-  pub total-leaf : {g : Rest} {n i j : ℕ} {x y : Bool} → g ≡ leaf j → i ≡ j → n ≡ getD counts i 0 → n ≤ 4294967295 → x ≡ getD finals i true → y ≡ getD endable i true
+  pub total-leaf : {g : Rest} {n i j : ℕ} {x y : Bool} → g ≡ leaf j → i ≡ j → n ≡ getD counts i 0 → n < 4294967296 → x ≡ getD finals i true → y ≡ getD endable i true
       → Totalled finals endable counts g (record { done = x; endable = y; count = n; soon = not (eqb n 0) })
   unfolding countByTable soonByTable nodes
   total-leaf {n = n} {j = j} e ei en small ex ey =

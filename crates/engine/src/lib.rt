@@ -10,16 +10,17 @@ ghost use lib.ListN.{length, getD, replicate};
 ghost use Rattle.height.specs.Work.{workWords};
 ghost use Rattle.sheet.specs.Check.{Accepts};
 ghost use Rattle.sheet.specs.Layout.{layoutOf};
-ghost use Rattle.records.specs.Records.{programAt};
+ghost use Rattle.records.specs.Records.{programAt, ProgramTable};
 ghost use Rattle.golog.specs.World.{after};
 ghost use Rattle.golog.specs.Prog.{Prog};
 ghost use Rattle.golog.specs.Transitions.{Configuration, Transition, isNone};
 ghost use Rattle.golog.specs.declared.State.{State};
 ghost use Rattle.demands.specs.Decoded.{worldOf, startingWith, initialOf, firstOf, boundOf};
 ghost use Rattle.demands.specs.Compact.{levelsOf};
+ghost use Rattle.kinds.specs.Programs.{finalBy};
 ghost use Rattle.remaining.specs.Rest.{Rest, AllLower};
 ghost use Rattle.remaining.specs.Extended.{extended, top};
-ghost use Rattle.leaves.specs.Tallies.{extendedSize, finalBy};
+ghost use Rattle.leaves.specs.Tallies.{extendedSize};
 ghost use Rattle.leaves.specs.Endable.{Skips, FinalsKnown};
 ghost use Rattle.words.specs.Words.{At, Stands};
 ghost use Rattle.ends.specs.Ends.{Totalled};
@@ -189,9 +190,9 @@ fn final_by(flags: &[bool], r: Program, running: bool) -> bool
     requires { ⌜ length (now flags) ≡ 1032 ⌝ }
     ensures { λ f. ⌜ f ≡ finalBy r (truthsIn (now (flags .entry))) running (finalsIn (now (flags .entry))) ⌝ }
 {
-    let held = &flags[..512];
+    let truths = &flags[..512];
     let finals = &flags[512..772];
-    leaves::final_at(r, held, running, finals)
+    kinds::programs::final_by(r, truths, running, finals)
 }
 
 // Looks at the records whose finality depends on the state, and at no others.
@@ -203,7 +204,7 @@ fn mark_finals(
     skips: &[u32],
     running: bool,
 )
-    requires { ⌜ (8 * n ≤ length (now programs)) × (1 ≤ n) × (n ≤ 256) × (length (now flags) ≡ 1032) ⌝ }
+    requires { ⌜ ProgramTable (now programs) n × (length (now flags) ≡ 1032) ⌝ }
     requires { ⌜ AllLower (extended interrupts (programAt (now programs)) n)
         × Skips (extended interrupts (programAt (now programs)) n) (extendedSize interrupts n) (finalsIn (now flags)) (now skips) ⌝ }
     ensures { λ _. ⌜ FinalsKnown (extended interrupts (programAt (now (programs .entry))) n) (extendedSize interrupts n) (truthsIn (now (flags .exit))) running (finalsIn (now (flags .exit))) ⌝ }
@@ -211,12 +212,13 @@ fn mark_finals(
     ensures { λ _. ⌜ ((i : ℕ) → extendedSize interrupts n ≤ i → getD (finalsIn (now (flags .exit))) i true ≡ getD (finalsIn (now (flags .entry))) i true) ⌝ }
 {
     let m = leaves::places_of(n, interrupts);
-    let mut i = leaves::skip_in(skips, 0, m);
+    let end = m as u32;
+    let mut i = records::wide32(records::number_in(skips, 0, end));
     while i < m {
         let r = leaves::record_at(programs, n, interrupts, i);
         let f = final_by(flags, r, running);
         flags[512 + i] = f;
-        i = leaves::skip_in(skips, i + 1, m);
+        i = records::wide32(records::number_in(skips, i + 1, end));
     }
 }
 
@@ -230,7 +232,7 @@ fn judge(flags: &mut [bool], numbers: &[u32], s: &[u8], m: Machine, st: State)
     let b = l.effects;
     let c = l.programs;
     let d = l.end;
-    state::truths(&s[a..b], l.q, st, &mut flags[..512]);
+    state::fill_truths(&s[a..b], l.q, st, &mut flags[..512]);
     settle(flags);
     let skips = &numbers[260..];
     mark_finals(flags, &s[c..d], l.p, m.interrupts, skips, st.running);
@@ -264,7 +266,7 @@ fn tally(numbers: &mut [u32], flags: &[bool], s: &[u8], m: Machine, st: State)
     let a = l.actions;
     let b = l.programs;
     let c = l.end;
-    let held = &flags[..512];
+    let truths = &flags[..512];
     let finals = &flags[512..772];
     leaves::tallies(
         &mut numbers[..260],
@@ -273,7 +275,7 @@ fn tally(numbers: &mut [u32], flags: &[bool], s: &[u8], m: Machine, st: State)
         m.interrupts,
         &s[a..b],
         l.a,
-        held,
+        truths,
         st.running,
         finals,
     );
@@ -317,9 +319,9 @@ pub fn survey(
     }
 }
 
-// The state after a transition, where `held` has what the formulas say in the state before it.
-fn state_after(s: &[u8], m: Machine, held: &[bool], entry: u32, st: State) -> State
-    requires { ⌜ Of (now s) m × AreTruths (worldOf (now s)) st (layoutOf (now s) .q) (now held) ⌝ }
+// The state after a transition, where `truths` has what the formulas say in the state before it.
+fn state_after(s: &[u8], m: Machine, truths: &[bool], entry: u32, st: State) -> State
+    requires { ⌜ Of (now s) m × AreTruths (worldOf (now s)) st (layoutOf (now s) .q) (now truths) ⌝ }
     requires { ⌜ ((x : Option ℕ) × Coded (now s) entry x) ⌝ }
     ensures { λ r. ⌜ ((x : Option ℕ) → Coded (now (s .entry)) entry x → r ≡ after (worldOf (now (s .entry))) x st) ⌝ }
 {
@@ -330,7 +332,7 @@ fn state_after(s: &[u8], m: Machine, held: &[bool], entry: u32, st: State) -> St
     let a = l.effects;
     let b = l.actions;
     let c = l.programs;
-    state::perform(&s[a..b], &s[b..c], l.f, held, entry as usize, st)
+    state::perform(&s[a..b], &s[b..c], l.f, truths, entry as usize, st)
 }
 
 // Whether nothing is ahead of a cursor.
@@ -362,11 +364,21 @@ fn lay_next(
         interrupts: m.interrupts,
         running: st.running,
     };
-    let held = &flags[..512];
+    let truths = &flags[..512];
     let finals = &flags[512..772];
     let counts = &numbers[..260];
     let to = at + m.frame + 64;
-    steps::step_rest(&s[a..b], v, held, finals, counts, work, at + 64, to, k.next)
+    steps::step_rest(
+        &s[a..b],
+        v,
+        truths,
+        finals,
+        counts,
+        work,
+        at + 64,
+        to,
+        k.next,
+    )
 }
 
 // No transition was made.

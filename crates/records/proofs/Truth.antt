@@ -17,6 +17,13 @@ and-right false b e = cc
 pub and-both : (a b : Bool) → a ≡ true → b ≡ true → (a && b) ≡ true
 and-both a b p q = ap (λ (x : Bool). x && b) p ∙ q
 
+-- three, or four, one after the other
+pub and-three : (a b c : Bool) → (a && b && c) ≡ true → (a ≡ true) × (b ≡ true) × (c ≡ true)
+and-three a b c e = let d = and-left (a && b) c e in (and-left a b d, and-right a b d, and-right (a && b) c e)
+
+pub and-four : (a b c d : Bool) → (a && b && c && d) ≡ true → (a ≡ true) × (b ≡ true) × (c ≡ true) × (d ≡ true)
+and-four a b c d e = let t = and-three a b c (and-left (a && b && c) d e) in (t .0, t .1, t .2, and-right (a && b && c) d e)
+
 pub or-left : (a b : Bool) → a ≡ true → (a || b) ≡ true
 or-left a b p = ap (λ (x : Bool). x || b) p
 

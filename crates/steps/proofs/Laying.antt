@@ -10,25 +10,25 @@ use native.Mathlib.Omega.{arith}
 use lib.Dec.{T, eqb}
 use lib.ListN.{length, getD, getElem?}
 use Rattle.records.specs.declared.Program.{Program}
-use Rattle.height.specs.Height.{hasTwo, rise}
+use Rattle.kinds.specs.Programs.{hasA, hasB, ownOf, hasOwn, usesA, usesB, tagA, tagB, firstBy}
+use Rattle.kinds.proofs.Reading.{uses-a, uses-b}
+use Rattle.kinds.proofs.Constructs.{own-no-first, own-no-second, no-own}
+use Rattle.height.specs.Height.{rise}
 use Rattle.golog.specs.declared.State.{State}
 use Rattle.golog.specs.World.{World, holds, possible}
 use Rattle.runs.specs.Guide.{only}
 use Rattle.golog.specs.Transitions.{isNone}
 use Rattle.remaining.specs.Rest.{Rest, gone, leaf, nodes, largest, high, AllLower}
-use Rattle.remaining.specs.Kinds.{ownOf, usesA, usesB, tagA, tagB}
 use Rattle.remaining.specs.Leaves.{RestTransition, onRest, Leaf, leafWith, leafOf, ownMove, siblingA, wrapA, wrapB, restTransitions}
-use Rattle.remaining.proofs.Entries.{hasA, leaf-step, lower-a, lower-b, rise-a, rise-b}
+use Rattle.remaining.proofs.Entries.{leaf-step, lower-a, lower-b, rise-a, rise-b}
 use Rattle.remaining.proofs.Nodes.{step-nodes}
 use Rattle.words.specs.Words.{Put, Room}
 use Rattle.words.proofs.Written.{kept-less, kept-trans, kept-put}
 use Rattle.words.proofs.Moved.{put-gone}
-use Rattle.leaves.specs.Tallies.{extendedSize, countsOf, firstBy}
+use Rattle.leaves.specs.Tallies.{extendedSize, countsOf}
 use Rattle.leaves.proofs.Entries.{counts-exact, first-exact}
 use Rattle.steps.specs.Laid.{codeOf, Sources, Counted, CanLay, Built, Lays, past, Wrapped}
 use Rattle.steps.proofs.Nth.{nth-member, Both, from-first, from-second, second-goes}
-use Rattle.remaining.proofs.Every.{uses-a, uses-b}
-use Rattle.steps.proofs.Columns.{no-own, no-first, no-second}
 
 -- what was built of a transition is small: at most two nodes more for each level
 pub built-few : (W : World) (s : State) (p : ℕ → Program) → AllLower p → (g : Rest) (k to e n : ℕ) (w : List ℕ) → Built (restTransitions W s p g) k to e n w → n ≤ nodes g + 2 * high p g
@@ -81,7 +81,7 @@ module _ {W : World} {s : State} {v : Sources} (C : Counted W s v) where
     steps-are = ap (λ (x : Leaf). x .transitions) (subst (λ (r : Program). leafOf W s p i ≡ leafWith W s r i (leafOf W s p (r .a)) (leafOf W s p (r .b))) (sym er) (leaf-step W s p (C .lower) i))
 
     -- an act or a test: its own
-    pub own-step : (k : ℕ) → k < length (leafOf W s (v .records) i .transitions) → r .kind < 3 → getElem? (leafOf W s (v .records) i .transitions) k ≡ some (ownMove r, gone)
+    pub own-step : (k : ℕ) → k < length (leafOf W s (v .records) i .transitions) → hasOwn (r .kind) ≡ true → getElem? (leafOf W s (v .records) i .transitions) k ≡ some (ownMove r, gone)
     unfolding own parts ua ub
     own-step k h l =
         ap (λ (xs : List RestTransition). getElem? xs k) alone
@@ -91,7 +91,7 @@ module _ {W : World} {s : State} {v : Sources} (C : Counted W s v) where
         alone =
             steps-are
             ∙ ap₂ (λ (x y : Bool). own ++ Both (wrapA (tagA (r .kind)) (siblingA r i)) (wrapB (tagB (r .kind)) (r .a)) (A .transitions) (B .transitions) x y)
-            (no-first (r .kind) _ _ l) (no-second (r .kind) _ _ _ l)
+            (own-no-first (r .kind) _ _ l) (own-no-second (r .kind) _ _ _ l)
 
         go : (b : Bool) (k : ℕ) → k < length (only {A = RestTransition} b ((ownMove r, gone) ∷ []) ++ []) → getElem? (only {A = RestTransition} b ((ownMove r, gone) ∷ []) ++ []) k ≡ some (ownMove r, gone)
         go true zero h = refl
@@ -108,21 +108,21 @@ module _ {W : World} {s : State} {v : Sources} (C : Counted W s v) where
     b-lower : T ub → (r .b < i) × (rise p (r .b) < rise p i)
     unfolding ub
     b-lower t =
-        let u : T (hasTwo (r .kind)) = uses-b (r .kind) _ _ _ t in
-        subst (λ (r : Program). T (hasTwo (r .kind)) → (r .b < i) × (rise p (r .b) < rise p i)) (sym er) (λ u. (lower-b p (C .lower) i u, rise-b p (C .lower) i u)) u
+        let u : T (hasB (r .kind)) = uses-b (r .kind) _ _ _ t in
+        subst (λ (r : Program). T (hasB (r .kind)) → (r .b < i) × (rise p (r .b) < rise p i)) (sym er) (λ u. (lower-b p (C .lower) i u, rise-b p (C .lower) i u)) u
 
-    module _ (three : 3 ≤ r .kind) (first : ℕ) (ef : first ≡ firstBy r (v .held) (v .running) (v .counts)) where
+    module _ (other : hasOwn (r .kind) ≡ false) (first : ℕ) (ef : first ≡ firstBy r (v .truths) (v .running) (v .counts)) where
       parts-are : leafOf W s p i .transitions ≡ parts
       unfolding own
-      parts-are = steps-are ∙ ap (λ (b : Bool). only b ((ownMove r, gone) ∷ []) ++ parts) (no-own (r .kind) _ _ three)
+      parts-are = steps-are ∙ ap (λ (b : Bool). only b ((ownMove r, gone) ∷ []) ++ parts) (no-own (r .kind) _ _ other)
 
       first-is : first ≡ cond ua (length (A .transitions)) 0
       unfolding A ua
       first-is =
           ef
-          ∙ ap (firstBy r (v .held) (v .running)) (C .counts-are)
+          ∙ ap (firstBy r (v .truths) (v .running)) (C .counts-are)
           ∙ subst
-          (λ (r : Program). firstBy r (v .held) (v .running) (countsOf W s p (v .many)) ≡ cond (usesA (r .kind) (holds W (r .c) s) (s .running)) (length (leafOf W s p (r .a) .transitions)) 0)
+          (λ (r : Program). firstBy r (v .truths) (v .running) (countsOf W s p (v .many)) ≡ cond (usesA (r .kind) (holds W (r .c) s) (s .running)) (length (leafOf W s p (r .a) .transitions)) 0)
           (sym er) (first-exact W s p (C .lower) (v .many) i inside low (C .sees .each i inside) (C .sees .runs))
 
       -- part a's, where k is below how many of a's there are
@@ -213,7 +213,7 @@ module _ {W : World} {s : State} {v : Sources} (C : Counted W s v) where
             }
 
     -- a transition of its own leaves nothing
-    pub own-lays : {w w′ : List ℕ} {to k e : ℕ} → k < getD (v .counts) i 0 → r .kind < 3 → Room w to (1 + 2 * rise (v .records) i) → Put to 0 0 1 w w′ → e ≡ codeOf (ownMove r)
+    pub own-lays : {w w′ : List ℕ} {to k e : ℕ} → k < getD (v .counts) i 0 → hasOwn (r .kind) ≡ true → Room w to (1 + 2 * rise (v .records) i) → Put to 0 0 1 w w′ → e ≡ codeOf (ownMove r)
         → Lays (leafOf W s (v .records) i .transitions) k to w w′ e 1
     unfolding nodes
     own-lays {w} {w′} {to} {k} h l R P ee = record {

@@ -25,18 +25,18 @@ codeOf (some a) = a
 pub record Sources : Type 0 where
   pub records : ℕ → Program
   pub many : ℕ
-  pub held : List Bool
+  pub truths : List Bool
   pub running : Bool
   pub counts : List ℕ
 
-abbrev pub sourcesOf : (programs : List ℕ) (n : ℕ) (interrupts : Bool) (held : List Bool) (running : Bool) (counts : List ℕ) → Sources
-sourcesOf programs n interrupts held running counts =
-    record { records = extended interrupts (programAt programs) n; many = extendedSize interrupts n; held = held; running = running; counts = counts }
+abbrev pub sourcesOf : (programs : List ℕ) (n : ℕ) (interrupts : Bool) (truths : List Bool) (running : Bool) (counts : List ℕ) → Sources
+sourcesOf programs n interrupts truths running counts =
+    record { records = extended interrupts (programAt programs) n; many = extendedSize interrupts n; truths = truths; running = running; counts = counts }
 
 -- it is that of a state
 pub record Counted (W : World) (s : State) (v : Sources) : Type 0 where
   pub can : ℕ → Bool
-  pub sees : Sees W s (v .records) (v .many) (v .held) can (v .running)
+  pub sees : Sees W s (v .records) (v .many) (v .truths) can (v .running)
   pub lower : AllLower (v .records)
   pub counts-are : v .counts ≡ countsOf W s (v .records) (v .many)
 

@@ -7,8 +7,8 @@ use borrow.Author.Needs.{needs}
 use Rattle.engine.proofs.final_by.Statement.{statement}
 use Rattle.engine.proofs.final_by.Tie as tie
 
-slice-aggregate-held : tie.Need-slice-aggregate-held
-slice-aggregate-held c =
+slice-aggregate-truths : tie.Need-slice-aggregate-truths
+slice-aggregate-truths c =
     let at-start = c .before .before in
     sym (length-take-le 512 (now (at-start .args .flags)) (omega (arith, at-start .pre)))
 
@@ -21,8 +21,8 @@ part-finals-start c = search needs
 part-finals-end : tie.Need-part-finals-end
 part-finals-end c = search needs
 
-final-at-requires : tie.Need-final-at-requires
-final-at-requires c κs = search needs
+final-by-requires : tie.Need-final-by-requires
+final-by-requires c κs = search needs
 
 returns : tie.Need-returns
 returns c = search needs
@@ -31,9 +31,9 @@ pub final-by-spec : {M : Type 1} → statement M
 final-by-spec =
     tie.close
     (tie.spec
-    slice-aggregate-held
+    slice-aggregate-truths
     sub-finals
     part-finals-start
     part-finals-end
-    final-at-requires
+    final-by-requires
     returns)

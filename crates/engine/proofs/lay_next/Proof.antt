@@ -8,11 +8,11 @@ use Rattle.engine.proofs.lay_next.Statement.{statement}
 use Rattle.engine.proofs.lay_next.Tie as tie
 
 -- Places: what stands before a need, by name. Written by `named`: run it again when the code changes.
-abbrev start-from-slice-aggregate-held : tie.After-held → tie.Start
-start-from-slice-aggregate-held c = c .before .before .before .before .before .before
+abbrev start-from-slice-aggregate-truths : tie.After-truths → tie.Start
+start-from-slice-aggregate-truths c = c .before .before .before .before .before .before
 
 abbrev start-from-slice-aggregate-counts : tie.After-counts → tie.Start
-start-from-slice-aggregate-counts c = start-from-slice-aggregate-held (c .before .before)
+start-from-slice-aggregate-counts c = start-from-slice-aggregate-truths (c .before .before)
 
 abbrev start-from-sub-step-rest : tie.After-struct-known → tie.Start
 start-from-sub-step-rest c = start-from-slice-aggregate-counts (c .before)
@@ -23,8 +23,8 @@ start-from-step-rest-requires c = start-from-sub-step-rest (c .before .before)
 abbrev start-from-step-rest : tie.After-step-rest → tie.Start
 start-from-step-rest c = start-from-step-rest-requires (c .before)
 
-slice-aggregate-held : tie.Need-slice-aggregate-held
-slice-aggregate-held c = truths-long (start-from-slice-aggregate-held c .pre .1 .prepared)
+slice-aggregate-truths : tie.Need-slice-aggregate-truths
+slice-aggregate-truths c = truths-long (start-from-slice-aggregate-truths c .pre .1 .prepared)
 
 sub-finals : tie.Need-sub-finals
 sub-finals c = search needs
@@ -73,7 +73,7 @@ pub lay-next-spec : {M : Type 1} → statement M
 lay-next-spec =
     tie.close
     (tie.spec
-    slice-aggregate-held
+    slice-aggregate-truths
     sub-finals
     part-finals-start
     part-finals-end

@@ -25,7 +25,7 @@ part-t-end : tie.Need-part-t-end
 part-t-end c = in-order (fits-of _ _ (c .before .pre)) .end
 
 has-interrupts-requires : tie.Need-has-interrupts-requires
-has-interrupts-requires c κs = programs-long _ _ (fits-of _ _ (c .before .before .pre)) .0
+has-interrupts-requires c κs = programs-long _ _ (fits-of _ _ (c .before .before .pre)) .long
 
 height-requires : tie.Need-height-requires
 height-requires c κs = programs-long _ _ (fits-of _ _ (c .before .before .before .pre))

@@ -12,7 +12,8 @@ use Rattle.records.specs.Records.{programAt}
 use Rattle.golog.specs.declared.State.{State}
 use Rattle.golog.specs.World.{World}
 use Rattle.remaining.specs.Extended.{extended}
-use Rattle.leaves.specs.Tallies.{extendedSize, Sees, finalBy}
+use Rattle.kinds.specs.Programs.{finalBy}
+use Rattle.leaves.specs.Tallies.{extendedSize, Sees}
 use Rattle.leaves.specs.Endable.{FinalsKnown}
 use Rattle.leaves.proofs.Skipping.{Done, first, next}
 use Rattle.engine.specs.Tables.{truthsIn, finalsIn, OnlyFinals}
@@ -22,7 +23,7 @@ use Rattle.engine.proofs.mark_finals.Statement.{statement}
 use Rattle.engine.proofs.mark_finals.Tie as tie
 
 abbrev Inv-loop : tie.InvT-loop
-Inv-loop flags₀ programs n interrupts skips running m i₀ flags i =
+Inv-loop flags₀ programs n interrupts skips running m end i₀ flags i =
     (length flags ≡ 1032)
     × OnlyFinals flags₀ flags
     × ((a : ℕ) → extendedSize interrupts n ≤ a → getD (finalsIn flags) a true ≡ getD (finalsIn flags₀) a true)
@@ -30,29 +31,36 @@ Inv-loop flags₀ programs n interrupts skips running m i₀ flags i =
     Done W s (extended interrupts (programAt programs) n) (extendedSize interrupts n) (finalsIn flags₀) (finalsIn flags) i)
 
 abbrev μ-loop : tie.MeasureT-loop
-μ-loop flags₀ programs n interrupts skips running m i₀ flags i = m - i
+μ-loop flags₀ programs n interrupts skips running m end i₀ flags i = m - i
 
 places-of-requires : tie.Need-places-of-requires Inv-loop μ-loop
 places-of-requires c κs = search needs
 
-skip-in-requires : tie.Need-skip-in-requires Inv-loop μ-loop
-skip-in-requires c κs = search needs
+cast-end : tie.Need-cast-end Inv-loop μ-loop
+cast-end c = search needs
+
+number-in-requires : tie.Need-number-in-requires Inv-loop μ-loop
+number-in-requires c κs = search needs
+
+wide32-requires : tie.Need-wide32-requires Inv-loop μ-loop
+wide32-requires c κs = search needs
 
 -- Places: what stands before a need, by name. Written by `named`: run it again when the code changes.
-abbrev start-from-places-of : tie.After-places-of Inv-loop μ-loop → tie.Start Inv-loop μ-loop
-start-from-places-of c = c .before .before .before .before
+abbrev start-from-number-in : tie.After-number-in Inv-loop μ-loop → tie.Start Inv-loop μ-loop
+start-from-number-in c = c .before .before .before .before .before
 
 abbrev start-from-loop : tie.At-loop Inv-loop μ-loop → tie.Start Inv-loop μ-loop
-start-from-loop c = start-from-places-of (c .before .before)
+start-from-loop c = start-from-number-in (c .before .before)
 
-abbrev loop-from-final-by : tie.After-final-by Inv-loop μ-loop → tie.At-loop Inv-loop μ-loop
-loop-from-final-by c = c .before .before .before .before
+abbrev loop-from-number-in2 : tie.After-number-in2 Inv-loop μ-loop → tie.At-loop Inv-loop μ-loop
+loop-from-number-in2 c = c .before .before .before .before .before
 
 loop-holds : tie.Need-loop-holds Inv-loop μ-loop
 loop-holds c =
-    let at-start = start-from-places-of (c .before) in
-    let e = c .before .places-of .ensures .0 in
-    (at-start .pre .0 .3, only-same _, λ a h. refl, λ W s can S. rw (c .skip-in .ensures, e) (first (at-start .pre .1 .1)))
+    let at-start = start-from-number-in (c .before) in
+    let e = c .before .before .places-of .ensures .0 in
+    let skip = c .wide32 .ensures .0 ∙ c .before .number-in .ensures in
+    (at-start .pre .0 .1, only-same _, λ a h. refl, λ W s can S. rw (skip, e) (first (at-start .pre .1 .1)))
 
 record-at-requires : tie.Need-record-at-requires Inv-loop μ-loop
 record-at-requires c κs = search needs
@@ -64,31 +72,36 @@ add-flags : tie.Need-add-flags Inv-loop μ-loop
 add-flags c = search needs
 
 slice-write-flags : tie.Need-slice-write-flags Inv-loop μ-loop
-slice-write-flags c = omega (arith, loop-from-final-by c .loop .inv .0)
+slice-write-flags c = omega (arith, c .before .before .before .before .loop .inv .0)
 
-add-skip-in : tie.Need-add-skip-in Inv-loop μ-loop
-add-skip-in c = search needs
+add-number-in : tie.Need-add-number-in Inv-loop μ-loop
+add-number-in c = search needs
 
-skip-in-requires-2 : tie.Need-skip-in-requires-2 Inv-loop μ-loop
-skip-in-requires-2 c κs = search needs
+number-in-requires-2 : tie.Need-number-in-requires-2 Inv-loop μ-loop
+number-in-requires-2 c κs = search needs
+
+wide32-requires-2 : tie.Need-wide32-requires-2 Inv-loop μ-loop
+wide32-requires-2 c κs = search needs
 
 loop-less : tie.Need-loop-less Inv-loop μ-loop
 loop-less c =
-    let at-loop = loop-from-final-by (c .before) in
-    let at-places-of = at-loop .before .before in
-    let at-start = start-from-places-of at-places-of in
+    let at-loop = loop-from-number-in2 (c .before) in
+    let at-places-of = at-loop .before .before .before in
+    let at-start = at-places-of .before .before .before .before in
     let e = at-places-of .places-of .ensures .0 in
+    let skip = c .wide322 .ensures .0 ∙ c .before .number-in2 .ensures in
     let o = at-start .pre .1 .1 .onward (at-loop .loop .i + 1) (omega (arith, e)) in
-    rw (c .skip-in2 .ensures, e) (omega (arith, o, e))
+    rw (skip, e) (omega (arith, o, e))
 
 loop-again : tie.Need-loop-again Inv-loop μ-loop
 loop-again c =
-    let at-final-by = c .before in
+    let at-final-by = c .before .before in
     let at-record-at = at-final-by .before .before in
     let at-loop = at-record-at .before .before in
-    let at-places-of = at-loop .before .before in
-    let at-start = start-from-places-of at-places-of in
+    let at-places-of = at-loop .before .before .before in
+    let at-start = at-places-of .before .before .before .before in
     let e = at-places-of .places-of .ensures .0 in
+    let skip = c .wide322 .ensures .0 ∙ c .before .number-in2 .ensures in
     let z = at-start .pre .1 in
     let v = at-loop .loop .inv in
     let i = at-loop .loop .i in
@@ -97,16 +110,16 @@ loop-again c =
     let finals = finalsIn flags in
     let few : i < 260 = omega (arith, at-places-of .places-of .ensures .1) in
     let l : i < extendedSize (at-start .args .interrupts) (at-start .args .n) = omega (arith, e) in
-    let by = at-final-by .final-by .ensures ∙ ap (λ (held : List Bool). finalBy (at-record-at .record-at .result) held (at-start .args .running) finals) (v .1 .truths-kept) in (
+    let by = at-final-by .final-by .ensures ∙ ap (λ (truths : List Bool). finalBy (at-record-at .record-at .result) truths (at-start .args .running) finals) (v .1 .truths-kept) in (
       simp length-set (v .0),
       only-more flags i f few (v .1),
       λ a h. rw (final-set flags i f few) (getD-set-other finals i a f true (λ u. omega (arith, l)) ∙ v .2 a h),
-      λ W s can S. rw (final-set flags i f few, c .skip-in2 .ensures, e) (next (z .1) (z .0) (v .3 W s can S) l (S .each _ l) (S .runs) (omega (arith, finals-long flags (v .0)))
+      λ W s can S. rw (final-set flags i f few, skip, e) (next (z .1) (z .0) (v .3 W s can S) l (S .each _ l) (S .runs) (omega (arith, finals-long flags (v .0)))
           (rw (at-record-at .record-at .ensures .0) at by)),
     )
 
 same-length : tie.Need-same-length Inv-loop μ-loop
-same-length c = c .before .loop .inv .0 ∙ sym (start-from-loop (c .before) .pre .0 .3)
+same-length c = c .before .loop .inv .0 ∙ sym (start-from-loop (c .before) .pre .0 .1)
 
 returns : tie.Need-returns Inv-loop μ-loop
 returns c =
@@ -123,14 +136,17 @@ mark-finals-spec =
     Inv-loop
     μ-loop
     places-of-requires
-    skip-in-requires
+    cast-end
+    number-in-requires
+    wide32-requires
     loop-holds
     record-at-requires
     final-by-requires
     add-flags
     slice-write-flags
-    add-skip-in
-    skip-in-requires-2
+    add-number-in
+    number-in-requires-2
+    wide32-requires-2
     loop-less
     loop-again
     same-length

@@ -16,11 +16,11 @@ use Rattle.engine.proofs.tally.Statement.{statement}
 use Rattle.engine.proofs.tally.Tie as tie
 
 -- Places: what stands before a need, by name. Written by `named`: run it again when the code changes.
-abbrev start-from-slice-aggregate-held : tie.After-held → tie.Start
-start-from-slice-aggregate-held c = c .before .before .before .before .before
+abbrev start-from-slice-aggregate-truths : tie.After-truths → tie.Start
+start-from-slice-aggregate-truths c = c .before .before .before .before .before
 
 abbrev start-from-slice-aggregate-tallies : tie.After-tallies-arg → tie.Start
-start-from-slice-aggregate-tallies c = start-from-slice-aggregate-held (c .before .before)
+start-from-slice-aggregate-tallies c = start-from-slice-aggregate-truths (c .before .before)
 
 abbrev start-from-sub-tallies-2 : tie.After-tallies-arg2 → tie.Start
 start-from-sub-tallies-2 c = start-from-slice-aggregate-tallies (c .before)
@@ -31,8 +31,8 @@ start-from-tallies-requires c = start-from-sub-tallies-2 (c .before)
 abbrev start-from-tallies : tie.After-tallies → tie.Start
 start-from-tallies c = start-from-tallies-requires (c .before)
 
-slice-aggregate-held : tie.Need-slice-aggregate-held
-slice-aggregate-held c = truths-long (start-from-slice-aggregate-held c .pre .1 .prepared)
+slice-aggregate-truths : tie.Need-slice-aggregate-truths
+slice-aggregate-truths c = truths-long (start-from-slice-aggregate-truths c .pre .1 .prepared)
 
 sub-finals : tie.Need-sub-finals
 sub-finals c = search needs
@@ -72,8 +72,7 @@ tallies-requires c κs =
     let at-start = start-from-tallies-requires c in
     let O = at-start .pre .0 in
     let J = at-start .pre .1 in
-    let r = programs-long _ _ (fits-in O) in
-    ((r .0, r .1, r .2, actions-long _ _ (fits-in O), sym (counts-long (J .prepared))), (runs-lower O, decides-by O J))
+    ((programs-long _ _ (fits-in O), actions-long _ _ (fits-in O), sym (counts-long (J .prepared))), (runs-lower O, decides-by O J))
 
 same-length : tie.Need-same-length
 same-length c = search needs
@@ -101,7 +100,7 @@ pub tally-spec : {M : Type 1} → statement M
 tally-spec =
     tie.close
     (tie.spec
-    slice-aggregate-held
+    slice-aggregate-truths
     sub-finals
     part-finals-start
     part-finals-end
