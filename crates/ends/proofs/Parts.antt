@@ -8,6 +8,7 @@ use native.Mathlib.Omega.{arith}
 use lib.Dec.{eqb}
 use lib.ListN.{getD}
 use borrow.Author.Tests.{eq-eqb, ne-eqb}
+use Rattle.records.proofs.Truth.{part-few}
 use Rattle.remaining.specs.Rest.{Rest, gone, leaf, node, nodes}
 use Rattle.remaining.specs.Leaves.{goesRight}
 use Rattle.ends.specs.Ends.{finalByTable, countByTable, soonByTable, joined, Totalled}
@@ -42,11 +43,6 @@ module _ (finals : List Bool) where
 
     pub final-first : x ≡ false → false ≡ finalByTable finals g
     final-first z = ap (λ (b : Bool). b && finalByTable finals r) (sym z) ∙ final-both refl
-
--- what is added is no more than there is
-pub part-few : (b : Bool) (n : ℕ) → cond b n 0 ≤ n
-part-few true n = omega arith
-part-few false n = omega arith
 
 module _ (finals endable : List Bool) (counts : List ℕ) where
   pub total-gone : {g : Rest} → g ≡ gone → Totalled finals endable counts g (record { done = true; endable = true; count = 0; soon = false })

@@ -1,7 +1,7 @@
 // What the tables say of a remaining program: each function calls itself on the parts, whose sizes fall.
 ghost use mathlib.Core.Path.{_≡_};
 ghost use mathlib.Core.Bool.{cond};
-ghost use Prim.Native.Nat.{_+_, _^_, _≤_, _<_};
+ghost use Prim.Native.Nat.{_+_, _^_, _<_};
 ghost use lib.ListN.{length};
 ghost use Rattle.remaining.specs.Rest.{Rest};
 ghost use Rattle.remaining.specs.Leaves.{goesRight};

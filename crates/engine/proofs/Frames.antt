@@ -3,11 +3,11 @@
 use Prim.Native.Nat.{ℕ, suc, _+_, _*_, _≤_, _<_}
 use native.Mathlib.Nat.{mul-le-mul, mul-suc, add-mul, one-mul, mul-comm}
 use native.Mathlib.Omega.{arith}
-use mathlib.Core.Bool.{Bool, true, false, cond}
+use mathlib.Core.Bool.{Bool, true, false}
 use mathlib.Core.List.{List, List·Memᴰ}
 use mathlib.Core.Path.{_≡_, refl, sym, _∙_, ap}
-use lib.Dec.{lit≤}
 use lib.ListN.{length}
+use Rattle.records.proofs.Truth.{part-few}
 use Rattle.height.specs.Work.{levels, workWords}
 use Rattle.sheet.specs.Layout.{layoutOf}
 use Rattle.sheet.specs.Check.{Accepts}
@@ -101,13 +101,9 @@ module _ {s w : List ℕ} {left at : ℕ} {p : Prog} (F : Frame s (suc left) w a
             };
       }
 
-pub at-most-two : (b : Bool) → cond b 2 0 ≤ 2
-at-most-two true = lit≤ tt
-at-most-two false = lit≤ tt
-
 levels-low : (s : List ℕ) → Accepts s → levelsOf s ≤ 18
 unfolding levels
-levels-low s accepted = omega (arith, ruled s accepted .height, at-most-two (interruptsIn s))
+levels-low s accepted = omega (arith, ruled s accepted .height, part-few (interruptsIn s) 2)
 
 top-inside : (b : Bool) (n : ℕ) → 1 ≤ n → top b n < extendedSize b n
 top-inside true n l = omega arith

@@ -31,7 +31,7 @@ drop-nth [] k h = cc
 drop-nth (a ∷ xs) zero {x} h = let e : a ≡ x = cc in ap (λ (y : _). y ∷ xs) e
 drop-nth (a ∷ xs) (suc k) h = drop-nth xs k h
 
--- the transitions of a remaining program as it is truths
+-- the transitions of a remaining program as it is held
 abbrev pub heldMoves : List ℕ → State → Rest → List RestTransition
 heldMoves s st g = restTransitions (worldOf s) st (extendedRecords s) g
 

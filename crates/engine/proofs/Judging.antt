@@ -68,7 +68,8 @@ module _ {s : List ℕ} {m : Machine} (O : Of s m) where
   prepared {flags} {numbers} marks n k e eb ec es =
       let low = all-lower s (O .accepted) in
       let e₂ = e ∙ of-machine O (λ (l : Layout) (b : Bool) (f : ℕ). marks ≡ finalBoundsOf true (runs s l b) (many l b)) eb in
-      let E : Endable (extendedRecords s) (extendedSizeOf s) (endableIn flags) = subst (Endable (extendedRecords s) (extendedSizeOf s)) (sym e₂) (bounds-above (extendedRecords s) low (extendedSizeOf s)) in
+      let E : Endable (extendedRecords s) (extendedSizeOf s) (endableIn flags) = subst (Endable (extendedRecords s) (extendedSizeOf s)) (sym e₂)
+      (bounds-above (extendedRecords s) low (extendedSizeOf s)) in
       let S = skips-settled (extendedRecords s) (extendedSizeOf s) (endableIn flags) low E in
       let e₃ = of-machine O (λ (l : Layout) (b : Bool) (f : ℕ). skipsIn numbers ≡ skipsOf (runs s l b) (many l b) marks) es in
       let e₄ = e₃ ∙ ap (skipsOf (extendedRecords s) (extendedSizeOf s)) (sym e) in

@@ -37,7 +37,7 @@ use Rattle.engine.proofs.Going.{stepOf, listed-length, listed-nth, ahea
 
 -- what a step sees, by the names of a layout
 abbrev pub viewBy : List ℕ → State → (flags : List Bool) (numbers : List ℕ) → Layout → (interrupts : Bool) → Sources
-viewBy s st flags numbers l interrupts = sourcesOf (programsIn s l) (l .p) interrupts (truthsIn flags) (st .running) (countsIn numbers)
+viewBy s st flags numbers l interrupts = sourcesOf (programsIn s l) (record { n = l .p; interrupts = interrupts; running = st .running }) (truthsIn flags) (countsIn numbers)
 
 -- the transition made, with the code e and the state st, at the cursor k
 abbrev pub madeAt : Cursor → (e : ℕ) → State → Taken

@@ -9,9 +9,10 @@ use Rattle.sheet.specs.Layout.{layoutOf, programsIn}
 use Rattle.golog.specs.declared.State.{State}
 use Rattle.demands.specs.Decoded.{worldOf, interruptsIn}
 use Rattle.demands.specs.Compact.{extendedRecords}
-use Rattle.state.specs.Truths as truths
+use Rattle.state.specs.Truths.{AreTruths}
 use Rattle.leaves.specs.Tallies.{extendedSize, finalsOf}
 use Rattle.leaves.specs.Endable.{Endable, Skips, FinalsKnown}
+use Rattle.steps.specs.declared.Setting.{Setting}
 use Rattle.steps.specs.Laid.{sourcesOf}
 use Rattle.steps.specs.Stepped.{Tabled}
 
@@ -53,13 +54,17 @@ pub record Prepared (s : List ℕ) (flags : List Bool) (numbers : List ℕ) : Ty
 -- what the formulas say in the state st, and which records are final in it, stands there too
 pub record Judged (s : List ℕ) (st : State) (flags : List Bool) (numbers : List ℕ) : Type 0 where
   pub prepared : Prepared s flags numbers
-  pub truths-are : truths.AreTruths (worldOf s) st (layoutOf s .q) (truthsIn flags)
+  pub truths-are : AreTruths (worldOf s) st (layoutOf s .q) (truthsIn flags)
   pub decides : FinalsKnown (extendedRecords s) (extendedSizeOf s) (truthsIn flags) (st .running) (finalsIn flags)
   pub finals-are : finalsIn flags ≡ finalsOf (worldOf s) st (extendedRecords s) (extendedSizeOf s)
+
+-- how the sheet's program records are read in the state st
+abbrev pub settingOf : List ℕ → State → Setting
+settingOf s st = record { n = layoutOf s .p; interrupts = interruptsIn s; running = st .running }
 
 -- and how many transitions each has: the tables are those of the state st
 pub record Surveyed (s : List ℕ) (st : State) (flags : List Bool) (numbers : List ℕ) : Type 0 where
   pub prepared : Prepared s flags numbers
-  pub truths-are : truths.AreTruths (worldOf s) st (layoutOf s .q) (truthsIn flags)
+  pub truths-are : AreTruths (worldOf s) st (layoutOf s .q) (truthsIn flags)
   pub tabled :
-      Tabled (worldOf s) st (sourcesOf (programsIn s (layoutOf s)) (layoutOf s .p) (interruptsIn s) (truthsIn flags) (st .running) (countsIn numbers)) (finalsIn flags)
+      Tabled (worldOf s) st (sourcesOf (programsIn s (layoutOf s)) (settingOf s st) (truthsIn flags) (countsIn numbers)) (finalsIn flags)

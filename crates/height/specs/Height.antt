@@ -1,11 +1,11 @@
 -- The height of program records, computed (document 01: "Height is the most links from program record to program record on a path down from
 -- the root"). That it is so is proved in proofs/Paths.antt. Assumes nothing.
-use Prim.Native.Nat.{ℕ, zero, suc, _-_, max}
+use Prim.Native.Nat.{ℕ, suc, _-_, max}
 use mathlib.Core.List.{List, [], _∷_}
 use mathlib.Core.Bool.{Bool, not}
 use lib.ListN.{getD}
 use lib.Dec.{eqb, ltb}
-use Rattle.records.specs.Table.{upTo, entryOf}
+use Rattle.records.specs.Table.{entryOf}
 use Rattle.records.specs.Lowest.{lowest}
 use Rattle.records.specs.declared.Program.{Program}
 use Rattle.kinds.specs.Programs.{links}

@@ -5,8 +5,8 @@ ghost use Prim.Native.Nat.{ℕ, suc, _+_, _-_, _*_, _≤_, _<_, max};
 ghost use lib.ListN.{length, getD};
 ghost use Rattle.records.specs.Records.{programAt, ProgramTable};
 ghost use Rattle.kinds.specs.Programs.{links};
-ghost use Rattle.height.specs.Height.{heightOver, heightAt, heightOf, plain, interrupts};
-ghost use Rattle.height.specs.Work.{levels, frameWords, workWords};
+ghost use Rattle.height.specs.Height.{heightOver, heightOf, plain, interrupts};
+ghost use Rattle.height.specs.Work.{FrameLimits, frameWords, workWords};
 use records::Program;
 
 fn larger(a: u32, b: u32) -> u32
@@ -86,7 +86,7 @@ pub fn levels_from(h: usize, interrupts: bool) -> usize
 
 // The words of one frame.
 pub fn frame_words(h: usize, d: usize) -> usize
-    requires { ⌜ (h ≤ 18) × (d ≤ 64) ⌝ }
+    requires { ⌜ FrameLimits h d ⌝ }
     ensures { λ r. ⌜ (r ≡ frameWords h d) × (r ≤ 6979) ⌝ }
 {
     64 + 3 * (1 + 2 * h * d)
@@ -94,7 +94,7 @@ pub fn frame_words(h: usize, d: usize) -> usize
 
 // The words that planning and replay require.
 pub fn work_words(h: usize, d: usize) -> usize
-    requires { ⌜ (h ≤ 18) × (d ≤ 64) ⌝ }
+    requires { ⌜ FrameLimits h d ⌝ }
     ensures { λ r. ⌜ (r ≡ workWords h d) × (r ≤ 453635) ⌝ }
 {
     (d + 1) * frame_words(h, d)

@@ -8,6 +8,7 @@ use native.Mathlib.Omega.{arith}
 use lib.Dec.{T, eqb}
 use borrow.Author.Tests.{eq-eqb, ne-eqb}
 use Rattle.records.specs.declared.Program.{Program}
+use Rattle.records.proofs.Truth.{part-few}
 use Rattle.kinds.specs.Programs.{fieldA, hasA, hasB, hasCondition, acts, tests, ownOf, hasOwn, usesA, usesB, countOf, countBy}
 use Rattle.kinds.proofs.ProgramKinds.{by-kind}
 use Rattle.kinds.proofs.Reading.{uses-a, uses-b, uses-a-same, uses-b-same, own-same}
@@ -55,16 +56,16 @@ module _ (kind : ℕ) where
       ∙ sym (count-adds may holds ga k running da db kind)
 
 -- whether an action is possible is asked where there is one
-masked : (b x : Bool) → T b → (b && x) ≡ x
-masked true x t = refl
-masked false x t = absurd t
+asked : (b x : Bool) → T b → (b && x) ≡ x
+asked true x t = refl
+asked false x t = absurd t
 
 pub count-acts :
     (r : Program) (can : Bool) (truths : List Bool) (running : Bool) (finals : List Bool) (counts : List ℕ)
     → countBy r (acts (r .kind) && can) truths running finals counts ≡ countBy r can truths running finals counts
 unfolding countBy
 count-acts r can truths running finals counts =
-    count-same (r .kind) running (masked (acts (r .kind)) can) (λ t. refl) (λ t. refl) (λ t. (refl, refl)) (λ t. refl)
+    count-same (r .kind) running (asked (acts (r .kind)) can) (λ t. refl) (λ t. refl) (λ t. (refl, refl)) (λ t. refl)
 
 -- counting up to M, what is cut in the parts is cut in the whole
 cut : (M o x y : ℕ) (ua ub : Bool) → min M (o + (cond ua x 0 + cond ub y 0)) ≡ min M (o + (cond ua (min M x) 0 + cond ub (min M y) 0))
@@ -105,14 +106,10 @@ count-doubled m kind can passes fa h running ca cb l a b = go (hasOwn kind) refl
     ub : Bool
     ub = usesB kind fa h (eqb ca 0)
 
-    one : (x : Bool) → cond x 1 0 ≤ 1
-    one true = omega arith
-    one false = omega arith
-
     go : (own : Bool) → hasOwn kind ≡ own → countOf kind can passes fa h running ca cb ≤ m
     go true e =
         rw (count-adds can passes fa h running ca cb kind)
-        (rw (own-no-first kind h running e, own-no-second kind fa h (eqb ca 0) e) (omega (arith, one (ownOf kind can passes))))
+        (rw (own-no-first kind h running e, own-no-second kind fa h (eqb ca 0) e) (omega (arith, part-few (ownOf kind can passes) 1)))
     go false e =
         rw (count-adds can passes fa h running ca cb kind)
         (rw (no-own kind can passes e)

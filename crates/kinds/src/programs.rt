@@ -246,23 +246,33 @@ fn one_if(b: bool) -> u64
     if b { 1 } else { 0 }
 }
 
-// The transitions of a part, where they count.
-fn part(b: bool, count: u32) -> u64
-    ensures { λ r. ⌜ (r ≡ cond b count 0) × (r < 4294967296) ⌝ }
+// How many transitions part a has, where they count.
+fn part(counts: &[u32], a: usize, goes: bool) -> u64
+    ensures { λ r. ⌜ (r ≡ cond goes (getD (now (counts .entry)) a 0) 0) × (r < 4294967296) ⌝ }
 {
-    if b { count as u64 } else { 0 }
+    if goes {
+        records::number_in(counts, a, 0) as u64
+    } else {
+        0
+    }
 }
 
-fn both_if(b: bool, ca: u32, cb: u32) -> u64
-    ensures { λ r. ⌜ r ≡ ca + cond b cb 0 ⌝ }
+// How many parts a and b have, those of b where they count.
+fn both_if(counts: &[u32], a: usize, b: usize, goes: bool) -> u64
+    ensures { λ r. ⌜ r ≡ getD (now (counts .entry)) a 0 + cond goes (getD (now (counts .entry)) b 0) 0 ⌝ }
 {
-    part(true, ca) + part(b, cb)
+    part(counts, a, true) + part(counts, b, goes)
 }
 
-fn either(b: bool, ca: u32, cb: u32) -> u64
-    ensures { λ r. ⌜ r ≡ cond b ca cb ⌝ }
+// How many the one of two parts that is picked has.
+fn either(counts: &[u32], a: usize, b: usize, first: bool) -> u64
+    ensures { λ r. ⌜ r ≡ cond first (getD (now (counts .entry)) a 0) (getD (now (counts .entry)) b 0) ⌝ }
 {
-    if b { ca as u64 } else { cb as u64 }
+    if first {
+        part(counts, a, true)
+    } else {
+        part(counts, b, true)
+    }
 }
 
 // How many transitions a record has, where `can` says whether its action is possible: its own, and those of the parts that it uses.
@@ -280,35 +290,13 @@ pub fn count_by(
     match kind {
         1 => one_if(can),
         2 => one_if(records::flag_in(truths, r.a, false)),
-        3 => both_if(
-            records::flag_in(finals, r.a, true),
-            records::number_in(counts, r.a, 0),
-            records::number_in(counts, r.b, 0),
-        ),
-        4 | 8 => both_if(
-            true,
-            records::number_in(counts, r.a, 0),
-            records::number_in(counts, r.b, 0),
-        ),
-        5 | 10 => part(true, records::number_in(counts, r.a, 0)),
-        6 => either(
-            records::flag_in(truths, r.c, false),
-            records::number_in(counts, r.a, 0),
-            records::number_in(counts, r.b, 0),
-        ),
-        7 => part(
-            records::flag_in(truths, r.c, false),
-            records::number_in(counts, r.a, 0),
-        ),
-        9 => both_if(
-            records::number_in(counts, r.a, 0) == 0,
-            records::number_in(counts, r.a, 0),
-            records::number_in(counts, r.b, 0),
-        ),
-        11 => part(
-            running & records::flag_in(truths, r.c, false),
-            records::number_in(counts, r.a, 0),
-        ),
+        3 => both_if(counts, r.a, r.b, records::flag_in(finals, r.a, true)),
+        4 | 8 => both_if(counts, r.a, r.b, true),
+        5 | 10 => part(counts, r.a, true),
+        6 => either(counts, r.a, r.b, records::flag_in(truths, r.c, false)),
+        7 => part(counts, r.a, records::flag_in(truths, r.c, false)),
+        9 => both_if(counts, r.a, r.b, records::number_in(counts, r.a, 0) == 0),
+        11 => part(counts, r.a, running & records::flag_in(truths, r.c, false)),
         _ => 0,
     }
 }
@@ -317,9 +305,6 @@ pub fn count_by(
 pub fn first_by(r: Program, truths: &[bool], running: bool, counts: &[u32]) -> usize
     ensures { λ k. ⌜ (k ≡ firstBy r (now (truths .entry)) running (now (counts .entry))) × (k < 4294967296) ⌝ }
 {
-    let k = part(
-        uses_a(r.kind, records::flag_in(truths, r.c, false), running),
-        records::number_in(counts, r.a, 0),
-    );
-    k as usize
+    let goes = uses_a(r.kind, records::flag_in(truths, r.c, false), running);
+    part(counts, r.a, goes) as usize
 }

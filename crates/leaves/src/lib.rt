@@ -4,7 +4,7 @@ ghost use mathlib.Core.Path.{_≡_};
 ghost use mathlib.Core.Bool.{true, _&&_};
 ghost use Prim.Native.Nat.{_*_, _≤_, _<_, min};
 ghost use lib.ListN.{length, getD};
-ghost use Rattle.records.specs.Records.{programAt, ProgramTable};
+ghost use Rattle.records.specs.Records.{programAt, TwoBytes, ProgramTable};
 ghost use Rattle.kinds.specs.Programs.{acts, countBy};
 ghost use Rattle.remaining.specs.Rest.{AllLower};
 ghost use Rattle.remaining.specs.Extended.{empty, virtual, extended};
@@ -31,7 +31,7 @@ fn possible_in(actions: &[u8], na: usize, truths: &[bool], a: usize) -> bool
 fn virtual_at(n: usize, k: usize) -> Program
     requires { ⌜ (1 ≤ n) × (n ≤ 256) ⌝ }
     ensures { λ r. ⌜ r ≡ getD (virtual true n) k empty ⌝ }
-    ensures { λ r. ⌜ (r .a < 65536) × (r .b < 65536) ⌝ }
+    ensures { λ r. ⌜ TwoBytes r ⌝ }
 {
     match k {
         0 => Program {
@@ -71,7 +71,7 @@ fn virtual_at(n: usize, k: usize) -> Program
 pub fn record_at(programs: &[u8], n: usize, interrupts: bool, i: usize) -> Program
     requires { ⌜ ProgramTable (now programs) n ⌝ }
     ensures { λ r. ⌜ r ≡ extended interrupts (programAt (now (programs .entry))) n i ⌝ }
-    ensures { λ r. ⌜ (r .a < 65536) × (r .b < 65536) ⌝ }
+    ensures { λ r. ⌜ TwoBytes r ⌝ }
 {
     if i < n {
         return records::program_at(programs, i);

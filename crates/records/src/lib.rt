@@ -3,7 +3,7 @@ ghost use mathlib.Core.Path.{_≡_};
 ghost use Prim.Native.Nat.{_+_, _*_, _≤_, _<_};
 ghost use lib.ListN.{length, getD};
 ghost use Rattle.records.specs.Bytes.{le16, le32};
-ghost use Rattle.records.specs.Records.{fluentAt, formulaAt, effectAt, actionAt, programAt};
+ghost use Rattle.records.specs.Records.{fluentAt, formulaAt, effectAt, actionAt, programAt, TwoBytes};
 
 // Document 01: "Fluent, 2 bytes".
 pub struct Fluent {
@@ -126,7 +126,7 @@ pub fn action_at(t: &[u8], i: usize) -> Action
 pub fn program_at(t: &[u8], i: usize) -> Program
     requires { ⌜ 8 * i + 8 ≤ length (now t) ⌝ }
     ensures { λ r. ⌜ r ≡ programAt (now (t .entry)) i ⌝ }
-    ensures { λ r. ⌜ (r .a < 65536) × (r .b < 65536) ⌝ }
+    ensures { λ r. ⌜ TwoBytes r ⌝ }
 {
     let at = 8 * i;
     let kind = read16(t, at);

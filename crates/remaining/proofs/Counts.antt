@@ -1,7 +1,7 @@
 -- How many transitions there are: a record's, by the one shape, its own and those of the parts that it uses; so at most twice as many
 -- for each level. Assumes nothing.
 use mathlib.Core.Path.{_≡_, refl, sym}
-use mathlib.Core.Bool.{Bool, true, false, cond}
+use mathlib.Core.Bool.{cond}
 use mathlib.Core.List.{List, [], _∷_}
 use Prim.Native.Nat.{ℕ, suc, _+_, _*_, _^_, _<_, _≤_, max}
 use native.Mathlib.Nat.{pow-succ', pow-le-pow-right, one-le-pow, mul-le-mul-left, add-mul, one-mul}
@@ -10,20 +10,17 @@ use lib.Dec.{eqb}
 use lib.ListN.{length, length-append, length-map}
 use borrow.Author.Tests.{ne-eqb}
 use Rattle.records.specs.declared.Program.{Program}
+use Rattle.records.proofs.Truth.{part-few}
 use Rattle.kinds.specs.Programs.{countOf}
 use Rattle.kinds.proofs.Counting.{count-adds, count-doubled}
 use Rattle.height.specs.Height.{rise}
 use Rattle.golog.specs.declared.State.{State}
 use Rattle.golog.specs.World.{World, holds, possible}
-use Rattle.runs.specs.Guide.{only}
+use Rattle.runs.proofs.Tests.{only-length}
 use Rattle.golog.specs.Transitions.{isNone}
 use Rattle.remaining.specs.Rest.{Rest, gone, leaf, node, nodes, largest, high, AllLower}
 use Rattle.remaining.specs.Leaves.{RestTransition, Leaf, nilLeaf, leafWith, leafAt, leafOf, goesRight, restFinal, restTransitions}
 use Rattle.remaining.proofs.Entries.{entry-rule, lower-a, lower-b, rise-a, rise-b}
-
-only-length : (b : Bool) (xs : List RestTransition) → length (only b xs) ≡ cond b (length xs) 0
-only-length true xs = refl
-only-length false xs = refl
 
 -- a list is empty where its length is 0
 pub none-length : (xs : List RestTransition) → isNone xs ≡ eqb (length xs) 0
@@ -45,10 +42,6 @@ pub node-count : (W : World) (s : State) (p : ℕ → Program) (tag : ℕ) (l r 
     ≡ length (restTransitions W s p l) + cond (goesRight tag (restFinal W s p l) (eqb (length (restTransitions W s p l)) 0)) (length (restTransitions W s p r)) 0
 unfolding restTransitions
 node-count W s p tag l r = simp (length-append, length-map, only-length, none-length)
-
-part : (b : Bool) (x : ℕ) → cond b x 0 ≤ x
-part true x = omega arith
-part false x = omega arith
 
 -- a record of height h has at most 2 ^ h transitions
 pub leaf-few : (W : World) (s : State) (p : ℕ → Program) → AllLower p → (i : ℕ) → length (leafOf W s p i .transitions) ≤ 2 ^ rise p i
@@ -75,7 +68,7 @@ rest-few W s p low (node tag l r) =
     omega (
       arith,
       node-count W s p tag l r,
-      part (goesRight tag (restFinal W s p l) (eqb (length (restTransitions W s p l)) 0)) (length (restTransitions W s p r)),
+      part-few (goesRight tag (restFinal W s p l) (eqb (length (restTransitions W s p l)) 0)) (length (restTransitions W s p r)),
       rest-few W s p low l,
       rest-few W s p low r,
       grown (high p l) (omega arith) (nodes l),

@@ -33,7 +33,8 @@ pub every-map : {P Q : RestTransition → Type 0} {xs : List RestTransition} (f 
 every-map f h nobody = nobody
 every-map f h (also {x = x} a p) = also (h x a) (every-map f h p)
 
-pub every-part : {P Q : RestTransition → Type 0} {xs : List RestTransition} (b : Bool) (f : Rest → Rest) → (T b → (x : RestTransition) → P x → Q (onRest f x)) → (T b → Every P xs) → Every Q (map (onRest f) (only b xs))
+pub every-part : {P Q : RestTransition → Type 0} {xs : List RestTransition} (b : Bool) (f : Rest → Rest) → (T b → (x : RestTransition) → P x → Q (onRest f x)) → (T b → Every P xs) →
+    Every Q (map (onRest f) (only b xs))
 every-part true f h k = every-map f (h tt) (k tt)
 every-part false f h k = nobody
 

@@ -142,7 +142,8 @@ module _ (W : World) (s : State) (p : ℕ → Program) where
         -- 11 interrupt
         (λ h k e. record {
           ends = ap (λ (x : Bool). not (s .running) || (holds W c s && x)) (h tt .ends);
-          goes = alone (wrapped (λ (g : Rest). node 3 g (leaf i)) (λ (g : Prog). sequence g (interrupt c (programOf p a))) (λ g. ap (sequence (unfolded p g)) e) (kept (s .running && holds W c s) (h tt .goes)));
+          goes = alone (wrapped (λ (g : Rest). node 3 g (leaf i)) (λ (g : Prog). sequence g (interrupt c (programOf p a))) (λ g. ap (sequence (unfolded p g)) e)
+              (kept (s .running && holds W c s) (h tt .goes)));
         })
         -- past the kinds
         (λ n h k e. record { ends = refl; goes = nobody })

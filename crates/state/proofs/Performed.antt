@@ -117,7 +117,8 @@ module _ (formulas effects actions : List ℕ) (s : State) (n : ℕ) (truths : L
   given-is x old (suc k) i h = rw (H (effectAt effects i .condition) (h i (omega arith) (omega arith)), given-is x old k (suc i) (λ j a b. h j (omega arith) (omega arith)))
 
   -- performing is golog's, for an action whose effects' conditions are among them
-  pub perform-is : (a : ℕ) → (a < start → ConditionsBelow effects n (actionAt actions a .first) (actionAt actions a .count)) → performBy effects actions truths a s ≡ perform (world formulas effects actions) a s
+  pub perform-is : (a : ℕ) → (a < start → ConditionsBelow effects n (actionAt actions a .first) (actionAt actions a .count)) →
+      performBy effects actions truths a s ≡ perform (world formulas effects actions) a s
   unfolding performBy perform changedBy changed
   perform-is a h = go (decLt a start)
     where

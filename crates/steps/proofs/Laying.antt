@@ -93,7 +93,8 @@ module _ {W : World} {s : State} {v : Sources} (C : Counted W s v) where
             ∙ ap₂ (λ (x y : Bool). own ++ Both (wrapA (tagA (r .kind)) (siblingA r i)) (wrapB (tagB (r .kind)) (r .a)) (A .transitions) (B .transitions) x y)
             (own-no-first (r .kind) _ _ l) (own-no-second (r .kind) _ _ _ l)
 
-        go : (b : Bool) (k : ℕ) → k < length (only {A = RestTransition} b ((ownMove r, gone) ∷ []) ++ []) → getElem? (only {A = RestTransition} b ((ownMove r, gone) ∷ []) ++ []) k ≡ some (ownMove r, gone)
+        go : (b : Bool) (k : ℕ) → k < length (only {A = RestTransition} b ((ownMove r, gone) ∷ []) ++ []) →
+            getElem? (only {A = RestTransition} b ((ownMove r, gone) ∷ []) ++ []) k ≡ some (ownMove r, gone)
         go true zero h = refl
         go true (suc k) h = absurd (omega arith)
         go false k h = absurd (omega arith)
@@ -208,7 +209,8 @@ module _ {W : World} {s : State} {v : Sources} (C : Counted W s v) where
             record {
               built =
                   wrap-built _ (B .transitions) _ k (k - first) _ to e n n′ w₁ w′ (L .built) X
-                  (λ x h. ap (λ (xs : List RestTransition). getElem? xs k) parts-are ∙ from-second _ _ (A .transitions) (B .transitions) ua ub k (k - first) (b-goes .0) (omega (arith, first-is)) h);
+                  (λ x h. ap (λ (xs : List RestTransition). getElem? xs k) parts-are ∙ from-second _ _ (A .transitions) (B .transitions) ua ub k (k - first) (b-goes .0) (omega (arith, first-is))
+                  h);
               kept = kept-trans to to w w₁ w′ (kept-less to _ w w₁ (L .kept) (omega arith)) (X .kept) (omega arith);
             }
 

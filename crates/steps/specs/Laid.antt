@@ -15,6 +15,7 @@ use Rattle.remaining.specs.Leaves.{RestTransition, leafOf}
 use Rattle.remaining.specs.Extended.{extended}
 use Rattle.words.specs.Words.{At, Kept, Room}
 use Rattle.leaves.specs.Tallies.{extendedSize, countsOf, Sees}
+use Rattle.steps.specs.declared.Setting.{Setting}
 
 -- an entry of a history, or 65536 where a transition is no move (document 01: "A test is a transition but no move")
 abbrev pub codeOf : Option ℕ → ℕ
@@ -29,9 +30,14 @@ pub record Sources : Type 0 where
   pub running : Bool
   pub counts : List ℕ
 
-abbrev pub sourcesOf : (programs : List ℕ) (n : ℕ) (interrupts : Bool) (truths : List Bool) (running : Bool) (counts : List ℕ) → Sources
-sourcesOf programs n interrupts truths running counts =
-    record { records = extended interrupts (programAt programs) n; many = extendedSize interrupts n; truths = truths; running = running; counts = counts }
+abbrev pub sourcesOf : (programs : List ℕ) → Setting → (truths : List Bool) (counts : List ℕ) → Sources
+sourcesOf programs v truths counts = record {
+  records = extended (v .interrupts) (programAt programs) (v .n);
+  many = extendedSize (v .interrupts) (v .n);
+  truths = truths;
+  running = v .running;
+  counts = counts;
+}
 
 -- it is that of a state
 pub record Counted (W : World) (s : State) (v : Sources) : Type 0 where

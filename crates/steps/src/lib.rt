@@ -4,7 +4,7 @@ ghost use mathlib.Core.Path.{_≡_};
 ghost use mathlib.Core.Bool.{_&&_};
 ghost use Prim.Native.Nat.{_+_, _*_, _≤_, _<_};
 ghost use lib.Dec.{eqb};
-ghost use Rattle.records.specs.Records.{ProgramTable};
+ghost use Rattle.records.specs.Records.{TwoBytes, ProgramTable};
 ghost use Rattle.kinds.specs.Programs.{tagA, tagB};
 ghost use Rattle.remaining.specs.Rest.{Rest};
 ghost use Rattle.remaining.specs.Leaves.{ownMove, siblingA, wrapA, wrapB};
@@ -34,7 +34,7 @@ fn sibling(r: Program, i: usize) -> usize
 
 // The code of a record's own move.
 fn entry_of(r: Program) -> u32
-    requires { ⌜ r .a < 65536 ⌝ }
+    requires { ⌜ TwoBytes r ⌝ }
     ensures { λ e. ⌜ e ≡ codeOf (ownMove r) ⌝ }
 {
     let a = r.a;
@@ -55,7 +55,7 @@ fn past_words(alone: bool, words: usize) -> usize
 // Puts what part a of record i left, n nodes, into its construct: the new number of nodes.
 fn wrap_a(work: &mut [u32], to: usize, r: Program, i: usize, n: usize) -> usize
     requires { ⌜ Room (now work) to (n + 2) ⌝ }
-    requires { ⌜ (i < 65536) × (r .b < 65536) ⌝ }
+    requires { ⌜ (i < 65536) × TwoBytes r ⌝ }
     ensures { λ m. ⌜ Wrapped (wrapA (tagA (r .kind)) (siblingA r i)) (to + past (eqb (tagA (r .kind)) 0) 3) to n m (now (work .entry)) (now (work .exit)) ⌝ }
 {
     let tag = kinds::programs::tag_a(r.kind);
@@ -69,7 +69,7 @@ fn wrap_a(work: &mut [u32], to: usize, r: Program, i: usize, n: usize) -> usize
 // The same for part b, which part a stands left of.
 fn wrap_b(work: &mut [u32], to: usize, r: Program, n: usize) -> usize
     requires { ⌜ Room (now work) to (n + 2) ⌝ }
-    requires { ⌜ r .a < 65536 ⌝ }
+    requires { ⌜ TwoBytes r ⌝ }
     ensures { λ m. ⌜ Wrapped (wrapB (tagB (r .kind)) (r .a)) (to + past (eqb (tagB (r .kind)) 0) 6) to n m (now (work .entry)) (now (work .exit)) ⌝ }
 {
     let tag = kinds::programs::tag_b(r.kind);
@@ -98,9 +98,8 @@ fn lay_record(
     k: usize,
 ) -> Laid
     requires { ⌜ ProgramTable (now programs) (v .n) ⌝ }
-    requires { ⌜ CanLay (sourcesOf (now programs) (v .n) (v .interrupts) (now truths) (v .running) (now counts)) (now work) i to k ⌝ }
-    ensures { λ r. ⌜ LaysRecord (sourcesOf (now (programs .entry)) (v .n) (v .interrupts) (now (truths .entry)) (v .running) (now (counts .entry))) i k to (now (work .entry))
-        (now (work .exit)) (r .entry) (r .size) ⌝ }
+    requires { ⌜ CanLay (sourcesOf (now programs) v (now truths) (now counts)) (now work) i to k ⌝ }
+    ensures { λ r. ⌜ LaysRecord (sourcesOf (now (programs .entry)) v (now (truths .entry)) (now (counts .entry))) i k to (now (work .entry)) (now (work .exit)) (r .entry) (r .size) ⌝ }
 {
     let r = leaves::record_at(programs, v.n, v.interrupts, i);
     if kinds::programs::has_own(r.kind) {
@@ -148,9 +147,9 @@ fn step_record(
     k: usize,
 ) -> Turn
     requires { ⌜ ProgramTable (now programs) (v .n) ⌝ }
-    requires { ⌜ CanStepRecord (sourcesOf (now programs) (v .n) (v .interrupts) (now truths) (v .running) (now counts)) (now finals) (now work) i to ⌝ }
-    ensures { λ r. ⌜ StepsRecord (sourcesOf (now (programs .entry)) (v .n) (v .interrupts) (now (truths .entry)) (v .running) (now (counts .entry))) (now (finals .entry)) i k to
-        (now (work .entry)) (now (work .exit)) r ⌝ }
+    requires { ⌜ CanStepRecord (sourcesOf (now programs) v (now truths) (now counts)) (now finals) (now work) i to ⌝ }
+    ensures { λ r. ⌜ StepsRecord (sourcesOf (now (programs .entry)) v (now (truths .entry)) (now (counts .entry))) (now (finals .entry)) i k to (now (work .entry))
+        (now (work .exit)) r ⌝ }
 {
     let count = records::wide32(records::number_in(counts, i, 0));
     if k < count {
@@ -225,8 +224,8 @@ pub fn step_rest(
     k: usize,
 ) -> Turn
     requires { ⌜ ProgramTable (now programs) (v .n) ⌝ }
-    requires { ⌜ CanStep (sourcesOf (now programs) (v .n) (v .interrupts) (now truths) (v .running) (now counts)) (now finals) (now work) from to ⌝ }
-    ensures { λ r. ⌜ StepsRest (sourcesOf (now (programs .entry)) (v .n) (v .interrupts) (now (truths .entry)) (v .running) (now (counts .entry))) (now (finals .entry)) from k to
+    requires { ⌜ CanStep (sourcesOf (now programs) v (now truths) (now counts)) (now finals) (now work) from to ⌝ }
+    ensures { λ r. ⌜ StepsRest (sourcesOf (now (programs .entry)) v (now (truths .entry)) (now (counts .entry))) (now (finals .entry)) from k to
         (now (work .entry)) (now (work .exit)) r ⌝ }
 {
     let tag = words::tag_at(work, from);

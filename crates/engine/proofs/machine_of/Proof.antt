@@ -11,7 +11,7 @@ use Rattle.sheet.specs.Layout.{programsIn}
 use Rattle.sheet.specs.declared.Layout.{Layout}
 use Rattle.sheet.proofs.Accepted.{ruled}
 use Rattle.engine.proofs.Parts.{fits-of, in-order, programs-long}
-use Rattle.engine.proofs.Frames.{at-most-two}
+use Rattle.records.proofs.Truth.{part-few}
 use Rattle.engine.proofs.machine_of.Statement.{statement}
 use Rattle.engine.proofs.machine_of.Tie as tie
 
@@ -46,7 +46,10 @@ frame-words-requires c κs =
     let at-start = start-from-levels-from c in
     let s = now (at-start .args .s) in
     let h = c .before .height .ensures ∙ ap (λ (l : Layout). heightOf (programAt (programsIn s l)) (l .p)) (at-start .pre .1) in
-    (omega (arith, h, ruled s (at-start .pre .0) .height, c .levels-from .ensures, at-most-two (c .before .before .has-interrupts .result)), fits-of _ _ (at-start .pre) .d)
+    record {
+      levels = omega (arith, h, ruled s (at-start .pre .0) .height, c .levels-from .ensures, part-few (c .before .before .has-interrupts .result) 2);
+      bound = fits-of _ _ (at-start .pre) .d;
+    }
 
 returns : tie.Need-returns
 unfolding levels

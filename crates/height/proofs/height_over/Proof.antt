@@ -1,6 +1,5 @@
 -- The higher of the two, each where its kind has it. Assumes nothing.
 use mathlib.Core.Path.{sym, _∙_}
-use native.Mathlib.Omega.{arith}
 use denote.Ref.{now}
 use Rattle.height.proofs.Links.{over-links}
 use borrow.Author.Needs.{needs}

@@ -1,6 +1,6 @@
 -- Where a record performs no action, none is asked for. Assumes nothing.
 use mathlib.Core.Path.{_∙_, ap}
-use Prim.Native.Nat.{ℕ, min}
+use Prim.Native.Nat.{min}
 use Rattle.kinds.proofs.Counting.{count-acts}
 use Rattle.leaves.specs.Tallies.{cap}
 use borrow.Author.Needs.{needs}

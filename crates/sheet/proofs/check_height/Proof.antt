@@ -1,20 +1,16 @@
 -- The height decides between 9 and the figure. Assumes nothing.
 use denote.Ref.{now}
 use mathlib.Core.Path.{ap, ap₂, _∙_}
-use mathlib.Core.Bool.{Bool, true, false, cond}
-use Prim.Native.Nat.{ℕ, _+_, _≤_}
+use mathlib.Core.Bool.{Bool, cond}
+use Prim.Native.Nat.{ℕ, _+_}
 use native.Mathlib.Omega.{arith}
-use lib.Dec.{lit≤}
+use Rattle.records.proofs.Truth.{part-few}
 use Rattle.records.specs.Records.{programAt}
 use Rattle.height.specs.Work.{levels, workWords}
 use Rattle.sheet.proofs.Laws.{too-high, low-enough}
 use borrow.Author.Needs.{needs}
 use Rattle.sheet.proofs.check_height.Statement.{statement}
 use Rattle.sheet.proofs.check_height.Tie as tie
-
-small : (b : Bool) → cond b 2 0 ≤ 2
-small true = lit≤ tt
-small false = lit≤ tt
 
 height-requires : tie.Need-height-requires
 height-requires c κs = search needs
@@ -29,7 +25,7 @@ levels-from-requires : tie.Need-levels-from-requires
 levels-from-requires c κs = search needs
 
 work-words-requires : tie.Need-work-words-requires
-work-words-requires c κs = let s = small (c .before .has-interrupts .result) in omega (arith, s, c .levels-from .ensures)
+work-words-requires c κs = let s = part-few (c .before .has-interrupts .result) 2 in record { levels = omega (arith, s, c .levels-from .ensures); bound = omega arith }
 
 returns-2 : tie.Need-returns-2
 unfolding levels

@@ -92,7 +92,7 @@ lay-record-put-node-requires : (t : ℕ) → lay-record-lts.Need-put-node-requir
 lay-record-put-node-requires t c κs = omega (arith, (start-from-then1 (c .before) .pre .1 .1) .room .inside)
 
 lay-record-entry-of-requires : (t : ℕ) → lay-record-lts.Need-entry-of-requires (claims t) (lay-record-at t) lay-record.Post
-lay-record-entry-of-requires t c κs = (record-at-from-put-node (c .before .before) .record-at .ensures .1 .0)
+lay-record-entry-of-requires t c κs = (record-at-from-put-node (c .before .before) .record-at .ensures .1)
 
 lay-record-same-length : (t : ℕ) → lay-record-lts.Need-same-length (claims t) (lay-record-at t) lay-record.Post
 lay-record-same-length t c = search needs
@@ -159,7 +159,7 @@ lay-record-wrap-a-requires t c κs =
           (at-lay-record .lay-record .ensures _ _ (can .counted)),
       (
         many-few (at-start .args .v .interrupts) (at-start .args .v .n) _ (at-start .pre .1 .0 .few) (can .inside),
-        at-record-at .record-at .ensures .1 .1,
+        at-record-at .record-at .ensures .1,
       ),
     )
 
@@ -229,7 +229,7 @@ lay-record-wrap-b-requires t c κs =
       b-room (can .counted) _ (can .inside) (can .low) _ (at-record-at .record-at .ensures .0) (sym (at-has-own .has-own .ensures) ∙ at-if1 .if1 .left) _ (at-first-by .first-by .ensures .0) _
           (can .least) (at-if2 .if2 .left)
           (can .room) (at-lay-record2 .lay-record2 .ensures _ _ (can .counted)),
-      at-record-at .record-at .ensures .1 .0,
+      at-record-at .record-at .ensures .1,
     )
 
 lay-record-same-length-3 : (t : ℕ) → lay-record-lts.Need-same-length-3 (claims t) (lay-record-at t) lay-record.Post

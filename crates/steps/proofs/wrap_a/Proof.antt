@@ -26,7 +26,7 @@ close-leaf-requires c κs =
         omega (
           arith,
           c .sibling .ensures,
-          choice-few (loops (at-start .args .r .kind)) _ _ 65536 (at-start .pre .1 .0) (at-start .pre .1 .1),
+          choice-few (loops (at-start .args .r .kind)) _ _ 65536 (at-start .pre .1 .0) (at-start .pre .1 .1 .b),
         ),
       ),
     )

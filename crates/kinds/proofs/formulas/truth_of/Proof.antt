@@ -70,7 +70,8 @@ returns-8 c =
     let a = c .before .before .before .args in
     let r = c .match .rest in
     by-kind (λ (k : ℕ). a .r .kind ≡ k → false ≡ truthOf (formulaOf k (a .r .x) (a .r .a) (a .r .b)) (now (a .values)) (now (a .lower)))
-    (λ e. absurd (r .0 .0 .0 .0 .0 .0 .1 e)) (λ e. refl) (λ e. absurd (r .0 .0 .0 .0 .0 .1 e)) (λ e. absurd (r .0 .0 .0 .0 .1 e)) (λ e. absurd (r .0 .0 .0 .1 e)) (λ e. absurd (r .0 .0 .1 e)) (λ e. absurd (r .0 .1 e)) (λ e. absurd (r .1 e)) (λ k e. refl)
+    (λ e. absurd (r .0 .0 .0 .0 .0 .0 .1 e)) (λ e. refl) (λ e. absurd (r .0 .0 .0 .0 .0 .1 e)) (λ e. absurd (r .0 .0 .0 .0 .1 e)) (λ e. absurd (r .0 .0 .0 .1 e)) (λ e. absurd (r .0 .0 .1 e))
+    (λ e. absurd (r .0 .1 e)) (λ e. absurd (r .1 e)) (λ k e. refl)
     (a .r .kind) refl
 
 pub truth-of-spec : {M : Type 1} → statement M

@@ -21,26 +21,11 @@ one-if-requires-2 c κs = search needs
 flag-in-requires-2 : tie.Need-flag-in-requires-2
 flag-in-requires-2 c κs = search needs
 
-number-in-requires : tie.Need-number-in-requires
-number-in-requires c κs = search needs
-
-number-in-requires-2 : tie.Need-number-in-requires-2
-number-in-requires-2 c κs = search needs
-
 both-if-requires : tie.Need-both-if-requires
 both-if-requires c κs = search needs
 
-number-in-requires-3 : tie.Need-number-in-requires-3
-number-in-requires-3 c κs = search needs
-
-number-in-requires-4 : tie.Need-number-in-requires-4
-number-in-requires-4 c κs = search needs
-
 both-if-requires-2 : tie.Need-both-if-requires-2
 both-if-requires-2 c κs = search needs
-
-number-in-requires-5 : tie.Need-number-in-requires-5
-number-in-requires-5 c κs = search needs
 
 part-requires : tie.Need-part-requires
 part-requires c κs = search needs
@@ -48,41 +33,23 @@ part-requires c κs = search needs
 flag-in-requires-3 : tie.Need-flag-in-requires-3
 flag-in-requires-3 c κs = search needs
 
-number-in-requires-6 : tie.Need-number-in-requires-6
-number-in-requires-6 c κs = search needs
-
-number-in-requires-7 : tie.Need-number-in-requires-7
-number-in-requires-7 c κs = search needs
-
 either-requires : tie.Need-either-requires
 either-requires c κs = search needs
 
 flag-in-requires-4 : tie.Need-flag-in-requires-4
 flag-in-requires-4 c κs = search needs
 
-number-in-requires-8 : tie.Need-number-in-requires-8
-number-in-requires-8 c κs = search needs
-
 part-requires-2 : tie.Need-part-requires-2
 part-requires-2 c κs = search needs
 
-number-in-requires-9 : tie.Need-number-in-requires-9
-number-in-requires-9 c κs = search needs
-
-number-in-requires-10 : tie.Need-number-in-requires-10
-number-in-requires-10 c κs = search needs
-
-number-in-requires-11 : tie.Need-number-in-requires-11
-number-in-requires-11 c κs = search needs
+number-in-requires : tie.Need-number-in-requires
+number-in-requires c κs = search needs
 
 both-if-requires-3 : tie.Need-both-if-requires-3
 both-if-requires-3 c κs = search needs
 
 flag-in-requires-5 : tie.Need-flag-in-requires-5
 flag-in-requires-5 c κs = search needs
-
-number-in-requires-12 : tie.Need-number-in-requires-12
-number-in-requires-12 c κs = search needs
 
 part-requires-3 : tie.Need-part-requires-3
 part-requires-3 c κs = search needs
@@ -97,31 +64,31 @@ returns-2 c = rw (c .before .before .match .keys2) cc
 
 returns-3 : tie.Need-returns-3
 unfolding countBy countOf
-returns-3 c = rw (c .before .before .before .before .match .keys3) cc
+returns-3 c = rw (c .before .before .match .keys3) cc
 
 returns-4 : tie.Need-returns-4
 unfolding countBy countOf
-returns-4 c = ⊎-elim (λ e. rw e cc) (λ e. rw e cc) (c .before .before .before .match .keys4)
+returns-4 c = ⊎-elim (λ e. rw e cc) (λ e. rw e cc) (c .before .match .keys4)
 
 returns-5 : tie.Need-returns-5
 unfolding countBy countOf
-returns-5 c = ⊎-elim (λ e. rw e cc) (λ e. rw e cc) (c .before .before .match .keys5)
+returns-5 c = ⊎-elim (λ e. rw e cc) (λ e. rw e cc) (c .before .match .keys5)
 
 returns-6 : tie.Need-returns-6
 unfolding countBy countOf
-returns-6 c = rw (c .before .before .before .before .match .keys6) cc
+returns-6 c = rw (c .before .before .match .keys6) cc
 
 returns-7 : tie.Need-returns-7
 unfolding countBy countOf
-returns-7 c = rw (c .before .before .before .match .keys7) cc
+returns-7 c = rw (c .before .before .match .keys7) cc
 
 returns-8 : tie.Need-returns-8
 unfolding countBy countOf
-returns-8 c = rw (c .before .before .before .before .match .keys8) cc
+returns-8 c = rw (c .before .before .match .keys8) cc
 
 returns-9 : tie.Need-returns-9
 unfolding countBy countOf
-returns-9 c = rw (c .before .before .before .match .keys9) cc
+returns-9 c = rw (c .before .before .match .keys9) cc
 
 returns-10 : tie.Need-returns-10
 unfolding countBy countOf
@@ -129,7 +96,9 @@ returns-10 c =
     let a = c .before .before .before .before .args in
     let r = c .match .rest in
     by-kind (λ (k : ℕ). a .r .kind ≡ k → 0 ≡ countBy (recordOf k (a .r .a) (a .r .b) (a .r .c)) (a .can) (now (a .truths)) (a .running) (now (a .finals)) (now (a .counts)))
-    (λ e. refl) (λ e. absurd (r .0 .0 .0 .0 .0 .0 .0 .0 .1 e)) (λ e. absurd (r .0 .0 .0 .0 .0 .0 .0 .1 e)) (λ e. absurd (r .0 .0 .0 .0 .0 .0 .1 e)) (λ e. absurd (r .0 .0 .0 .0 .0 .1 (inl e))) (λ e. absurd (r .0 .0 .0 .0 .1 (inl e))) (λ e. absurd (r .0 .0 .0 .1 e)) (λ e. absurd (r .0 .0 .1 e)) (λ e. absurd (r .0 .0 .0 .0 .0 .1 (inr e))) (λ e. absurd (r .0 .1 e)) (λ e. absurd (r .0 .0 .0 .0 .1 (inr e))) (λ e. absurd (r .1 e)) (λ k e. refl)
+    (λ e. refl) (λ e. absurd (r .0 .0 .0 .0 .0 .0 .0 .0 .1 e)) (λ e. absurd (r .0 .0 .0 .0 .0 .0 .0 .1 e)) (λ e. absurd (r .0 .0 .0 .0 .0 .0 .1 e)) (λ e. absurd (r .0 .0 .0 .0 .0 .1 (inl e)))
+    (λ e. absurd (r .0 .0 .0 .0 .1 (inl e))) (λ e. absurd (r .0 .0 .0 .1 e)) (λ e. absurd (r .0 .0 .1 e)) (λ e. absurd (r .0 .0 .0 .0 .0 .1 (inr e))) (λ e. absurd (r .0 .1 e))
+    (λ e. absurd (r .0 .0 .0 .0 .1 (inr e))) (λ e. absurd (r .1 e)) (λ k e. refl)
     (a .r .kind) refl
 
 pub count-by-spec : {M : Type 1} → statement M
@@ -140,27 +109,16 @@ count-by-spec =
     flag-in-requires
     one-if-requires-2
     flag-in-requires-2
-    number-in-requires
-    number-in-requires-2
     both-if-requires
-    number-in-requires-3
-    number-in-requires-4
     both-if-requires-2
-    number-in-requires-5
     part-requires
     flag-in-requires-3
-    number-in-requires-6
-    number-in-requires-7
     either-requires
     flag-in-requires-4
-    number-in-requires-8
     part-requires-2
-    number-in-requires-9
-    number-in-requires-10
-    number-in-requires-11
+    number-in-requires
     both-if-requires-3
     flag-in-requires-5
-    number-in-requires-12
     part-requires-3
     returns
     returns-2

@@ -78,7 +78,8 @@ returns-10 c =
     let a = c .before .before .args in
     let r = c .match .rest in
     by-kind (λ (k : ℕ). a .r .kind ≡ k → true ≡ finalBoundBy (recordOf k (a .r .a) (a .r .b) (a .r .c)) (a .most) (now (a .marks)))
-    (λ e. refl) (λ e. absurd (r .0 .0 .0 .0 .0 .0 .0 .0 .1 e)) (λ e. absurd (r .0 .0 .0 .0 .0 .0 .0 .1 e)) (λ e. absurd (r .0 .0 .0 .0 .0 .0 .1 e)) (λ e. absurd (r .0 .0 .0 .0 .0 .1 e)) (λ e. refl) (λ e. absurd (r .0 .0 .0 .0 .1 e)) (λ e. absurd (r .0 .0 .0 .1 e)) (λ e. absurd (r .0 .0 .1 e)) (λ e. absurd (r .0 .1 e)) (λ e. refl) (λ e. absurd (r .1 e)) (λ k e. refl)
+    (λ e. refl) (λ e. absurd (r .0 .0 .0 .0 .0 .0 .0 .0 .1 e)) (λ e. absurd (r .0 .0 .0 .0 .0 .0 .0 .1 e)) (λ e. absurd (r .0 .0 .0 .0 .0 .0 .1 e)) (λ e. absurd (r .0 .0 .0 .0 .0 .1 e))
+    (λ e. refl) (λ e. absurd (r .0 .0 .0 .0 .1 e)) (λ e. absurd (r .0 .0 .0 .1 e)) (λ e. absurd (r .0 .0 .1 e)) (λ e. absurd (r .0 .1 e)) (λ e. refl) (λ e. absurd (r .1 e)) (λ k e. refl)
     (a .r .kind) refl
 
 pub final-bound-by-spec : {M : Type 1} → statement M

@@ -10,9 +10,6 @@ flag-in-requires c κs = search needs
 uses-a-requires : tie.Need-uses-a-requires
 uses-a-requires c κs = search needs
 
-number-in-requires : tie.Need-number-in-requires
-number-in-requires c κs = search needs
-
 part-requires : tie.Need-part-requires
 part-requires c κs = search needs
 
@@ -21,5 +18,4 @@ unfolding firstBy
 returns c = (cc, search needs)
 
 pub first-by-spec : {M : Type 1} → statement M
-first-by-spec =
-    tie.close (tie.spec flag-in-requires uses-a-requires number-in-requires part-requires returns)
+first-by-spec = tie.close (tie.spec flag-in-requires uses-a-requires part-requires returns)

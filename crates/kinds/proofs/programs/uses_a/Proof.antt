@@ -46,10 +46,13 @@ returns-9 c = rw (c .match .keys9)
 returns-10 : tie.Need-returns-10
 unfolding usesA
 returns-10 c =
-    let kind = c .before .args .kind in
+    let at-start = c .before in
+    let kind = at-start .args .kind in
     let r = c .match .rest in
-    by-kind (λ (k : ℕ). kind ≡ k → false ≡ usesA k (c .before .args .h) (c .before .args .running))
-    (λ e. refl) (λ e. refl) (λ e. refl) (λ e. absurd (r .0 .0 .0 .0 .0 .0 .0 .0 .1 e)) (λ e. absurd (r .0 .0 .0 .0 .0 .0 .0 .1 e)) (λ e. absurd (r .0 .0 .0 .0 .0 .0 .1 e)) (λ e. absurd (r .0 .0 .0 .0 .0 .1 e)) (λ e. absurd (r .0 .0 .0 .0 .1 e)) (λ e. absurd (r .0 .0 .0 .1 e)) (λ e. absurd (r .0 .0 .1 e)) (λ e. absurd (r .0 .1 e)) (λ e. absurd (r .1 e)) (λ k e. refl)
+    by-kind (λ (k : ℕ). kind ≡ k → false ≡ usesA k (at-start .args .h) (at-start .args .running))
+    (λ e. refl) (λ e. refl) (λ e. refl) (λ e. absurd (r .0 .0 .0 .0 .0 .0 .0 .0 .1 e)) (λ e. absurd (r .0 .0 .0 .0 .0 .0 .0 .1 e)) (λ e. absurd (r .0 .0 .0 .0 .0 .0 .1 e))
+    (λ e. absurd (r .0 .0 .0 .0 .0 .1 e)) (λ e. absurd (r .0 .0 .0 .0 .1 e)) (λ e. absurd (r .0 .0 .0 .1 e)) (λ e. absurd (r .0 .0 .1 e)) (λ e. absurd (r .0 .1 e)) (λ e. absurd (r .1 e))
+    (λ k e. refl)
     kind refl
 
 pub uses-a-spec : {M : Type 1} → statement M
