@@ -49,6 +49,25 @@ cond-less : (b : Bool) (k x : ℕ) → k < cond b x 0 → T b × (k < x)
 cond-less true k x h = (tt, h)
 cond-less false k x h = absurd (omega arith)
 
+-- r is record i of the table that runs, low enough for its counts to be exact
+pub record IsRecord (v : Sources) (i : ℕ) (r : Program) : Type 0 where
+  pub inside : i < v .many
+  pub low : rise (v .records) i ≤ 18
+  pub is : r ≡ v .records i
+
+-- r has no transition of its own: `first` of its transitions are part a's, the others part b's
+pub record OfParts (v : Sources) (r : Program) (first : ℕ) : Type 0 where
+  pub other : hasOwn (r .kind) ≡ false
+  pub first-by : first ≡ firstBy r (v .truths) (v .running) (v .counts)
+
+pub is-record : {v : Sources} {w : List ℕ} {i to k : ℕ} {r : Program} → CanLay v w i to k → r ≡ v .records i → IsRecord v i r
+is-record can e = record { inside = can .inside; low = can .low; is = e }
+
+pub of-parts :
+    {v : Sources} {i first : ℕ} {r : Program} {own : Bool}
+    → IsRecord v i r → own ≡ hasOwn (r .kind) → own ≡ false → first ≡ firstBy r (v .truths) (v .running) (v .counts) → OfParts v r first
+of-parts I e n f = record { other = sym e ∙ n; first-by = f }
+
 module _ {W : World} {s : State} {v : Sources} (C : Counted W s v) where
   abbrev p : ℕ → Program
   p = v .records
@@ -57,7 +76,7 @@ module _ {W : World} {s : State} {v : Sources} (C : Counted W s v) where
   pub count-is : (i : ℕ) → i < v .many → rise (v .records) i ≤ 18 → getD (v .counts) i 0 ≡ length (leafOf W s (v .records) i .transitions)
   count-is i h l = ap (λ (c : List ℕ). getD c i 0) (C .counts-are) ∙ counts-exact W s p (C .lower) (v .many) i h l
 
-  module _ (i : ℕ) (inside : i < v .many) (low : rise (v .records) i ≤ 18) (r : Program) (er : r ≡ v .records i) where
+  module _ {i : ℕ} {r : Program} (I : IsRecord v i r) where
     A : Leaf
     A = leafOf W s p (r .a)
 
@@ -78,7 +97,7 @@ module _ {W : World} {s : State} {v : Sources} (C : Counted W s v) where
 
     steps-are : leafOf W s p i .transitions ≡ own ++ parts
     unfolding leafWith A B ua ub own parts
-    steps-are = ap (λ (x : Leaf). x .transitions) (subst (λ (r : Program). leafOf W s p i ≡ leafWith W s r i (leafOf W s p (r .a)) (leafOf W s p (r .b))) (sym er) (leaf-step W s p (C .lower) i))
+    steps-are = ap (λ (x : Leaf). x .transitions) (subst (λ (r : Program). leafOf W s p i ≡ leafWith W s r i (leafOf W s p (r .a)) (leafOf W s p (r .b))) (sym (I .is)) (leaf-step W s p (C .lower) i))
 
     -- an act or a test: its own
     pub own-step : (k : ℕ) → k < length (leafOf W s (v .records) i .transitions) → hasOwn (r .kind) ≡ true → getElem? (leafOf W s (v .records) i .transitions) k ≡ some (ownMove r, gone)
@@ -104,30 +123,30 @@ module _ {W : World} {s : State} {v : Sources} (C : Counted W s v) where
     unfolding ua
     a-lower t =
         let u : T (hasA (r .kind)) = uses-a (r .kind) _ _ t in
-        subst (λ (r : Program). T (hasA (r .kind)) → (r .a < i) × (rise p (r .a) < rise p i)) (sym er) (λ u. (lower-a p (C .lower) i u, rise-a p (C .lower) i u)) u
+        subst (λ (r : Program). T (hasA (r .kind)) → (r .a < i) × (rise p (r .a) < rise p i)) (sym (I .is)) (λ u. (lower-a p (C .lower) i u, rise-a p (C .lower) i u)) u
 
     b-lower : T ub → (r .b < i) × (rise p (r .b) < rise p i)
     unfolding ub
     b-lower t =
         let u : T (hasB (r .kind)) = uses-b (r .kind) _ _ _ t in
-        subst (λ (r : Program). T (hasB (r .kind)) → (r .b < i) × (rise p (r .b) < rise p i)) (sym er) (λ u. (lower-b p (C .lower) i u, rise-b p (C .lower) i u)) u
+        subst (λ (r : Program). T (hasB (r .kind)) → (r .b < i) × (rise p (r .b) < rise p i)) (sym (I .is)) (λ u. (lower-b p (C .lower) i u, rise-b p (C .lower) i u)) u
 
-    module _ (other : hasOwn (r .kind) ≡ false) (first : ℕ) (ef : first ≡ firstBy r (v .truths) (v .running) (v .counts)) where
+    module _ {first : ℕ} (P : OfParts v r first) where
       parts-are : leafOf W s p i .transitions ≡ parts
       unfolding own
-      parts-are = steps-are ∙ ap (λ (b : Bool). only b ((ownMove r, gone) ∷ []) ++ parts) (no-own (r .kind) _ _ other)
+      parts-are = steps-are ∙ ap (λ (b : Bool). only b ((ownMove r, gone) ∷ []) ++ parts) (no-own (r .kind) _ _ (P .other))
 
       first-is : first ≡ cond ua (length (A .transitions)) 0
       unfolding A ua
       first-is =
-          ef
+          P .first-by
           ∙ ap (firstBy r (v .truths) (v .running)) (C .counts-are)
           ∙ subst
           (λ (r : Program). firstBy r (v .truths) (v .running) (countsOf W s p (v .many)) ≡ cond (usesA (r .kind) (holds W (r .c) s) (s .running)) (length (leafOf W s p (r .a) .transitions)) 0)
-          (sym er) (first-exact W s p (C .lower) (v .many) i inside low (C .sees .each i inside) (C .sees .runs))
+          (sym (I .is)) (first-exact W s p (C .lower) (v .many) i (I .inside) (I .low) (C .sees .each i (I .inside)) (C .sees .runs))
 
       -- part a's, where k is below how many of a's there are
-      module _ (k : ℕ) (below : k < first) where
+      module _ {k : ℕ} (below : k < first) where
         a-goes : T ua × (k < length (A .transitions))
         a-goes = cond-less ua k _ (subst (λ (n : ℕ). k < n) first-is below)
 
@@ -169,12 +188,12 @@ module _ {W : World} {s : State} {v : Sources} (C : Counted W s v) where
             }
 
       -- else part b's, at the difference
-      module _ (k : ℕ) (all : k < getD (v .counts) i 0) (above : first ≤ k) where
+      module _ {k : ℕ} (all : k < getD (v .counts) i 0) (above : first ≤ k) where
         b-goes : T ub × (k - cond ua (length (A .transitions)) 0 < length (B .transitions))
         unfolding parts
         b-goes =
             second-goes _ _ (A .transitions) (B .transitions) ua ub k (subst (λ (n : ℕ). n ≤ k) first-is above)
-            (subst (λ (xs : List RestTransition). k < length xs) parts-are (subst (λ (n : ℕ). k < n) (count-is i inside low) all))
+            (subst (λ (xs : List RestTransition). k < length xs) parts-are (subst (λ (n : ℕ). k < n) (count-is i (I .inside) (I .low)) all))
 
         pub b-falls : r .b < i
         b-falls = b-lower (b-goes .0) .0
@@ -222,7 +241,7 @@ module _ {W : World} {s : State} {v : Sources} (C : Counted W s v) where
       built = record {
         move = ownMove r;
         rest = gone;
-        nth = own-step k (subst (λ (n : ℕ). k < n) (count-is i inside low) h) l;
+        nth = own-step k (subst (λ (n : ℕ). k < n) (count-is i (I .inside) (I .low)) h) l;
         at = put-gone to w w′ P (omega (arith, R .inside));
         entry-is = ee;
         size-is = refl;

@@ -2,7 +2,9 @@
 use borrow.Author.Needs.{needs}
 use mathlib.Core.Path.{sym, _∙_}
 use native.Mathlib.Omega.{arith}
-use Rattle.steps.proofs.Laying.{own-lays, a-falls, a-can, a-room, a-lays, b-falls, b-can, b-room, b-lays, many-few}
+use denote.Ref.{now}
+use Rattle.steps.specs.Laid.{sourcesOf}
+use Rattle.steps.proofs.Laying.{IsRecord, OfParts, is-record, of-parts, own-lays, a-falls, a-can, a-room, a-lays, b-falls, b-can, b-room, b-lays, many-few}
 use Prim.Native.Nat.{ℕ, _<_}
 use borrow.Fn.Kinds.{In, Out}
 use borrow.Fn.PlainCycle.{Measures, is, falls, and}
@@ -97,6 +99,11 @@ lay-record-entry-of-requires t c κs = (record-at-from-put-node (c .before .befo
 lay-record-same-length : (t : ℕ) → lay-record-lts.Need-same-length (claims t) (lay-record-at t) lay-record.Post
 lay-record-same-length t c = search needs
 
+record-known : (t : ℕ) → (c : lay-record-lts.After-record-at (claims t) (lay-record-at t) lay-record.Post) →
+    let at-start = start-from-record-at c in
+    IsRecord (sourcesOf (now (at-start .args .programs)) (at-start .args .v) (now (at-start .args .truths)) (now (at-start .args .counts))) (at-start .args .i) (c .record-at .result)
+record-known t c = is-record (start-from-record-at c .pre .1 .1) (c .record-at .ensures .0)
+
 lay-record-returns : (t : ℕ) → lay-record-lts.Need-returns (claims t) (lay-record-at t) lay-record.Post
 lay-record-returns t c W s C =
     let at-put-node = c .before .before .before in
@@ -105,8 +112,8 @@ lay-record-returns t c W s C =
     let at-record-at = at-has-own .before in
     let at-start = start-from-record-at at-record-at in
     let can = at-start .pre .1 .1 in
-    own-lays C _ (can .inside) (can .low) _ (at-record-at .record-at .ensures .0) (can .least) (sym (at-has-own .has-own .ensures) ∙ at-if1 .if1 .taken) (can .room)
-    (at-put-node .put-node .ensures) (c .entry-of .ensures)
+    let I = record-known t at-record-at in
+    own-lays C I (can .least) (sym (at-has-own .has-own .ensures) ∙ at-if1 .if1 .taken) (can .room) (at-put-node .put-node .ensures) (c .entry-of .ensures)
 
 lay-record-first-by-requires : (t : ℕ) → lay-record-lts.Need-first-by-requires (claims t) (lay-record-at t) lay-record.Post
 lay-record-first-by-requires t c κs = search needs
@@ -122,45 +129,36 @@ lay-record-add-at t c =
     let can = start-from-past-words c .pre .1 .1 in
     omega (arith, can .room .inside, can .room .small, c .past-words .ensures .1)
 
+parts-known : (t : ℕ) → (c : lay-record-lts.After-first-by (claims t) (lay-record-at t) lay-record.Post) →
+    let at-record-at = c .before .before .before in
+    let at-start = start-from-record-at at-record-at in
+    OfParts (sourcesOf (now (at-start .args .programs)) (at-start .args .v) (now (at-start .args .truths)) (now (at-start .args .counts))) (at-record-at .record-at .result) (c .first-by .result)
+parts-known t c = of-parts (record-known t (c .before .before .before)) (c .before .before .has-own .ensures) (c .before .if1 .left) (c .first-by .ensures .0)
+
 lay-record-lay-record-requires : (t : ℕ) → lay-record-lts.Need-lay-record-requires (claims t) (lay-record-at t) lay-record.Post
 lay-record-lay-record-requires t c κs =
     let at-if2 = c .before .before .before in
     let at-first-by = at-if2 .before in
-    let at-if1 = at-first-by .before in
-    let at-has-own = at-if1 .before in
-    let at-record-at = at-has-own .before in
+    let at-record-at = at-first-by .before .before .before in
     let at-start = start-from-record-at at-record-at in
-    let can = at-start .pre .1 .1 in (
-      omega (
-        arith,
-        a-falls (can .counted) _ (can .inside) (can .low) _ (at-record-at .record-at .ensures .0) (sym (at-has-own .has-own .ensures) ∙ at-if1 .if1 .left) _ (at-first-by .first-by .ensures .0) _
-            (at-if2 .if2 .taken),
-        at-start .pre .0,
-      ),
-      (
-        at-start .pre .1 .0,
-        a-can (can .counted) _ (can .inside) (can .low) _ (at-record-at .record-at .ensures .0) (sym (at-has-own .has-own .ensures) ∙ at-if1 .if1 .left) _ (at-first-by .first-by .ensures .0)
-            _ (at-if2 .if2 .taken) (can .room) (c .before .past-words .ensures .1),
-      ),
-    )
+    let I = record-known t at-record-at in
+    let P = parts-known t at-first-by in
+    let can = at-start .pre .1 .1 in
+    let below = at-if2 .if2 .taken in
+    (omega (arith, a-falls (can .counted) I P below, at-start .pre .0), (at-start .pre .1 .0, a-can (can .counted) I P below (can .room) (c .before .past-words .ensures .1)))
 
 lay-record-wrap-a-requires : (t : ℕ) → lay-record-lts.Need-wrap-a-requires (claims t) (lay-record-at t) lay-record.Post
 lay-record-wrap-a-requires t c κs =
     let at-lay-record = c .before .before .before in
     let at-if2 = at-lay-record .before .before .before .before in
     let at-first-by = at-if2 .before in
-    let at-if1 = at-first-by .before in
-    let at-has-own = at-if1 .before in
-    let at-record-at = at-has-own .before in
+    let at-record-at = at-first-by .before .before .before in
     let at-start = start-from-record-at at-record-at in
+    let I = record-known t at-record-at in
+    let P = parts-known t at-first-by in
     let can = at-start .pre .1 .1 in (
-      a-room (can .counted) _ (can .inside) (can .low) _ (at-record-at .record-at .ensures .0) (sym (at-has-own .has-own .ensures) ∙ at-if1 .if1 .left) _ (at-first-by .first-by .ensures .0) _
-          (at-if2 .if2 .taken) (can .room)
-          (at-lay-record .lay-record .ensures _ _ (can .counted)),
-      (
-        many-few (at-start .args .v .interrupts) (at-start .args .v .n) _ (at-start .pre .1 .0 .few) (can .inside),
-        at-record-at .record-at .ensures .1,
-      ),
+      a-room (can .counted) I P (at-if2 .if2 .taken) (can .room) (at-lay-record .lay-record .ensures _ _ (can .counted)),
+      (many-few (at-start .args .v .interrupts) (at-start .args .v .n) _ (at-start .pre .1 .0 .few) (can .inside), at-record-at .record-at .ensures .1),
     )
 
 lay-record-same-length-2 : (t : ℕ) → lay-record-lts.Need-same-length-2 (claims t) (lay-record-at t) lay-record.Post
@@ -173,14 +171,10 @@ lay-record-returns-2 t c W s C =
     let at-tag-a = at-past-words .before in
     let at-if2 = at-tag-a .before in
     let at-first-by = at-if2 .before in
-    let at-if1 = at-first-by .before in
-    let at-has-own = at-if1 .before in
-    let at-record-at = at-has-own .before in
-    let at-start = start-from-record-at at-record-at in
-    let can = at-start .pre .1 .1 in
-    a-lays C _ (can .inside) (can .low) _ (at-record-at .record-at .ensures .0) (sym (at-has-own .has-own .ensures) ∙ at-if1 .if1 .left) _ (at-first-by .first-by .ensures .0) _
-    (at-if2 .if2 .taken) (at-tag-a .tag-a .ensures)
-    (at-past-words .past-words .ensures .0) (at-lay-record .lay-record .ensures W s C) (c .before .before .wrap-a .ensures)
+    let at-record-at = at-first-by .before .before .before in
+    let I = record-known t at-record-at in
+    let P = parts-known t at-first-by in
+    a-lays C I P (at-if2 .if2 .taken) (at-tag-a .tag-a .ensures) (at-past-words .past-words .ensures .0) (at-lay-record .lay-record .ensures W s C) (c .before .before .wrap-a .ensures)
 
 lay-record-tag-b-requires : (t : ℕ) → lay-record-lts.Need-tag-b-requires (claims t) (lay-record-at t) lay-record.Post
 lay-record-tag-b-requires t c κs = search needs
@@ -197,22 +191,16 @@ lay-record-lay-record-requires-2 : (t : ℕ) → lay-record-lts.Need-lay-record-
 lay-record-lay-record-requires-2 t c κs =
     let at-if2 = c .before .before .before in
     let at-first-by = at-if2 .before in
-    let at-if1 = at-first-by .before in
-    let at-has-own = at-if1 .before in
-    let at-record-at = at-has-own .before in
+    let at-record-at = at-first-by .before .before .before in
     let at-start = start-from-record-at at-record-at in
-    let can = at-start .pre .1 .1 in (
-      omega (
-        arith,
-        b-falls (can .counted) _ (can .inside) (can .low) _ (at-record-at .record-at .ensures .0) (sym (at-has-own .has-own .ensures) ∙ at-if1 .if1 .left) _ (at-first-by .first-by .ensures .0) _
-            (can .least)
-            (at-if2 .if2 .left),
-        at-start .pre .0,
-      ),
+    let I = record-known t at-record-at in
+    let P = parts-known t at-first-by in
+    let can = at-start .pre .1 .1 in
+    let above = at-if2 .if2 .left in (
+      omega (arith, b-falls (can .counted) I P (can .least) above, at-start .pre .0),
       (
         at-start .pre .1 .0,
-        b-can (can .counted) _ (can .inside) (can .low) _ (at-record-at .record-at .ensures .0) (sym (at-has-own .has-own .ensures) ∙ at-if1 .if1 .left) _
-            (at-first-by .first-by .ensures .0) _ (can .least) (at-if2 .if2 .left) (can .room) (c .before .past-words2 .ensures .1),
+        b-can (can .counted) I P (can .least) above (can .room) (c .before .past-words2 .ensures .1),
       ),
     )
 
@@ -221,16 +209,12 @@ lay-record-wrap-b-requires t c κs =
     let at-lay-record2 = c .before .before .before in
     let at-if2 = at-lay-record2 .before .before .before .before in
     let at-first-by = at-if2 .before in
-    let at-if1 = at-first-by .before in
-    let at-has-own = at-if1 .before in
-    let at-record-at = at-has-own .before in
+    let at-record-at = at-first-by .before .before .before in
     let at-start = start-from-record-at at-record-at in
-    let can = at-start .pre .1 .1 in (
-      b-room (can .counted) _ (can .inside) (can .low) _ (at-record-at .record-at .ensures .0) (sym (at-has-own .has-own .ensures) ∙ at-if1 .if1 .left) _ (at-first-by .first-by .ensures .0) _
-          (can .least) (at-if2 .if2 .left)
-          (can .room) (at-lay-record2 .lay-record2 .ensures _ _ (can .counted)),
-      at-record-at .record-at .ensures .1,
-    )
+    let I = record-known t at-record-at in
+    let P = parts-known t at-first-by in
+    let can = at-start .pre .1 .1 in
+    (b-room (can .counted) I P (can .least) (at-if2 .if2 .left) (can .room) (at-lay-record2 .lay-record2 .ensures _ _ (can .counted)), at-record-at .record-at .ensures .1)
 
 lay-record-same-length-3 : (t : ℕ) → lay-record-lts.Need-same-length-3 (claims t) (lay-record-at t) lay-record.Post
 lay-record-same-length-3 t c = search needs
@@ -242,14 +226,12 @@ lay-record-returns-3 t c W s C =
     let at-tag-b = at-past-words2 .before in
     let at-if2 = at-tag-b .before in
     let at-first-by = at-if2 .before in
-    let at-if1 = at-first-by .before in
-    let at-has-own = at-if1 .before in
-    let at-record-at = at-has-own .before in
+    let at-record-at = at-first-by .before .before .before in
     let at-start = start-from-record-at at-record-at in
-    let can = at-start .pre .1 .1 in
-    b-lays C _ (can .inside) (can .low) _ (at-record-at .record-at .ensures .0) (sym (at-has-own .has-own .ensures) ∙ at-if1 .if1 .left) _ (at-first-by .first-by .ensures .0) _ (can .least)
-    (at-if2 .if2 .left)
-    (at-tag-b .tag-b .ensures) (at-past-words2 .past-words2 .ensures .0) (at-lay-record2 .lay-record2 .ensures W s C) (c .before .before .wrap-b .ensures)
+    let I = record-known t at-record-at in
+    let P = parts-known t at-first-by in
+    b-lays C I P (at-start .pre .1 .1 .least) (at-if2 .if2 .left) (at-tag-b .tag-b .ensures) (at-past-words2 .past-words2 .ensures .0) (at-lay-record2 .lay-record2 .ensures W s C)
+    (c .before .before .wrap-b .ensures)
 
 pub +lay-record-spec : {M : Type 1} → statement M
 +lay-record-spec = close μ-lay-record λ t. lay-record-lts.spec (claims t)
