@@ -4,13 +4,17 @@ use mathlib.Core.Path.{refl}
 use Rattle.records.specs.Records.{fluentAt, formulaAt, effectAt, actionAt, programAt}
 use Rattle.records.specs.Lowest.{lowestFrom, lowest}
 use Rattle.records.specs.Table.{upTo, entryOf}
-use Rattle.rules.specs.Rules.{fluentOk, formulaOk, effectOk, actionOk, programOk}
-use Rattle.height.specs.Height.{links, heightOver, heightAt, rise, interrupts}
+use Rattle.kinds.specs.Truth.{truthOf}
+use Rattle.kinds.specs.Programs.{fieldA, fieldB, fieldC, programOk, links}
+use Rattle.kinds.specs.Formulas.{fieldX, formulaOk}
+use Rattle.kinds.specs.Formulas.{fieldA as formulaA, fieldB as formulaB}
+use Rattle.rules.specs.Rules.{fluentOk, effectOk, actionOk}
+use Rattle.height.specs.Height.{heightOver, heightAt, rise, interrupts}
 use Rattle.height.specs.Work.{levels}
 use Rattle.sheet.specs.Trailer.{trailerIn, limitsOk, distanceOk}
 use Rattle.sheet.specs.Layout.{layoutIn, layoutOf}
 use Rattle.sheet.specs.Check.{refusedAt, tablesChecked, heightChecked, trailerChecked, checkOf}
-use Rattle.golog.specs.World.{truthOf, holds, possible, given, each, changed, perform}
+use Rattle.golog.specs.World.{holds, possible, given, each, changed, perform}
 use Rattle.golog.specs.Prog.{construct, programOf}
 use Rattle.golog.specs.Transitions.{final, transitions}
 use Rattle.demands.specs.Planning.{verdictOf, acceptsOf, planOf, replayOf}
@@ -20,7 +24,8 @@ use Rattle.demands.specs.Cases.{All, rows, further, edges}
 computing : Unit {0}
 unfolding
     flatten fluentAt formulaAt effectAt actionAt programAt lowestFrom lowest upTo entryOf
-    fluentOk formulaOk effectOk actionOk programOk links heightOver heightAt rise interrupts levels
+    fieldX formulaA formulaB formulaOk fieldA fieldB fieldC programOk links
+    fluentOk effectOk actionOk heightOver heightAt rise interrupts levels
     trailerIn limitsOk distanceOk layoutIn layoutOf refusedAt tablesChecked heightChecked trailerChecked checkOf
     truthOf holds possible given each changed perform construct programOf final transitions
     verdictOf acceptsOf planOf replayOf

@@ -13,9 +13,9 @@ use Rattle.sheet.specs.Check.{Accepts}
 use Rattle.sheet.proofs.Accepted.{laid}
 use Rattle.sheet.proofs.Lower.{lower}
 use Rattle.golog.specs.Transitions.{Configuration}
-use Rattle.remaining.specs.Rest.{leaf, unfolded, nodes, AllLower}
+use Rattle.remaining.specs.Rest.{unfolded, nodes, AllLower}
 use Rattle.remaining.specs.Leaves.{Compact}
-use Rattle.remaining.specs.Extended.{extended, top}
+use Rattle.remaining.specs.Extended.{top}
 use Rattle.remaining.proofs.Started.{table-lower, top-started, top-rise}
 use Rattle.remaining.proofs.Nodes.{Reaches, reached-nodes}
 use Rattle.demands.specs.Decoded.{worldOf, recordsOf, interruptsIn, initialOf, firstOf, boundOf}

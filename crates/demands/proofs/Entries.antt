@@ -9,21 +9,21 @@ use native.Mathlib.Omega.{arith}
 use lib.Dec.{T}
 use lib.ListN.{getD}
 use Rattle.records.specs.declared.Program.{Program}
-use Rattle.rules.proofs.Rows.{act-kept}
-use Rattle.height.specs.Height.{hasTwo}
+use Rattle.kinds.specs.Programs.{fieldA, acts}
+use Rattle.kinds.proofs.ProgramFields.{action-below, link-a, link-b}
 use Rattle.height.proofs.Paths.{Lower}
 use Rattle.height.specs.Work.{Interrupted}
 use Rattle.height.proofs.Levels.{interrupts-exactly}
 use Rattle.sheet.specs.Layout.{layoutOf}
 use Rattle.sheet.specs.Check.{Accepts}
 use Rattle.sheet.proofs.Accepted.{laid}
-use Rattle.sheet.proofs.Lower.{program-of, lower}
+use Rattle.sheet.proofs.Lower.{fields-of, lower}
 use Rattle.golog.specs.World.{start, stop}
-use Rattle.golog.specs.Prog.{Prog, nil, construct, progAt, programOf, started}
+use Rattle.golog.specs.Prog.{Prog, nil, progAt, programOf, started}
 use Rattle.golog.specs.Transitions.{Configuration}
 use Rattle.golog.proofs.Acts.{Acts, acts-kept}
-use Rattle.remaining.proofs.Columns.{by-kind}
-use Rattle.remaining.proofs.Entries.{entry-rule, hasA, link-a, link-b, fields}
+use Rattle.golog.proofs.Construct.{construct-acts}
+use Rattle.remaining.proofs.Entries.{entry-rule}
 use Rattle.runs.specs.Runs.{Run}
 use Rattle.runs.proofs.Histories.{history-has}
 use Rattle.demands.specs.Decoded.{worldOf, recordsOf, interruptsIn, firstOf}
@@ -32,33 +32,20 @@ use Rattle.demands.specs.Entries.{KnownEntry}
 use Rattle.demands.proofs.Demands.{history-refused}
 
 module _ (K : ℕ → Type 0) where
-  -- the actions of a record's program are its own, where it is an act, and those of the parts that its kind has
-  construct-acts :
-      (kind a b c : ℕ) (P Q : Prog)
-      → (kind ≡ 1 → K a)
-      → (T (hasA kind) → Acts K P)
-      → (T (hasTwo kind) → Acts K Q)
-      → Acts K (construct (fields kind a b c) P Q)
-  unfolding construct
-  construct-acts kind a b c P Q =
-      by-kind
-      (λ (kind : ℕ). (kind ≡ 1 → K a) → (T (hasA kind) → Acts K P) → (T (hasTwo kind) → Acts K Q) → Acts K (construct (fields kind a b c) P Q))
-      (λ k p q. tt) (λ k p q. k refl) (λ k p q. tt) (λ k p q. (p tt, q tt)) (λ k p q. (p tt, q tt)) (λ k p q. p tt) (λ k p q. (p tt, q tt))
-      (λ k p q. p tt) (λ k p q. (p tt, q tt)) (λ k p q. (p tt, q tt)) (λ k p q. p tt) (λ k p q. p tt) (λ j k p q. tt) kind
-
+  -- the actions that a record's program names are those of the acts among the records
   program-acts :
       (p : ℕ → Program) (n : ℕ)
       → Lower p n
-      → ((i : ℕ) → i < n → p i .kind ≡ 1 → K (p i .a))
+      → ((i : ℕ) → i < n → T (acts (p i .kind)) → K (p i .a))
       → (i : ℕ)
       → i < n
       → Acts K (programOf p i)
   unfolding programOf
-  program-acts p n low acts =
+  program-acts p n low known =
       entry-rule nil (progAt p) (λ (i : ℕ) (P : Prog). i < n → Acts K P)
       (λ i below h l.
       let part : (a : ℕ) → a < i → Acts K (getD below a nil) = λ a m. h a m (omega arith) in
-      construct-acts (p i .kind) (p i .a) (p i .b) (p i .c) _ _ (acts i l) (λ t. part (p i .a) (low i (p i .a) l (link-a (p i) t)))
+      construct-acts K (p i .kind) (p i .a) (p i .b) (p i .c) _ _ (known i l) (λ t. part (p i .a) (low i (p i .a) l (link-a (p i) t)))
       (λ t. part (p i .b) (low i (p i .b) l (link-b (p i) t))))
 
   started-acts : (b : Bool) (root : Prog) → Acts K root → (b ≡ true → K start × K stop) → Acts K (started b root)
@@ -73,7 +60,7 @@ module _ (s : List ℕ) (accepted : Accepts s) where
       let there : interruptsIn s ≡ true → Interrupted (recordsOf s) n = interrupts-exactly (recordsOf s) n .0 in
       let some-record = laid s accepted .some-record in
       started-acts (KnownEntry s) (interruptsIn s) (programOf (recordsOf s) (n - 1))
-      (program-acts (KnownEntry s) (recordsOf s) n (lower s accepted) (λ i l e. inl (act-kept _ _ i _ (program-of s accepted i l) e)) (n - 1) (omega arith))
+      (program-acts (KnownEntry s) (recordsOf s) n (lower s accepted) (λ i l t. inl (action-below _ _ i (fieldA (recordsOf s i .kind)) (fields-of s accepted i l .a) t)) (n - 1) (omega arith))
       (λ e. (inr (inl refl, there e), inr (inr refl, there e)))
 
   -- every entry of the history of a run, final or not, is known

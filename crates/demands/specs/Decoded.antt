@@ -1,8 +1,8 @@
 -- A sheet's bytes read as a world, a program, initial values and a bound (document 01, "The sheet, read from its end" and "Moves").
 -- Assumes nothing.
 use Prim.Native.Nat.{ℕ, _-_}
-use mathlib.Core.Bool.{Bool, true, false}
-use mathlib.Core.List.{List, _++_, map}
+use mathlib.Core.Bool.{Bool, false}
+use mathlib.Core.List.{List, _++_}
 use lib.ListN.{replicate}
 use Rattle.records.specs.Records.{fluentAt, programAt}
 use Rattle.records.specs.Table.{upTo}

@@ -1,13 +1,12 @@
 -- Planning and replay on bytes: the sheet is checked, then searched. Assumes nothing.
-use mathlib.Core.Path.{_≡_}
-use Prim.Native.Nat.{ℕ, _≤_, _<_}
+use Prim.Native.Nat.{ℕ}
 use mathlib.Core.Bool.{Bool}
 use mathlib.Core.List.{List}
 use mathlib.Core.Option.{Option}
 use Rattle.golog.specs.World.{World}
 use Rattle.golog.specs.Transitions.{Configuration, final, transitions}
 use Rattle.golog.specs.Trans.{Trans, Final}
-use Rattle.runs.specs.Runs.{Run, LongRun, Legal, FinalRun, NoneAtAll, NoneWithin}
+use Rattle.runs.specs.Runs.{Run, Legal, FinalRun, NoneAtAll, NoneWithin}
 use Rattle.runs.specs.Search.{Verdict, plan, nothing, more, search}
 use Rattle.runs.specs.Guide.{accepts}
 use Rattle.sheet.specs.Check.{refusalOf, checkOf}

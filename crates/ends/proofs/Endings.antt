@@ -49,7 +49,8 @@ module _ (W : World) (p : ℕ → Program) (m : ℕ) (endable : List Bool) (E : 
   unfolding restFinal
   left-endable s t tag l g idle H = go (eqb tag 3)
     where
-      go : (b : Bool) → cond b (restFinal W s p l) (cond (eqb tag 8) true idle) ≡ true → restFinal W t p (cond b g (node tag l g)) ≡ true → (finalByTable endable l ≡ true) × (restFinal W t p g ≡ true)
+      go : (b : Bool) → cond b (restFinal W s p l) (cond (eqb tag 8) true idle) ≡ true → restFinal W t p (cond b g (node tag l g)) ≡ true →
+          (finalByTable endable l ≡ true) × (restFinal W t p g ≡ true)
       go true y f = (final-endable s l H y, f)
       go false y f = (
         final-endable t l H (and-left (restFinal W t p l) (restFinal W t p g) f),
@@ -61,7 +62,8 @@ module _ (W : World) (p : ℕ → Program) (m : ℕ) (endable : List Bool) (E : 
     Soon g = (x : RestTransition) → List·Memᴰ x (restTransitions W s p g) → (t : State) → restFinal W t p (x .1) ≡ true → soonByTable (finalsOf W s p m) endable (countsOf W s p m) g ≡ true
 
     -- the right part goes by the tables where it does
-    goes-by : (tag : ℕ) (l : Rest) → InTable p m l → goesRight tag (finalByTable (finalsOf W s p m) l) (eqb (countByTable (finalsOf W s p m) (countsOf W s p m) l) 0) ≡ goesRight tag (restFinal W s p l)
+    goes-by : (tag : ℕ) (l : Rest) → InTable p m l → goesRight tag (finalByTable (finalsOf W s p m) l) (eqb (countByTable (finalsOf W s p m) (countsOf W s p m) l) 0) ≡ goesRight tag
+        (restFinal W s p l)
         (isNone (restTransitions W s p l))
     goes-by tag l H = ap₂ (goesRight tag) (final-in W s p m l H) (ap (λ (n : ℕ). eqb n 0) (count-in W s p m low l H) ∙ sym (none-length (restTransitions W s p l)))
 

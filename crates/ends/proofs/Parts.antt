@@ -3,11 +3,12 @@
 use mathlib.Core.Path.{_≡_, refl, sym, ap, ap₂, _∙_}
 use mathlib.Core.Bool.{Bool, true, false, not, cond, _&&_, _||_}
 use mathlib.Core.List.{List}
-use Prim.Native.Nat.{ℕ, _+_, _*_, _≤_}
+use Prim.Native.Nat.{ℕ, _+_, _*_, _≤_, _<_}
 use native.Mathlib.Omega.{arith}
 use lib.Dec.{eqb}
 use lib.ListN.{getD}
 use borrow.Author.Tests.{eq-eqb, ne-eqb}
+use Rattle.records.proofs.Truth.{part-few}
 use Rattle.remaining.specs.Rest.{Rest, gone, leaf, node, nodes}
 use Rattle.remaining.specs.Leaves.{goesRight}
 use Rattle.ends.specs.Ends.{finalByTable, countByTable, soonByTable, joined, Totalled}
@@ -43,11 +44,6 @@ module _ (finals : List Bool) where
     pub final-first : x ≡ false → false ≡ finalByTable finals g
     final-first z = ap (λ (b : Bool). b && finalByTable finals r) (sym z) ∙ final-both refl
 
--- what is added is no more than there is
-pub part-few : (b : Bool) (n : ℕ) → cond b n 0 ≤ n
-part-few true n = omega arith
-part-few false n = omega arith
-
 module _ (finals endable : List Bool) (counts : List ℕ) where
   pub total-gone : {g : Rest} → g ≡ gone → Totalled finals endable counts g (record { done = true; endable = true; count = 0; soon = false })
   unfolding countByTable soonByTable
@@ -59,7 +55,7 @@ module _ (finals endable : List Bool) (counts : List ℕ) where
     few = omega arith;
   }
 
-  pub total-leaf : {g : Rest} {n i j : ℕ} {x y : Bool} → g ≡ leaf j → i ≡ j → n ≡ getD counts i 0 → n ≤ 4294967295 → x ≡ getD finals i true → y ≡ getD endable i true
+  pub total-leaf : {g : Rest} {n i j : ℕ} {x y : Bool} → g ≡ leaf j → i ≡ j → n ≡ getD counts i 0 → n < 4294967296 → x ≡ getD finals i true → y ≡ getD endable i true
       → Totalled finals endable counts g (record { done = x; endable = y; count = n; soon = not (eqb n 0) })
   unfolding countByTable soonByTable nodes
   total-leaf {n = n} {j = j} e ei en small ex ey =

@@ -1,7 +1,7 @@
 // What the tables say of a remaining program: each function calls itself on the parts, whose sizes fall.
 ghost use mathlib.Core.Path.{_≡_};
 ghost use mathlib.Core.Bool.{cond};
-ghost use Prim.Native.Nat.{_+_, _^_, _≤_, _<_};
+ghost use Prim.Native.Nat.{_+_, _^_, _<_};
 ghost use lib.ListN.{length};
 ghost use Rattle.remaining.specs.Rest.{Rest};
 ghost use Rattle.remaining.specs.Leaves.{goesRight};
@@ -18,7 +18,7 @@ pub fn final_rest(finals: &[bool], work: &[u32], at: usize) -> bool
         return true;
     }
     if tag == 1 {
-        return leaves::final_in(finals, words::record_at(work, at));
+        return records::flag_in(finals, words::record_at(work, at), true);
     }
     let left = words::size_at(work, at + 3);
     if final_rest(finals, work, at + 3) {
@@ -54,12 +54,6 @@ fn count_if(b: bool, count: usize) -> usize
     ensures { λ r. ⌜ r ≡ cond b count 0 ⌝ }
 {
     if b { count } else { 0 }
-}
-
-fn wide(x: u32) -> usize
-    ensures { λ r. ⌜ (r ≡ x) × (r ≤ 4294967295) ⌝ }
-{
-    x as usize
 }
 
 // The totals of a construct, from those of its parts.
@@ -99,10 +93,10 @@ pub fn total_rest(
     }
     if tag == 1 {
         let i = words::record_at(work, at);
-        let count = wide(leaves::count_in(counts, i));
+        let count = records::wide32(records::number_in(counts, i, 0));
         return Totals {
-            done: leaves::final_in(finals, i),
-            endable: leaves::final_in(endable, i),
+            done: records::flag_in(finals, i, true),
+            endable: records::flag_in(endable, i, true),
             count,
             soon: count != 0,
         };

@@ -1,13 +1,12 @@
 -- The code of a transition tells its move: 65536 a test, any other number that action. Assumes nothing.
 use Prim.Native.Nat.{ℕ, _≤_}
+use native.Mathlib.Decide.{ℕ-discrete}
 use native.Mathlib.Omega.{arith}
 use mathlib.Core.Bool.{Bool, cond}
 use mathlib.Core.List.{List}
-use mathlib.Core.Logic.{⊎-elim}
 use mathlib.Core.Option.{Option, none, some}
 use mathlib.Core.Path.{_≡_, sym, _∙_, ap, subst}
 use borrow.Author.Tests.{eq-eqb, ne-eqb}
-use Rattle.records.proofs.Truth.{line}
 use Rattle.steps.specs.Laid.{testCode, codeOf}
 use Rattle.engine.specs.Going.{Known, IsAction, moveOf}
 
@@ -28,4 +27,8 @@ module _ (s : List ℕ) (e : ℕ) where
     action-of-code z = subst (Known (IsAction s)) (sym q ∙ is-move e z) k
 
     pub code-bound : e ≤ testCode
-    code-bound = ⊎-elim (λ r. r) (λ r. r) (line e testCode (λ z. omega arith) (λ z. omega (arith, action-of-code z .0)))
+    code-bound = go (ℕ-discrete e testCode)
+      where
+        go : Dec (e ≡ testCode) → e ≤ testCode
+        go (yes z) = omega arith
+        go (no z) = omega (arith, action-of-code z .0)

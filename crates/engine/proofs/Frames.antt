@@ -9,7 +9,7 @@ use mathlib.Core.Path.{_≡_, refl, sym, _∙_, ap, subst}
 use lib.Dec.{lit≤}
 use lib.ListN.{length}
 use Rattle.height.specs.Work.{levels, workWords}
-use Rattle.height.proofs.Levels.{at-most-two}
+use Rattle.records.proofs.Truth.{part-few}
 use Rattle.sheet.specs.Layout.{layoutOf}
 use Rattle.sheet.specs.Check.{Accepts}
 use Rattle.sheet.proofs.Accepted.{ruled, laid}
@@ -121,7 +121,7 @@ module _ {s w : List ℕ} {left d : ℕ} {p : Prog} (F : Frame s (suc left) w d 
 
 levels-low : (s : List ℕ) → Accepts s → levelsOf s ≤ 18
 unfolding levels
-levels-low s accepted = omega (arith, ruled s accepted .height, at-most-two (interruptsIn s))
+levels-low s accepted = omega (arith, ruled s accepted .height, part-few (interruptsIn s) 2)
 
 top-inside : (b : Bool) (n : ℕ) → 1 ≤ n → top b n < extendedSize b n
 top-inside true n l = omega arith

@@ -20,9 +20,8 @@ use Rattle.remaining.specs.Rest.{AllLower}
 use Rattle.demands.specs.Decoded.{worldOf, interruptsIn}
 use Rattle.demands.specs.Compact.{extendedRecords}
 use Rattle.demands.proofs.Compact.{all-lower}
-use Rattle.state.specs.Truths as truths
-use Rattle.state.specs.Truths.{truthsOf}
-use Rattle.state.proofs.Held.{truths-held}
+use Rattle.state.specs.Truths.{truthsOf, AreTruths}
+use Rattle.state.proofs.Truths.{are-truths}
 use Rattle.leaves.specs.Tallies.{extendedSize, cappedCount, countsOf, possibleIn, Tallied}
 use Rattle.leaves.specs.Endable.{Endable, finalBoundsOf, skipsOf, Skips, FinalsKnown}
 use Rattle.leaves.proofs.Marking.{bounds-above, bounds-after, places-few}
@@ -51,11 +50,11 @@ module _ {s : List ℕ} {m : Inspection} (O : Of s m) where
 
   -- what the formulas say in a state
   pub truths-told :
-      (st : State) (old : List Bool) {held : List Bool} → held ≡ truthsOf (formulasIn s (m .layout)) (st .values) (m .layout .q) old → truths.AreTruths (worldOf s) st (layoutOf s .q) held
-  truths-told st old {held} e =
+      (st : State) (old : List Bool) {truths : List Bool} → truths ≡ truthsOf (formulasIn s (m .layout)) (st .values) (m .layout .q) old → AreTruths (worldOf s) st (layoutOf s .q) truths
+  truths-told st old {truths} e =
       let l = layoutOf s in
       let e₂ = e ∙ ap (λ (l : Layout). truthsOf (formulasIn s l) (st .values) (l .q) old) (O .layout-is) in
-      subst (truths.AreTruths (worldOf s) st (l .q)) (sym e₂) (truths-held (formulasIn s l) (effectsIn s l) (actionsIn s l) st (l .q) old)
+      subst (AreTruths (worldOf s) st (l .q)) (sym e₂) (are-truths (formulasIn s l) (effectsIn s l) (actionsIn s l) st (l .q) old)
 
   -- once told of a sheet
   pub prepared :
@@ -106,7 +105,7 @@ module _ {s : List ℕ} {m : Inspection} (O : Of s m) where
     -- told of a state
     pub judged :
         (st : State) (d : ℕ) (flags′ : List Bool) → length flags′ ≡ length flags → Only (truthsFrom d) 772 flags flags′
-        → truths.AreTruths (worldOf s) st (layoutOf s .q) (truthsAt d flags′)
+        → AreTruths (worldOf s) st (layoutOf s .q) (truthsAt d flags′)
         → FinalsKnown (runs s (m .layout) (m .interrupts)) (many (m .layout) (m .interrupts)) (truthsAt d flags′) (st .running) (finalsAt d flags′)
         → ((i : ℕ) → many (m .layout) (m .interrupts) ≤ i → getD (finalsAt d flags′) i true ≡ getD (endableIn flags) i true)
         → Judged s st d flags′ numbers

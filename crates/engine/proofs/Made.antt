@@ -42,7 +42,7 @@ madeAt k e st = record { made = true; entry = e; state = st; cursor = record { n
 
 -- what a step sees, by the names of a layout
 abbrev viewBy : List ℕ → State → (truths : List Bool) (counts : List ℕ) → Layout → (interrupts : Bool) → Sources
-viewBy s st truths counts l interrupts = sourcesOf (programsIn s l) (l .p) interrupts truths (st .running) counts
+viewBy s st truths counts l interrupts = sourcesOf (programsIn s l) (record { n = l .p; interrupts = interrupts; running = st .running }) truths counts
 
 module _ {s : List ℕ} {m : Inspection} {st : State} {d : ℕ} {flags : List Bool} {numbers : List ℕ} (O : Of s m) (S : Surveyed s st d flags numbers) where
   -- by the names that a step is asked by: tables, where it reads and where it writes

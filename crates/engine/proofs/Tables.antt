@@ -3,14 +3,12 @@
 use mathlib.Core.Path.{_≡_, refl, sym, _∙_, ap, subst}
 use mathlib.Core.Bool.{Bool}
 use mathlib.Core.List.{List}
-use mathlib.Core.Logic.{⊎-elim}
 use Prim.Native.Nat.{ℕ, _+_, _*_, _≤_, _<_}
-use native.Mathlib.Decide.{decLt}
+use native.Mathlib.Decide.{ℕ-discrete, decLt}
 use native.Mathlib.Nat.{mul-suc, mul-le-mul-left}
 use native.Mathlib.Omega.{arith}
 use lib.ListN.{length, getD, replicate}
 use Rattle.records.proofs.Fills.{getD-same}
-use Rattle.records.proofs.Truth.{line}
 use Rattle.sheet.specs.Layout.{layoutOf}
 use Rattle.golog.specs.declared.State.{State}
 use Rattle.demands.specs.Decoded.{worldOf}
@@ -73,10 +71,11 @@ module _
 pub none-by :
     (d e i : ℕ) {numbers numbers′ : List ℕ} → length numbers ≡ 2341 → Only (countsFrom d) 260 numbers numbers′ → length numbers′ ≡ length numbers
     → getD (countsAt e numbers) i 0 ≡ 0 → getD (countsAt d numbers′) i 0 ≡ 0 → getD (countsAt e numbers′) i 0 ≡ 0
-none-by d e i {numbers} {numbers′} l N n old new =
-    ⊎-elim (λ r. r) (λ r. r)
-    (line (setOf e) (setOf d) (λ z. ap (λ (j : ℕ). getD (window (261 + 260 * j) 260 numbers′) i 0) z ∙ new)
-    (λ z. ap (λ (x : List ℕ). getD x i 0) (other 261 260 (setOf d) N n (setOf e) (countsFrom e) 260 z (omega arith) (omega arith) (omega arith)) ∙ old))
+none-by d e i {numbers} {numbers′} l N n old new = go (ℕ-discrete (setOf e) (setOf d))
+  where
+    go : Dec (setOf e ≡ setOf d) → getD (countsAt e numbers′) i 0 ≡ 0
+    go (yes z) = ap (λ (j : ℕ). getD (window (261 + 260 * j) 260 numbers′) i 0) z ∙ new
+    go (no z) = ap (λ (x : List ℕ). getD x i 0) (other 261 260 (setOf d) N n (setOf e) (countsFrom e) 260 z (omega arith) (omega arith) (omega arith)) ∙ old
 
 -- tables that stand are still those of the state
 pub stands :

@@ -10,10 +10,11 @@ use Rattle.sheet.specs.Layout.{layoutOf, programsIn}
 use Rattle.golog.specs.declared.State.{State}
 use Rattle.demands.specs.Decoded.{worldOf, interruptsIn}
 use Rattle.demands.specs.Compact.{extendedRecords}
-use Rattle.state.specs.Truths as truths
+use Rattle.state.specs.Truths.{AreTruths}
 use Rattle.leaves.specs.Tallies.{extendedSize, finalsOf}
 use Rattle.leaves.specs.Endable.{Endable, Skips, FinalsKnown}
 use Rattle.steps.specs.Laid.{sourcesOf}
+use Rattle.steps.specs.declared.Setting.{Setting}
 use Rattle.steps.specs.Stepped.{Tabled}
 
 -- n places of a list from place o on
@@ -82,16 +83,20 @@ pub record Prepared (s : List ℕ) (flags : List Bool) (numbers : List ℕ) : Ty
 -- what the formulas say in the state st, and which records are final in it, stands there too, for depth d
 pub record Judged (s : List ℕ) (st : State) (d : ℕ) (flags : List Bool) (numbers : List ℕ) : Type 0 where
   pub prepared : Prepared s flags numbers
-  pub truths-are : truths.AreTruths (worldOf s) st (layoutOf s .q) (truthsAt d flags)
+  pub truths-are : AreTruths (worldOf s) st (layoutOf s .q) (truthsAt d flags)
   pub decides : FinalsKnown (extendedRecords s) (extendedSizeOf s) (truthsAt d flags) (st .running) (finalsAt d flags)
   pub finals-are : finalsAt d flags ≡ finalsOf (worldOf s) st (extendedRecords s) (extendedSizeOf s)
+
+-- how the sheet's program records are read in the state st
+abbrev pub settingOf : List ℕ → State → Setting
+settingOf s st = record { n = layoutOf s .p; interrupts = interruptsIn s; running = st .running }
 
 -- and how many transitions each has: the tables for depth d are those of the state st
 pub record Surveyed (s : List ℕ) (st : State) (d : ℕ) (flags : List Bool) (numbers : List ℕ) : Type 0 where
   pub prepared : Prepared s flags numbers
-  pub truths-are : truths.AreTruths (worldOf s) st (layoutOf s .q) (truthsAt d flags)
+  pub truths-are : AreTruths (worldOf s) st (layoutOf s .q) (truthsAt d flags)
   pub tabled :
-      Tabled (worldOf s) st (sourcesOf (programsIn s (layoutOf s)) (layoutOf s .p) (interruptsIn s) (truthsAt d flags) (st .running) (countsAt d numbers)) (finalsAt d flags)
+      Tabled (worldOf s) st (sourcesOf (programsIn s (layoutOf s)) (settingOf s st) (truthsAt d flags) (countsAt d numbers)) (finalsAt d flags)
 
 -- the tables for a depth are as they were
 pub record SameTables (d : ℕ) (flags flags′ : List Bool) (numbers numbers′ : List ℕ) : Type 0 where

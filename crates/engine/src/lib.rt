@@ -8,7 +8,8 @@ ghost use Prim.Native.Nat.{ℕ, _+_, _*_, _^_, _≤_, _<_};
 ghost use lib.ListN.{length, getD};
 ghost use Rattle.sheet.specs.Layout.{layoutOf};
 ghost use Rattle.sheet.specs.Inspection.{Of};
-ghost use Rattle.records.specs.Records.{programAt};
+ghost use Rattle.records.specs.Records.{programAt, ProgramTable};
+ghost use Rattle.kinds.specs.Programs.{finalBy};
 ghost use Rattle.golog.specs.World.{after};
 ghost use Rattle.golog.specs.Prog.{Prog};
 ghost use Rattle.golog.specs.Transitions.{Configuration, Transition, isNone};
@@ -16,7 +17,7 @@ ghost use Rattle.golog.specs.declared.State.{State};
 ghost use Rattle.demands.specs.Decoded.{worldOf, startingWith, initialOf, firstOf, boundOf};
 ghost use Rattle.remaining.specs.Rest.{Rest, AllLower};
 ghost use Rattle.remaining.specs.Extended.{extended, top};
-ghost use Rattle.leaves.specs.Tallies.{extendedSize, finalBy};
+ghost use Rattle.leaves.specs.Tallies.{extendedSize};
 ghost use Rattle.leaves.specs.Endable.{Skips, FinalsKnown};
 ghost use Rattle.words.specs.Words.{At, Stands};
 ghost use Rattle.ends.specs.Ends.{Totalled};
@@ -199,9 +200,9 @@ fn final_by(flags: &[bool], from: usize, r: Program, running: bool) -> bool
 {
     let middle = from + FORMULAS;
     let end = middle + RECORDS;
-    let held = &flags[from..middle];
+    let truths = &flags[from..middle];
     let finals = &flags[middle..end];
-    leaves::final_at(r, held, running, finals)
+    kinds::programs::final_by(r, truths, running, finals)
 }
 
 // Looks at the records whose finality depends on the state, and at no others.
@@ -214,7 +215,7 @@ fn mark_finals(
     skips: &[u32],
     running: bool,
 )
-    requires { ⌜ (8 * n ≤ length (now programs)) × (1 ≤ n) × (n ≤ 256) × («from» + 772 ≤ length (now flags)) ⌝ }
+    requires { ⌜ ProgramTable (now programs) n × («from» + 772 ≤ length (now flags)) ⌝ }
     requires { ⌜ AllLower (extended interrupts (programAt (now programs)) n)
         × Skips (extended interrupts (programAt (now programs)) n) (extendedSize interrupts n) (window («from» + 512) 260 (now flags)) (now skips) ⌝ }
     ensures { λ _. ⌜ FinalsKnown (extended interrupts (programAt (now (programs .entry))) n) (extendedSize interrupts n) (window «from» 512 (now (flags .exit))) running
@@ -223,14 +224,15 @@ fn mark_finals(
     ensures { λ _. ⌜ ((i : ℕ) → extendedSize interrupts n ≤ i → getD (window («from» + 512) 260 (now (flags .exit))) i true
         ≡ getD (window («from» + 512) 260 (now (flags .entry))) i true) ⌝ }
 {
-    let m = leaves::places_of(n, interrupts);
+    let size = leaves::places_of(n, interrupts);
+    let none = size as u32;
     let to = from + FORMULAS;
-    let mut i = leaves::skip_in(skips, 0, m);
-    while i < m {
+    let mut i = records::wide32(records::number_in(skips, 0, none));
+    while i < size {
         let r = leaves::record_at(programs, n, interrupts, i);
         let f = final_by(flags, from, r, running);
         flags[to + i] = f;
-        i = leaves::skip_in(skips, i + 1, m);
+        i = records::wide32(records::number_in(skips, i + 1, none));
     }
 }
 
@@ -247,7 +249,7 @@ fn judge(flags: &mut [bool], numbers: &[u32], s: &[u8], m: Inspection, st: State
     let end = l.end;
     let from = flags_from(d);
     let to = from + FORMULAS;
-    state::truths(&s[formulas..effects], l.q, st, &mut flags[from..to]);
+    state::fill_truths(&s[formulas..effects], l.q, st, &mut flags[from..to]);
     settle(flags, to);
     mark_finals(
         flags,
@@ -357,9 +359,9 @@ pub fn survey(
     }
 }
 
-// The state after a transition, where `held` has what the formulas say in the state before it.
-fn state_after(s: &[u8], m: Inspection, held: &[bool], entry: u32, st: State) -> State
-    requires { ⌜ Of (now s) m × AreTruths (worldOf (now s)) st (layoutOf (now s) .q) (now held) ⌝ }
+// The state after a transition, where `truths` has what the formulas say in the state before it.
+fn state_after(s: &[u8], m: Inspection, truths: &[bool], entry: u32, st: State) -> State
+    requires { ⌜ Of (now s) m × AreTruths (worldOf (now s)) st (layoutOf (now s) .q) (now truths) ⌝ }
     requires { ⌜ Known (IsAction (now s)) (moveOf entry) ⌝ }
     ensures { λ r. ⌜ r ≡ after (worldOf (now (s .entry))) (moveOf entry) st ⌝ }
 {
@@ -374,7 +376,7 @@ fn state_after(s: &[u8], m: Inspection, held: &[bool], entry: u32, st: State) ->
         &s[effects..actions],
         &s[actions..programs],
         l.f,
-        held,
+        truths,
         entry as usize,
         st,
     )

@@ -1,7 +1,7 @@
 -- What the actions of a program have, those of every remaining program have, and every move has: a transition performs an action of the
 -- program, and leaves parts of it. Assumes nothing.
 use mathlib.Core.Logic.{inl, inr}
-use mathlib.Core.Option.{Option, none, some}
+use mathlib.Core.Option.{Option, some}
 use mathlib.Core.Path.{_≡_, sym, subst}
 use Prim.Native.Nat.{ℕ}
 use native.Mathlib.Omega.{arith}

@@ -3,13 +3,13 @@
 -- program, with one law for each pair. Assumes nothing.
 use Prim.Native.Nat.{ℕ}
 use mathlib.Core.Bool.{Bool, true, false, not, _&&_}
-use mathlib.Core.List.{List, [], _∷_, _++_, map, List·Memᴰ, List·Memᴰ·head, List·Memᴰ·tail, List·Memᴰ·not-nil, List·Memᴰ·cases-cons, List·Memᴰ·append-cases, Memᴰ·append-left, Memᴰ·append-right}
+use mathlib.Core.List.{List, [], _∷_, map, List·Memᴰ, List·Memᴰ·head, List·Memᴰ·tail, List·Memᴰ·not-nil, List·Memᴰ·cases-cons}
 use mathlib.Core.List.{List·Memᴰ·eq-of-singleton}
-use mathlib.Core.Logic.{_⊎_, inl, inr, ⊎-elim, _↔_}
+use mathlib.Core.Logic.{_⊎_, inl, inr, _↔_}
 use mathlib.Core.Option.{Option, none, some}
 use mathlib.Core.Path.{_≡_, refl, ap, _∙_}
 use lib.Dec.{T}
-use Rattle.runs.proofs.Tests.{and-iff}
+use Rattle.runs.proofs.Tests.{and-iff, only-iff, append-iff}
 use Rattle.golog.proofs.Tests.{same, or-iff, not-iff}
 use Rattle.golog.specs.declared.State.{State}
 use Rattle.golog.specs.World.{World, holds, possible, perform}
@@ -18,14 +18,7 @@ use Rattle.runs.specs.Guide.{only}
 use Rattle.golog.specs.Transitions.{Transition, onProg, isNone, final, transitions}
 use Rattle.golog.specs.Trans.{Final, Trans}
 
--- membership in a list of steps
-append-iff : {A B : Type 0} {x : Transition} (xs ys : List Transition) → List·Memᴰ x xs ↔ A → List·Memᴰ x ys ↔ B → List·Memᴰ x (xs ++ ys) ↔ (A ⊎ B)
-append-iff xs ys p q = (λ h. ⊎-elim (λ l. inl (p .0 l)) (λ r. inr (q .0 r)) (List·Memᴰ·append-cases xs h), λ h. ⊎-elim (λ l. Memᴰ·append-left ys (p .1 l)) (λ r. Memᴰ·append-right xs (q .1 r)) h)
-
-only-iff : {A B : Type 0} {x : Transition} (b : Bool) (xs : List Transition) → T b ↔ A → List·Memᴰ x xs ↔ B → List·Memᴰ x (only b xs) ↔ (A × B)
-only-iff true xs p q = (λ h. (p .0 tt, q .0 h), λ h. q .1 (h .1))
-only-iff false xs p q = (λ h. absurd (List·Memᴰ·not-nil h), λ h. absurd (p .1 (h .0)))
-
+-- membership in a list of transitions
 one-iff : (m n : Option ℕ) (p q : Prog) (t u : State) (b : Bool) → List·Memᴰ {A = Transition} (m, (p, t)) (only b ((n, (q, u)) ∷ [])) ↔ (T b × (m ≡ n) × (p ≡ q) × (t ≡ u))
 one-iff m n p q t u true = (
   λ h. let e = List·Memᴰ·eq-of-singleton h in (tt, ap (λ (x : Transition). x .0) e, ap (λ (x : Transition). x .1 .0) e, ap (λ (x : Transition). x .1 .1) e),
@@ -37,7 +30,8 @@ mapped-in : (f : Prog → Prog) (m : Option ℕ) (p : Prog) (t : State) (xs : Li
 mapped-in f m p t [] h = absurd (List·Memᴰ·not-nil h)
 mapped-in f m p t (x ∷ xs) h = go (λ k. mapped-in f m p t xs k) (List·Memᴰ·cases-cons h)
   where
-    go : (List·Memᴰ (m, (p, t)) (map (onProg f) xs) → (g : Prog) × (p ≡ f g) × List·Memᴰ (m, (g, t)) xs) → (_≡_ {A = Transition} (m, (p, t)) (onProg f x)) ⊎ List·Memᴰ (m, (p, t)) (map (onProg f) xs) →
+    go : (List·Memᴰ (m, (p, t)) (map (onProg f) xs) → (g : Prog) × (p ≡ f g) × List·Memᴰ (m, (g, t)) xs) →
+        (_≡_ {A = Transition} (m, (p, t)) (onProg f x)) ⊎ List·Memᴰ (m, (p, t)) (map (onProg f) xs) →
         (g : Prog) × (p ≡ f g) × List·Memᴰ (m, (g, t)) (x ∷ xs)
     go rec (inl e) = (x .1 .0, ap (λ (z : Transition). z .1 .0) e, List·Memᴰ·head (λ i. (e i .0, (x .1 .0, e i .1 .1))))
     go rec (inr k) = let r = rec k in (r .0, r .1, List·Memᴰ·tail (r .2))
@@ -86,7 +80,9 @@ steps-exact W (while q a) s m p t = map-iff (λ (g : Prog). sequence g (while q 
 steps-exact W (together a b) s m p t = append-iff _ _ (map-iff (λ (g : Prog). together g b) m p t (transitions W a s) (λ g. steps-exact W a s m g t))
     (map-iff (λ (g : Prog). together a g) m p t (transitions W b s) (λ g. steps-exact W b s m g t))
 steps-exact W (over a b) s m p t = append-iff _ _ (map-iff (λ (g : Prog). over g b) m p t (transitions W a s) (λ g. steps-exact W a s m g t))
-    (map-iff (λ (g : Prog). over a g) m p t _ (λ g. only-iff (isNone (transitions W a s)) (transitions W b s) (none-iff (transitions W a s) (λ n z u. steps-exact W a s n z u)) (steps-exact W b s m g t)))
+    (map-iff (λ (g : Prog). over a g) m p t _ (λ g. only-iff (isNone (transitions W a s)) (transitions W b s) (none-iff (transitions W a s) (λ n z u. steps-exact W a s n z u))
+    (steps-exact W b s m g t)))
 steps-exact W (iteration a) s m p t = map-iff (λ (g : Prog). together g (iteration a)) m p t (transitions W a s) (λ g. steps-exact W a s m g t)
-steps-exact W (interrupt q a) s m p t = map-iff (λ (g : Prog). sequence g (interrupt q a)) m p t _ (λ g. only-iff (s .running && holds W q s) (transitions W a s) (and-iff (s .running) (holds W q s) (same _) (same _))
+steps-exact W (interrupt q a) s m p t = map-iff (λ (g : Prog). sequence g (interrupt q a)) m p t _
+    (λ g. only-iff (s .running && holds W q s) (transitions W a s) (and-iff (s .running) (holds W q s) (same _) (same _))
     (steps-exact W a s m g t))

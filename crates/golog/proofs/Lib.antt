@@ -4,3 +4,4 @@ pub mod Truths
 pub mod Formulas
 pub mod Moves
 pub mod Acts
+pub mod Construct

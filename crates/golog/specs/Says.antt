@@ -1,7 +1,7 @@
--- What formulas say, kind by kind, as statements about values: the second reading of document 01's "Formula" beside the computed one
--- (`truthOf`, World.antt). The theorem of proofs/Formulas.antt says that the two agree. Assumes nothing.
+-- To be believed: what formulas say, kind by kind, as statements about values: the second reading of document 01's "Formula" beside the
+-- computed one (`truthOf`, kinds/specs/Truth.antt). The theorem of proofs/Formulas.antt says that the two agree. Assumes nothing.
 use Prim.Native.Nat.{ℕ, _<_}
-use mathlib.Core.List.{List, [], _∷_}
+use mathlib.Core.List.{[], _∷_}
 use mathlib.Core.Logic.{_⊎_}
 use mathlib.Core.Path.{_≡_}
 use lib.Dec.{T}

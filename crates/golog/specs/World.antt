@@ -1,14 +1,15 @@
--- What formulas say of a state, and what performing an action does (document 01, "The sheet" and "Moves"). Assumes nothing.
+-- To be believed: what formulas say of a state, and what performing an action does (document 01, "The sheet" and "Moves"); what a formula
+-- says of values, kind by kind, is in kinds/specs/Truth.antt. Assumes nothing.
 use Prim.Native.Nat.{ℕ, zero, suc}
-use mathlib.Core.Bool.{Bool, true, false, not, cond, _&&_, _||_}
+use mathlib.Core.Bool.{Bool, false, cond, _&&_, _||_}
 use mathlib.Core.List.{List, [], _∷_}
 use mathlib.Core.Option.{Option, none, some}
 use lib.Dec.{eqb, ltb}
-use lib.ListN.{getD}
 use Rattle.records.specs.declared.Formula.{Formula}
 use Rattle.records.specs.declared.Effect.{Effect}
 use Rattle.records.specs.declared.Action.{Action}
 use Rattle.records.specs.Table.{upTo, entryOf}
+use Rattle.kinds.specs.Truth.{truthOf}
 use Rattle.golog.specs.declared.State.{State}
 
 -- the three tables that conditions and actions are read in, each a function of the record's number. Bound, initial values and program stand apart
@@ -16,23 +17,6 @@ pub record World : Type 0 where
   pub formula : ℕ → Formula
   pub effect : ℕ → Effect
   pub action : ℕ → Action
-
--- document 01, "Formula": what one says of values, given what the lower ones say
-unfoldable pub truthOf : Formula → (values : List ℕ) → (lower : List Bool) → Bool
-truthOf r values lower =
-    getD
-    (
-    true ∷  -- 0 true
-    false ∷  -- 1 false
-    eqb (getD values (r .x) 0) (r .a) ∷  -- 2 fluent x has value a
-    ltb (getD values (r .x) 0) (r .a) ∷  -- 3 fluent x is less than a
-    eqb (getD values (r .x) 0) (getD values (r .a) 0) ∷  -- 4 fluents x and a have equal values
-    not (getD lower (r .a) false) ∷  -- 5 not a
-    (getD lower (r .a) false && getD lower (r .b) false) ∷  -- 6 a and b
-    (getD lower (r .a) false || getD lower (r .b) false) ∷  -- 7 a or b
-    []
-    )
-    (r .kind) false
 
 -- formula i, given the lower ones
 abbrev pub truthAt : World → (values : List ℕ) → ℕ → (lower : List Bool) → Bool

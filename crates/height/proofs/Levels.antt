@@ -6,7 +6,6 @@ use Prim.Native.Nat.{ℕ, _+_, _≤_, _<_}
 use native.Mathlib.Decide.{decLt}
 use native.Mathlib.Omega.{arith}
 use borrow.Author.Tests.{ltb-true, lt-ltb, eqb-true, eqb-false, not-true, not-false}
-use lib.Dec.{lit≤}
 use Rattle.records.specs.Lowest.{lowest}
 use Rattle.records.proofs.Lowest.{lower-true, lowest-false}
 use Rattle.records.proofs.Truth.{is-false}
@@ -15,11 +14,6 @@ use Rattle.height.specs.Down.{IsHeight}
 use Rattle.height.specs.Height.{heightOf, plain, interrupts}
 use Rattle.height.specs.Work.{Interrupted, IsLevels, levels}
 use Rattle.height.proofs.Paths.{Lower, height-is-most}
-
--- what interrupts add
-pub at-most-two : (b : Bool) → cond b 2 0 ≤ 2
-at-most-two true = lit≤ tt
-at-most-two false = lit≤ tt
 
 module _ (p : ℕ → Program) (n : ℕ) where
   pub interrupts-exactly : (interrupts p n ≡ true) ↔ Interrupted p n

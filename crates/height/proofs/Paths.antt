@@ -10,9 +10,11 @@ use lib.ListN.{getD}
 use Rattle.records.specs.Table.{upTo}
 use Rattle.records.proofs.Fills.{up-at, entry-is}
 use Rattle.records.specs.declared.Program.{Program}
-use Rattle.height.specs.Down.{Link, Down, stop, step, IsHeight, HeightAbove}
-use Rattle.height.specs.Height.{links, heightOver, heightAt, rise, heightOf}
-use Rattle.height.proofs.Links.{link-exactly}
+use Rattle.kinds.specs.Rules.{Link}
+use Rattle.kinds.specs.Programs.{links}
+use Rattle.kinds.proofs.ProgramFields.{link-exactly}
+use Rattle.height.specs.Down.{Down, stop, step, IsHeight, HeightAbove}
+use Rattle.height.specs.Height.{heightOver, heightAt, rise, heightOf}
 
 -- the links of the first n records lead to lower records
 abbrev pub Lower : (ℕ → Program) → ℕ → Type 0

@@ -1,22 +1,9 @@
--- A path down the program records, and what is higher than a number (document 01: "Height is the most links from program record to
--- program record on a path down from the root"). That the height computed is the most links is proved in proofs/Paths.antt.
--- Assumes nothing.
-use mathlib.Core.Path.{_≡_}
-use mathlib.Core.Logic.{_⊎_}
+-- To be believed: a path down the program records, and what is higher than a number (document 01: "Height is the most links from program
+-- record to program record on a path down from the root"); what a link is, is in kinds/specs/Rules.antt. That the height computed is the
+-- most links is proved in proofs/Paths.antt. Assumes nothing.
 use Prim.Native.Nat.{ℕ, suc, _-_, _≤_, _<_}
 use Rattle.records.specs.declared.Program.{Program}
-
--- the kinds whose a and b are program records: a;b, a|b, if, together, over
-abbrev pub TwoParts : ℕ → Type 0
-TwoParts kind = (kind ≡ 3) ⊎ (kind ≡ 4) ⊎ (kind ≡ 6) ⊎ (kind ≡ 8) ⊎ (kind ≡ 9)
-
--- the kinds whose a alone is one: star, while, concurrent iteration, interrupt
-abbrev pub OnePart : ℕ → Type 0
-OnePart kind = (kind ≡ 5) ⊎ (kind ≡ 7) ⊎ (kind ≡ 10) ⊎ (kind ≡ 11)
-
--- a link from a program record to program record j
-abbrev pub Link : Program → ℕ → Type 0
-Link r j = (TwoParts (r .kind) × ((j ≡ r .a) ⊎ (j ≡ r .b))) ⊎ (OnePart (r .kind) × (j ≡ r .a))
+use Rattle.kinds.specs.Rules.{Link}
 
 -- a path down from record i, of k links
 pub data Down (p : ℕ → Program) : ℕ → ℕ → Type 0 where

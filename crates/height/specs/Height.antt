@@ -1,25 +1,14 @@
--- The height of program records (document 01: "Height is the most links from program record to program record on a path down from
+-- The height of program records, computed (document 01: "Height is the most links from program record to program record on a path down from
 -- the root"). That it is so is proved in proofs/Paths.antt. Assumes nothing.
-use Prim.Native.Nat.{ℕ, zero, suc, _-_, max}
+use Prim.Native.Nat.{ℕ, suc, _-_, max}
 use mathlib.Core.List.{List, [], _∷_}
-use mathlib.Core.Bool.{Bool, cond, not, _||_}
+use mathlib.Core.Bool.{Bool, not}
 use lib.ListN.{getD}
 use lib.Dec.{eqb, ltb}
-use Rattle.records.specs.Table.{upTo, entryOf}
+use Rattle.records.specs.Table.{entryOf}
 use Rattle.records.specs.Lowest.{lowest}
 use Rattle.records.specs.declared.Program.{Program}
-
--- the kinds whose a and b are program records: a;b, a|b, if, together, over
-abbrev pub hasTwo : ℕ → Bool
-hasTwo kind = eqb kind 3 || eqb kind 4 || eqb kind 6 || eqb kind 8 || eqb kind 9
-
--- the kinds whose a alone is one: star, while, concurrent iteration, interrupt
-abbrev pub hasOne : ℕ → Bool
-hasOne kind = eqb kind 5 || eqb kind 7 || eqb kind 10 || eqb kind 11
-
--- the program records that a record names
-unfoldable pub links : Program → List ℕ
-links r = cond (hasTwo (r .kind)) (r .a ∷ r .b ∷ []) (cond (hasOne (r .kind)) (r .a ∷ []) [])
+use Rattle.kinds.specs.Programs.{links}
 
 -- one link more than the highest of the records named, whose heights are in the table; 0 where none is named
 unfoldable pub heightOver : (lower : List ℕ) → List ℕ → ℕ

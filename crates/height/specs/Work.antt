@@ -2,8 +2,8 @@
 -- Assumes nothing.
 use mathlib.Core.Path.{_≡_}
 use mathlib.Core.Logic.{_⊎_}
-use Prim.Native.Nat.{ℕ, _+_, _*_, _<_}
-use mathlib.Core.Bool.{Bool, cond}
+use Prim.Native.Nat.{ℕ, _+_, _*_, _≤_, _<_}
+use mathlib.Core.Bool.{cond}
 use Rattle.height.specs.Down.{IsHeight}
 use Rattle.height.specs.Height.{heightOf, interrupts}
 use Rattle.records.specs.declared.Program.{Program}
@@ -19,6 +19,11 @@ IsLevels p n h = (g : ℕ) × IsHeight p n g × ((Interrupted p n × (h ≡ g + 
 -- the same, computed
 unfoldable pub levels : (ℕ → Program) → ℕ → ℕ
 levels p n = heightOf p n + cond (interrupts p n) 2 0
+
+-- h as large as document 01's limits let it be, and D
+pub record FrameLimits (h d : ℕ) : Type 0 where
+  pub levels : h ≤ 18
+  pub bound : d ≤ 64
 
 -- the words of one frame: a header of 64 and three for each node of a remaining program
 abbrev pub frameWords : (h d : ℕ) → ℕ

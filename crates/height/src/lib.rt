@@ -1,69 +1,56 @@
 // The height of a program table, whether it has interrupts, and the work figure.
 ghost use mathlib.Core.Path.{_≡_};
 ghost use mathlib.Core.Bool.{cond};
-ghost use Prim.Native.Nat.{ℕ, _+_, _-_, _*_, _≤_, _<_, max};
+ghost use Prim.Native.Nat.{ℕ, suc, _+_, _-_, _*_, _≤_, _<_, max};
 ghost use lib.ListN.{length, getD};
-ghost use Rattle.records.specs.Records.{programAt};
-ghost use Rattle.height.specs.Height.{hasTwo, hasOne, heightOver, links, heightAt, heightOf, plain, interrupts};
-ghost use Rattle.height.specs.Work.{frameWords};
+ghost use Rattle.records.specs.Records.{programAt, ProgramTable};
+ghost use Rattle.kinds.specs.Programs.{links};
+ghost use Rattle.height.specs.Height.{heightOver, heightOf, plain, interrupts};
+ghost use Rattle.height.specs.Work.{FrameLimits, frameWords};
 use records::Program;
 
-fn larger(a: usize, b: usize) -> usize
+fn larger(a: u32, b: u32) -> u32
     ensures { λ r. ⌜ r ≡ max a b ⌝ }
 {
     if a < b { b } else { a }
 }
 
-fn has_two(kind: usize) -> bool
-    ensures { λ r. ⌜ r ≡ hasTwo kind ⌝ }
+// One link more than record a is high, where there is a link to it.
+fn above(h: &[u32], link: bool, a: usize) -> u32
+    requires { ⌜ ((j : ℕ) → getD (now h) j 0 ≤ 256) ⌝ }
+    ensures { λ r. ⌜ r ≡ cond link (suc (getD (now (h .entry)) a 0)) 0 ⌝ }
 {
-    (kind == 3) | (kind == 4) | (kind == 6) | (kind == 8) | (kind == 9)
-}
-
-fn has_one(kind: usize) -> bool
-    ensures { λ r. ⌜ r ≡ hasOne kind ⌝ }
-{
-    (kind == 5) | (kind == 7) | (kind == 10) | (kind == 11)
-}
-
-// What stands in the table of heights, 0 past its end.
-fn height_in(h: &[usize; 256], a: usize) -> usize
-    requires { ⌜ length (now h) ≡ 256 ⌝ }
-    ensures { λ r. ⌜ r ≡ getD (now (h .entry)) a 0 ⌝ }
-{
-    if a < 256 { h[a] } else { 0 }
+    if link {
+        records::number_in(h, a, 0) + 1
+    } else {
+        0
+    }
 }
 
 // The height of a record, from those of lower ones.
-fn height_over(h: &[usize; 256], r: Program) -> usize
-    requires { ⌜ length (now h) ≡ 256 ⌝ }
+fn height_over(h: &[u32], r: Program) -> u32
     requires { ⌜ ((j : ℕ) → getD (now h) j 0 ≤ 256) ⌝ }
     ensures { λ v. ⌜ v ≡ heightOver (now (h .entry)) (links r) ⌝ }
 {
-    if has_two(r.kind) {
-        let ha = height_in(h, r.a);
-        let hb = height_in(h, r.b);
-        return 1 + larger(ha, hb);
-    }
-    if has_one(r.kind) {
-        return 1 + height_in(h, r.a);
-    }
-    0
+    larger(
+        above(h, kinds::programs::has_a(r.kind), r.a),
+        above(h, kinds::programs::has_b(r.kind), r.b),
+    )
 }
 
 // The height of a table of n program records.
 pub fn height(t: &[u8], n: usize) -> usize
-    requires { ⌜ (8 * n ≤ length (now t)) × (1 ≤ n) × (n ≤ 256) ⌝ }
+    requires { ⌜ ProgramTable (now t) n ⌝ }
     ensures { λ r. ⌜ r ≡ heightOf (programAt (now (t .entry))) n ⌝ }
 {
-    let mut h = [0usize; 256];
+    let mut h = [0u32; 256];
     let mut i = 0;
     while i < n {
         let v = height_over(&h, records::program_at(t, i));
         h[i] = v;
         i += 1;
     }
-    h[n - 1]
+    records::wide32(h[n - 1])
 }
 
 fn is_plain(t: &[u8], i: usize) -> bool
@@ -99,7 +86,7 @@ pub fn levels_from(h: usize, interrupts: bool) -> usize
 
 // The words of one frame.
 pub fn frame_words(h: usize, d: usize) -> usize
-    requires { ⌜ (h ≤ 18) × (d ≤ 64) ⌝ }
+    requires { ⌜ FrameLimits h d ⌝ }
     ensures { λ r. ⌜ (r ≡ frameWords h d) × (r ≤ 6979) ⌝ }
 {
     64 + 3 * (1 + 2 * h * d)

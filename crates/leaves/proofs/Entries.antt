@@ -1,7 +1,7 @@
 -- What stands in the tables at a record is what the record is. A record up to height 18, as all are that run, has at most 2 ^ 18
 -- transitions, fewer than the cap, so its count is exact. Assumes nothing.
-use mathlib.Core.Path.{_≡_, refl, sym, _∙_, ap}
-use mathlib.Core.Bool.{Bool, true, false, cond}
+use mathlib.Core.Path.{_≡_, sym, _∙_, ap}
+use mathlib.Core.Bool.{Bool, true, cond}
 use mathlib.Core.List.{List, _++_, map}
 use Prim.Native.Nat.{ℕ, _-_, _^_, _<_, _≤_, min}
 use native.Mathlib.Nat.{pow-le-pow-right}
@@ -13,22 +13,18 @@ use lib.Seq.{ext-getD}
 use Rattle.records.specs.declared.Program.{Program}
 use Rattle.records.specs.Table.{upTo}
 use Rattle.records.proofs.Fills.{default-at, length-up, up-at}
+use Rattle.kinds.specs.Programs.{usesA, firstBy}
+use Rattle.kinds.proofs.Reading.{uses-a, uses-a-same}
+use Rattle.kinds.proofs.Counting.{where-used}
 use Rattle.height.specs.Height.{rise}
 use Rattle.golog.specs.declared.State.{State}
 use Rattle.golog.specs.World.{World, holds}
 use Rattle.remaining.specs.Rest.{AllLower}
 use Rattle.remaining.specs.Leaves.{Leaf, nilLeaf, leafAt, leafOf}
-use Rattle.remaining.specs.Kinds.{usesA}
 use Rattle.remaining.proofs.Counts.{leaf-few}
 use Rattle.remaining.proofs.Entries.{lower-a, rise-a}
-use Rattle.remaining.proofs.Every.{uses-a}
-use Rattle.leaves.specs.Tallies.{cap, cappedCount, finalsOf, countsOf, SeesRecord, firstBy}
+use Rattle.leaves.specs.Tallies.{cap, cappedCount, finalsOf, countsOf, SeesRecord}
 use Rattle.leaves.specs.Endable.{AreFinal}
-use Rattle.leaves.proofs.Seen.{first-seen}
-
-where-used : (b : Bool) (x y : ℕ) → (T b → x ≡ y) → cond b x 0 ≡ cond b y 0
-where-used true x y e = e tt
-where-used false x y e = refl
 
 module _ (W : World) (s : State) (p : ℕ → Program) where
   pub finals-at : (m i : ℕ) → i < m → getD (finalsOf W s p m) i true ≡ leafOf W s p i .final
@@ -77,11 +73,11 @@ module _ (W : World) (s : State) (p : ℕ → Program) where
   counts-exact low m i h k = omega (arith, counts-at m i h, few-steps low i k)
 
   -- the transitions of a record's part a, counted
-  pub first-exact : AllLower p → (m i : ℕ) → i < m → rise p i ≤ 18 → {held : List Bool} {can : ℕ → Bool} {running : Bool} → SeesRecord W s held can (p i) → s .running ≡ running
-      → firstBy (p i) held running (countsOf W s p m) ≡ cond (usesA (p i .kind) (holds W (p i .c) s) (s .running)) (length (leafOf W s p (p i .a) .transitions)) 0
+  pub first-exact : AllLower p → (m i : ℕ) → i < m → rise p i ≤ 18 → {truths : List Bool} {can : ℕ → Bool} {running : Bool} → SeesRecord W s truths can (p i) → s .running ≡ running
+      → firstBy (p i) truths running (countsOf W s p m) ≡ cond (usesA (p i .kind) (holds W (p i .c) s) (s .running)) (length (leafOf W s p (p i .a) .transitions)) 0
   unfolding firstBy
   first-exact low m i h k S e =
       let used : Bool = usesA (p i .kind) (holds W (p i .c) s) (s .running) in
       let exact : T used → getD (countsOf W s p m) (p i .a) 0 ≡ length (leafOf W s p (p i .a) .transitions) =
       λ t. let u = uses-a (p i .kind) (holds W (p i .c) s) (s .running) t in counts-exact low m (p i .a) (omega (arith, lower-a p low i u)) (omega (arith, rise-a p low i u)) in
-      rw (← e) (ap (λ (b : Bool). cond b (getD (countsOf W s p m) (p i .a) 0) 0) (first-seen S (s .running)) ∙ where-used used _ _ exact)
+      rw (← e) (ap (λ (b : Bool). cond b (getD (countsOf W s p m) (p i .a) 0) 0) (uses-a-same (p i .kind) (s .running) (S .condition)) ∙ where-used used _ _ exact)

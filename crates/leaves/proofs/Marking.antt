@@ -1,69 +1,25 @@
 -- A record is final in no state unless it is marked among those that may be, and in every state where it is marked among those that are:
--- by kind, where its parts are so. So where the two agree, `endable` says it. Assumes nothing.
+-- where its parts are so. So where the two agree, `endable` says it. Assumes nothing.
 use mathlib.Core.Path.{_≡_, refl, sym, _∙_, ap}
-use mathlib.Core.Bool.{Bool, true, false, not, _&&_, _||_}
+use mathlib.Core.Bool.{Bool, true, false, not, _&&_}
 use mathlib.Core.List.{List}
 use Prim.Native.Nat.{ℕ, _-_, _≤_, _<_}
 use native.Mathlib.Omega.{arith}
-use lib.Dec.{T}
 use lib.ListN.{length, getD, length-append, length-replicate, List·getD-eq-default}
 use Rattle.records.specs.declared.Program.{Program}
 use Rattle.records.specs.Table.{upTo, entryOf}
-use Rattle.records.proofs.Truth.{and-both, or-left, or-right, or-only}
 use Rattle.records.proofs.Fills.{default-at, length-up, up-at}
-use Rattle.height.specs.Height.{hasTwo}
+use Rattle.kinds.specs.Programs.{finalBoundBy}
+use Rattle.kinds.proofs.Bounding.{Under, final-marked, marked-final}
 use Rattle.golog.specs.World.{holds}
-use Rattle.remaining.specs.Kinds.{finalOf}
 use Rattle.remaining.specs.Leaves.{Leaf, leafWith, leafOf}
 use Rattle.remaining.specs.Rest.{AllLower}
-use Rattle.remaining.proofs.Columns.{by-kind}
-use Rattle.remaining.proofs.Entries.{entry-rule, hasA, lower-a, lower-b, leaf-step}
+use Rattle.remaining.proofs.Entries.{entry-rule, lower-a, lower-b, leaf-step}
 use Rattle.leaves.specs.Tallies.{extendedSize}
-use Rattle.leaves.specs.Endable.{finalBoundOf, finalBoundBy, Endable, Sure, finalBoundAt, finalBoundsOf, doubtBy, Settled}
-
--- x is true only where y is
-abbrev Under : Bool → Bool → Type 0
-Under x y = x ≡ true → y ≡ true
-
-both : (x y u v : Bool) → Under x u → Under y v → Under (x && y) (u && v)
-both true y u v p q e = and-both u v (p refl) (q e)
-both false y u v p q e = cc
-
-either : (x y u v : Bool) → Under x u → Under y v → Under (x || y) (u || v)
-either true y u v p q e = or-left u v (p refl)
-either false y u v p q e = or-right u v (q e)
-
-branch : (h x y u v : Bool) → Under x u → Under y v → Under ((h && x) || (not h && y)) (u || v)
-branch true true y u v p q e = or-left u v (p refl)
-branch true false y u v p q e = cc
-branch false x y u v p q e = or-right u v (q e)
-
-chosen : (h x y u v : Bool) → Under x u → Under y v → Under (x && y) ((h && u) || (not h && v))
-chosen true true y u v p q e = ap (λ (z : Bool). z || false) (p refl)
-chosen false true y u v p q e = q e
-chosen h false y u v p q e = cc
-
-module _ (fa fb ma mb h running : Bool) where
-  -- what is final is marked, by kind
-  above : (kind : ℕ) → (T (hasA kind) → Under fa ma) → (T (hasTwo kind) → Under fb mb) → Under (finalOf kind fa fb h running) (finalBoundOf true kind ma mb)
-  unfolding finalOf finalBoundOf
-  above =
-      by-kind (λ (k : ℕ). (T (hasA k) → Under fa ma) → (T (hasTwo k) → Under fb mb) → Under (finalOf k fa fb h running) (finalBoundOf true k ma mb))
-      (λ p q e. refl) (λ p q e. e) (λ p q e. e) (λ p q. both fa fb ma mb (p tt) (q tt)) (λ p q. either fa fb ma mb (p tt) (q tt)) (λ p q e. refl)
-      (λ p q e. or-right (ma && mb) (ma || mb) (branch h fa fb ma mb (p tt) (q tt) e)) (λ p q e. refl) (λ p q. both fa fb ma mb (p tt) (q tt))
-      (λ p q. both fa fb ma mb (p tt) (q tt)) (λ p q e. refl) (λ p q e. refl) (λ k p q e. refl)
-
-  -- what is marked is final, by kind
-  below : (kind : ℕ) → (T (hasA kind) → Under ma fa) → (T (hasTwo kind) → Under mb fb) → Under (finalBoundOf false kind ma mb) (finalOf kind fa fb h running)
-  unfolding finalOf finalBoundOf
-  below =
-      by-kind (λ (k : ℕ). (T (hasA k) → Under ma fa) → (T (hasTwo k) → Under mb fb) → Under (finalBoundOf false k ma mb) (finalOf k fa fb h running))
-      (λ p q e. e) (λ p q e. e) (λ p q e. e) (λ p q. both ma mb fa fb (p tt) (q tt)) (λ p q. either ma mb fa fb (p tt) (q tt)) (λ p q e. e)
-      (λ p q e. chosen h ma mb fa fb (p tt) (q tt) (or-only (ma && mb) e)) (λ p q e. or-right (not h) fa (p tt e)) (λ p q. both ma mb fa fb (p tt) (q tt))
-      (λ p q. both ma mb fa fb (p tt) (q tt)) (λ p q e. e) (λ p q e. cc) (λ k p q e. e)
+use Rattle.leaves.specs.Endable.{Endable, Sure, finalBoundAt, finalBoundsOf, doubtBy, Settled}
 
 -- a record reads the lower ones through their marks alone
-pub bound-same : (most : Bool) (r : Program) (l m : List Bool) → ((a : ℕ) → getD l a true ≡ getD m a true) → finalBoundBy most r l ≡ finalBoundBy most r m
+pub bound-same : (most : Bool) (r : Program) (l m : List Bool) → ((a : ℕ) → getD l a true ≡ getD m a true) → finalBoundBy r most l ≡ finalBoundBy r most m
 unfolding finalBoundBy
 bound-same most r l m h = rw (h (r .a), h (r .b))
 
@@ -94,7 +50,7 @@ module _ (p : ℕ → Program) (low : AllLower p) where
     where
       made : (a : ℕ) (lower : List Bool) → ((k : ℕ) → k < a → Under (leafOf W s p k .final) (getD lower k true)) → Under (leafOf W s p a .final) (finalBoundAt true p a lower)
       made a lower h f =
-          above _ _ _ _ (holds W (p a .c) s) (s .running) (p a .kind) (λ t. h (p a .a) (lower-a p low a t)) (λ t. h (p a .b) (lower-b p low a t))
+          final-marked _ _ _ _ (holds W (p a .c) s) (s .running) (p a .kind) (λ t. h (p a .a) (lower-a p low a t)) (λ t. h (p a .b) (lower-b p low a t))
           (ap (λ (y : Leaf). y .final) (sym (leaf-step W s p low a)) ∙ f)
 
   -- what the table of those that are final in every state marks is
@@ -106,7 +62,7 @@ module _ (p : ℕ → Program) (low : AllLower p) where
       made : (a : ℕ) (lower : List Bool) → ((k : ℕ) → k < a → Under (getD lower k true) (leafOf W s p k .final)) → Under (finalBoundAt false p a lower) (leafOf W s p a .final)
       made a lower h f =
           ap (λ (y : Leaf). y .final) (leaf-step W s p low a)
-          ∙ below _ _ _ _ (holds W (p a .c) s) (s .running) (p a .kind) (λ t. h (p a .a) (lower-a p low a t)) (λ t. h (p a .b) (lower-b p low a t)) f
+          ∙ marked-final _ _ _ _ (holds W (p a .c) s) (s .running) (p a .kind) (λ t. h (p a .a) (lower-a p low a t)) (λ t. h (p a .b) (lower-b p low a t)) f
 
 between : (x y f : Bool) → Under f x → Under y f → (x && not y) ≡ false → f ≡ x
 between x y true u v d = sym (u refl)

@@ -1,13 +1,12 @@
 -- Skips are found downwards: a record without doubt leaves the one from the next on. They are followed upwards: what is skipped is
 -- right as it came in, and what is looked at is made of lower records, which are right. Assumes nothing.
-use mathlib.Core.Path.{_≡_, refl, sym, _∙_, ap, ap₂}
+use mathlib.Core.Path.{_≡_, refl, sym, _∙_, ap}
 use mathlib.Core.Bool.{Bool, true, false, not}
 use mathlib.Core.List.{List}
 use mathlib.Core.Logic.{_⊎_, ⊎-elim}
 use Prim.Native.Nat.{ℕ, suc, _+_, _-_, _≤_, _<_}
 use native.Mathlib.Decide.{decLt}
 use native.Mathlib.Omega.{arith}
-use lib.Dec.{T}
 use borrow.Author.Tests.{not-true}
 use lib.ListN.{length, getD, set, replicate, length-append, length-replicate, List·getD-eq-default}
 use lib.Seq.{ext-getD, getD-set-other}
@@ -16,18 +15,16 @@ use Rattle.records.specs.Table.{upTo}
 use Rattle.records.specs.Lowest.{lowestFrom}
 use Rattle.records.proofs.Fills.{getD-same, default-at, length-up, up-at, entry-is}
 use Rattle.records.proofs.Lowest.{from-true, from-false, from-none, from-onward, from-passed}
-use Rattle.height.specs.Height.{hasTwo}
+use Rattle.kinds.specs.Programs.{finalBy}
+use Rattle.kinds.proofs.Reading.{final-same}
 use Rattle.golog.specs.declared.State.{State}
 use Rattle.golog.specs.World.{World}
-use Rattle.remaining.specs.Kinds.{finalOf}
 use Rattle.remaining.specs.Leaves.{Leaf, leafWith, leafOf}
 use Rattle.remaining.specs.Rest.{AllLower}
-use Rattle.remaining.proofs.Columns.{by-kind}
-use Rattle.remaining.proofs.Entries.{hasA, lower-a, lower-b, leaf-step}
-use Rattle.leaves.specs.Tallies.{SeesRecord, finalBy}
+use Rattle.remaining.proofs.Entries.{lower-a, lower-b, leaf-step}
+use Rattle.leaves.specs.Tallies.{SeesRecord}
 use Rattle.leaves.specs.Endable.{Endable, finalBoundsOf, doubtBy, skipFrom, skipsOf, Settled, Skips}
 use Rattle.leaves.proofs.Marking.{bounds-below, settled}
-use Rattle.leaves.proofs.Seen.{final-seen}
 use Rattle.records.proofs.Written.{written}
 
 module _ (endable sure : List Bool) (m : ℕ) where
@@ -102,16 +99,6 @@ module _ (p : ℕ → Program) (m : ℕ) (endable : List Bool) where
       passed i a l k h =
           settled p endable (finalBoundsOf false p m) E (bounds-below p low m) a k (not-true _ (from-passed (clear endable (finalBoundsOf false p m) m) (m - i) i a l h))
 
--- finality depends on the parts that the kind has
-final-parts : (fa ga fb gb h running : Bool) (kind : ℕ) → (T (hasA kind) → fa ≡ ga) → (T (hasTwo kind) → fb ≡ gb) → finalOf kind fa fb h running ≡ finalOf kind ga gb h running
-unfolding finalOf
-final-parts fa ga fb gb h running =
-    let two : (k : ℕ) → fa ≡ ga → fb ≡ gb → finalOf k fa fb h running ≡ finalOf k ga gb h running = λ k u v. ap₂ (λ (x y : Bool). finalOf k x y h running) u v in
-    let one : (k : ℕ) → fa ≡ ga → finalOf k fa fb h running ≡ finalOf k ga fb h running = λ k u. ap (λ (x : Bool). finalOf k x fb h running) u in
-    by-kind (λ (k : ℕ). (T (hasA k) → fa ≡ ga) → (T (hasTwo k) → fb ≡ gb) → finalOf k fa fb h running ≡ finalOf k ga gb h running)
-    (λ u v. refl) (λ u v. refl) (λ u v. refl) (λ u v. two 3 (u tt) (v tt)) (λ u v. two 4 (u tt) (v tt)) (λ u v. refl) (λ u v. two 6 (u tt) (v tt))
-    (λ u v. one 7 (u tt)) (λ u v. two 8 (u tt) (v tt)) (λ u v. two 9 (u tt) (v tt)) (λ u v. refl) (λ u v. one 11 (u tt)) (λ k u v. refl)
-
 -- of the first m records those below i are right, and the others are as they came in
 pub record Done (W : World) (s : State) (p : ℕ → Program) (m : ℕ) (endable finals : List Bool) (i : ℕ) : Type 0 where
   pub right : (a : ℕ) → a < i → a < m → getD finals a true ≡ leafOf W s p a .final
@@ -122,16 +109,16 @@ module _ {W : World} {s : State} {p : ℕ → Program} {m : ℕ} {endable : List
   first = record { right = λ a l k. sym (S .settled 0 a (omega arith) l k W s); rest = λ a l. refl }
 
   module _ (low : AllLower p) {finals : List Bool} {i : ℕ} (D : Done W s p m endable finals i) (l : i < m)
-      {held : List Bool} {can : ℕ → Bool} {running : Bool} (seen : SeesRecord W s held can (p i)) (e : s .running ≡ running) where
-    final-right : finalBy (p i) held running finals ≡ leafOf W s p i .final
+      {truths : List Bool} {can : ℕ → Bool} {running : Bool} (seen : SeesRecord W s truths can (p i)) (e : s .running ≡ running) where
+    final-right : finalBy (p i) truths running finals ≡ leafOf W s p i .final
     unfolding finalBy leafWith
     final-right =
         let part : (a : ℕ) → a < i → getD finals a true ≡ leafOf W s p a .final = λ a h. D .right a h (omega arith) in
-        rw (← e) (final-seen seen _ _ _
-        ∙ final-parts _ _ _ _ _ _ (p i .kind) (λ t. part (p i .a) (lower-a p low i t)) (λ t. part (p i .b) (lower-b p low i t))
+        rw (← e)
+        (final-same (p i .kind) (s .running) (λ t. part (p i .a) (lower-a p low i t)) (λ t. part (p i .b) (lower-b p low i t)) (seen .condition)
         ∙ ap (λ (y : Leaf). y .final) (sym (leaf-step W s p low i)))
 
-    pub next : i < length finals → {f : Bool} → f ≡ finalBy (p i) held running finals → Done W s p m endable (set finals i f) (getD skips (i + 1) m)
+    pub next : i < length finals → {f : Bool} → f ≡ finalBy (p i) truths running finals → Done W s p m endable (set finals i f) (getD skips (i + 1) m)
     next z {f} ef = record {
       right = λ a h k. written (λ (x : Bool). x ≡ leafOf W s p a .final) true finals i f z a (λ n. other a h k n (decLt a i)) (λ u. ef ∙ final-right ∙ ap (λ (b : ℕ). leafOf W s p b .final) (sym u));
       rest = λ a h. let o = S .onward (i + 1) (omega arith) in getD-set-other finals i a f true (λ u. omega (arith, o, h)) ∙ D .rest a (omega (arith, o, h));

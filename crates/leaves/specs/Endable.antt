@@ -2,30 +2,17 @@
 -- others are looked at in each. Assumes nothing.
 use Prim.Native.Nat.{ℕ, _-_, _≤_, _<_}
 use mathlib.Core.Path.{_≡_}
-use mathlib.Core.Bool.{Bool, true, false, not, _&&_, _||_}
-use mathlib.Core.List.{List, [], _∷_, _++_}
+use mathlib.Core.Bool.{Bool, true, false, not, _&&_}
+use mathlib.Core.List.{List, _++_}
 use lib.ListN.{getD, replicate}
 use Rattle.records.specs.declared.Program.{Program}
 use Rattle.records.specs.Table.{upTo}
 use Rattle.records.specs.Lowest.{lowestFrom}
+use Rattle.kinds.specs.Programs.{finalBoundBy}
 use Rattle.golog.specs.declared.State.{State}
 use Rattle.golog.specs.World.{World}
 use Rattle.remaining.specs.Leaves.{leafOf}
 use Rattle.leaves.specs.Tallies.{Sees}
-
--- by kind, where a and b say it of its parts: with `most`, whether it may be final in some state; without, whether it is in every one
-unfoldable pub finalBoundOf : (most : Bool) (kind : ℕ) (a b : Bool) → Bool
-finalBoundOf most kind a b =
-    getD
-    (
-    true ∷ false ∷ false ∷ (a && b) ∷ (a || b) ∷ true ∷ ((a && b) || (most && (a || b))) ∷ (most || a) ∷ (a && b) ∷ (a && b)
-    ∷ true ∷ most ∷ []
-    )
-    kind true
-
--- by what is tabled of lower records
-unfoldable pub finalBoundBy : (most : Bool) → Program → (marks : List Bool) → Bool
-finalBoundBy most r marks = finalBoundOf most (r .kind) (getD marks (r .a) true) (getD marks (r .b) true)
 
 -- of the first m records of p, each that is final in some state is marked
 abbrev pub Endable : (p : ℕ → Program) (m : ℕ) (endable : List Bool) → Type 0
@@ -37,7 +24,7 @@ Sure p m sure = (W : World) (s : State) (i : ℕ) → i < m → getD sure i true
 
 -- record i of the table p, given the lower ones
 abbrev pub finalBoundAt : (most : Bool) (p : ℕ → Program) → ℕ → (lower : List Bool) → Bool
-finalBoundAt most p i lower = finalBoundBy most (p i) lower
+finalBoundAt most p i lower = finalBoundBy (p i) most lower
 
 -- the table of the first m records of p, and in the places after them what nil is. With `most` it is `Endable`, without it is `Sure`
 -- (proofs/Marking.antt)
@@ -70,6 +57,6 @@ skipsOf p m endable = upTo (λ (i : ℕ) (lower : List ℕ). skipFrom endable (f
 abbrev pub AreFinal : World → State → (p : ℕ → Program) (m : ℕ) (finals : List Bool) → Type 0
 AreFinal W s p m finals = (i : ℕ) → i < m → getD finals i true ≡ leafOf W s p i .final
 
--- so of every state that `held`, some `can` and `running` say
-abbrev pub FinalsKnown : (p : ℕ → Program) (m : ℕ) (held : List Bool) (running : Bool) (finals : List Bool) → Type 0
-FinalsKnown p m held running finals = (W : World) (s : State) (can : ℕ → Bool) → Sees W s p m held can running → AreFinal W s p m finals
+-- so of every state that `truths`, some `can` and `running` say
+abbrev pub FinalsKnown : (p : ℕ → Program) (m : ℕ) (truths : List Bool) (running : Bool) (finals : List Bool) → Type 0
+FinalsKnown p m truths running finals = (W : World) (s : State) (can : ℕ → Bool) → Sees W s p m truths can running → AreFinal W s p m finals

@@ -1,10 +1,9 @@
--- What a test made of two tells of each; a choice by a number's test. Assumes nothing.
+-- What a test made of others tells of them, and of a number that counts where it passes. Assumes nothing.
 use mathlib.Core.Path.{_≡_, refl, _∙_, ap}
-use mathlib.Core.Bool.{Bool, true, false, not, _&&_, _||_, false≢true}
+use mathlib.Core.Bool.{Bool, true, false, not, cond, _&&_, _||_, false≢true}
 use mathlib.Core.Logic.{_⊎_, inl, inr, ⊎-elim, _↔_}
-use Prim.Native.Nat.{ℕ}
-use borrow.Author.Tests.{eqb-true, eqb-false}
-use lib.Dec.{eqb}
+use Prim.Native.Nat.{ℕ, _≤_}
+use native.Mathlib.Omega.{arith}
 
 pub and-left : (a b : Bool) → (a && b) ≡ true → a ≡ true
 and-left true b e = refl
@@ -16,6 +15,13 @@ and-right false b e = cc
 
 pub and-both : (a b : Bool) → a ≡ true → b ≡ true → (a && b) ≡ true
 and-both a b p q = ap (λ (x : Bool). x && b) p ∙ q
+
+-- three, or four, one after the other
+pub and-three : (a b c : Bool) → (a && b && c) ≡ true → (a ≡ true) × (b ≡ true) × (c ≡ true)
+and-three a b c e = let d = and-left (a && b) c e in (and-left a b d, and-right a b d, and-right (a && b) c e)
+
+pub and-four : (a b c d : Bool) → (a && b && c && d) ≡ true → (a ≡ true) × (b ≡ true) × (c ≡ true) × (d ≡ true)
+and-four a b c d e = let t = and-three a b c (and-left (a && b && c) d e) in (t .0, t .1, t .2, and-right (a && b && c) d e)
 
 pub or-left : (a b : Bool) → a ≡ true → (a || b) ≡ true
 or-left a b p = ap (λ (x : Bool). x || b) p
@@ -41,10 +47,7 @@ pub not-exactly : {A : Type 0} (a : Bool) → (a ≡ true) ↔ A → (not a ≡ 
 not-exactly true p = (λ e. absurd (false≢true e), λ n. absurd (n (p .0 refl)))
 not-exactly false p = (λ e x. false≢true (p .1 x), λ n. refl)
 
--- a line of a table by kinds: k is its kind, or is to be found further down
-pub line : {A B : Type 0} (k n : ℕ) → (k ≡ n → A) → (¬ (k ≡ n) → B) → A ⊎ B
-line {A} {B} k n here below = go (eqb k n) refl
-  where
-    go : (b : Bool) → eqb k n ≡ b → A ⊎ B
-    go true e = inl (here (eqb-true k n e))
-    go false e = inr (below (eqb-false k n e))
+-- a number that counts where a test passes is no more than itself
+pub part-few : (b : Bool) (n : ℕ) → cond b n 0 ≤ n
+part-few true n = omega arith
+part-few false n = omega arith

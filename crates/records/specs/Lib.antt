@@ -2,4 +2,3 @@ pub mod Bytes
 pub mod Records
 pub mod Lowest
 pub mod Table
-pub mod Lower

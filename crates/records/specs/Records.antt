@@ -1,7 +1,7 @@
 -- Record i of each table, from the table's bytes (document 01, "The sheet, read from its end"). Assumes nothing.
-use Prim.Native.Nat.{ℕ, _+_, _*_}
+use Prim.Native.Nat.{ℕ, _+_, _*_, _≤_, _<_}
 use mathlib.Core.List.{List}
-use lib.ListN.{getD}
+use lib.ListN.{length, getD}
 use Rattle.records.specs.Bytes.{le16}
 use Rattle.records.specs.declared.Fluent.{Fluent}
 use Rattle.records.specs.declared.Formula.{Formula}
@@ -28,3 +28,14 @@ actionAt t i = record { precondition = le16 t (6 * i); first = le16 t (6 * i + 2
 -- kind, a, b, c (u16)
 unfoldable pub programAt : List ℕ → ℕ → Program
 programAt t i = record { kind = le16 t (8 * i); a = le16 t (8 * i + 2); b = le16 t (8 * i + 4); c = le16 t (8 * i + 6) }
+
+-- its a and b are two-byte numbers
+pub record TwoBytes (r : Program) : Type 0 where
+  pub a : r .a < 65536
+  pub b : r .b < 65536
+
+-- t holds n program records: some, and no more than document 01 allows
+pub record ProgramTable (t : List ℕ) (n : ℕ) : Type 0 where
+  pub long : 8 * n ≤ length t
+  pub some-record : 1 ≤ n
+  pub few : n ≤ 256

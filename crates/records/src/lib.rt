@@ -1,10 +1,9 @@
-// One record of each of a sheet's five tables, read from the table's bytes; and what a table of truths says of a formula record.
+// One record of each of a sheet's five tables, read from the table's bytes; and what a table says of a place, or a default past its end.
 ghost use mathlib.Core.Path.{_≡_};
-ghost use mathlib.Core.Bool.{false};
 ghost use Prim.Native.Nat.{_+_, _*_, _≤_, _<_};
 ghost use lib.ListN.{length, getD};
 ghost use Rattle.records.specs.Bytes.{le16, le32};
-ghost use Rattle.records.specs.Records.{fluentAt, formulaAt, effectAt, actionAt, programAt};
+ghost use Rattle.records.specs.Records.{fluentAt, formulaAt, effectAt, actionAt, programAt, TwoBytes};
 
 // Document 01: "Fluent, 2 bytes".
 pub struct Fluent {
@@ -44,6 +43,12 @@ pub struct Program {
 
 pub fn wide(x: u8) -> usize
     ensures { λ r. ⌜ (r ≡ x) × (r < 256) ⌝ }
+{
+    x as usize
+}
+
+pub fn wide32(x: u32) -> usize
+    ensures { λ r. ⌜ (r ≡ x) × (r < 4294967296) ⌝ }
 {
     x as usize
 }
@@ -121,7 +126,7 @@ pub fn action_at(t: &[u8], i: usize) -> Action
 pub fn program_at(t: &[u8], i: usize) -> Program
     requires { ⌜ 8 * i + 8 ≤ length (now t) ⌝ }
     ensures { λ r. ⌜ r ≡ programAt (now (t .entry)) i ⌝ }
-    ensures { λ r. ⌜ (r .a < 65536) × (r .b < 65536) ⌝ }
+    ensures { λ r. ⌜ TwoBytes r ⌝ }
 {
     let at = 8 * i;
     let kind = read16(t, at);
@@ -131,9 +136,21 @@ pub fn program_at(t: &[u8], i: usize) -> Program
     Program { kind, a, b, c }
 }
 
-// What a table of truths says of formula q, false past its end.
-pub fn holds_in(held: &[bool], q: usize) -> bool
-    ensures { λ r. ⌜ r ≡ getD (now (held .entry)) q false ⌝ }
+// What stands in a table at place i, and the default past its end: one reader for each type of its entries.
+pub fn flag_in(table: &[bool], i: usize, default: bool) -> bool
+    ensures { λ r. ⌜ r ≡ getD (now (table .entry)) i default ⌝ }
 {
-    if q < held.len() { held[q] } else { false }
+    if i < table.len() { table[i] } else { default }
+}
+
+pub fn number_in(table: &[u32], i: usize, default: u32) -> u32
+    ensures { λ r. ⌜ r ≡ getD (now (table .entry)) i default ⌝ }
+{
+    if i < table.len() { table[i] } else { default }
+}
+
+pub fn byte_in(bytes: &[u8], i: usize) -> usize
+    ensures { λ r. ⌜ (r ≡ getD (now (bytes .entry)) i 0) × (r < 256) ⌝ }
+{
+    if i < bytes.len() { wide(bytes[i]) } else { 0 }
 }

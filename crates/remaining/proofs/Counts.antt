@@ -1,29 +1,26 @@
 -- How many transitions there are: a record's, by the one shape, its own and those of the parts that it uses; so at most twice as many
 -- for each level. Assumes nothing.
-use mathlib.Core.Path.{_≡_, refl, sym, _∙_, ap}
-use mathlib.Core.Bool.{Bool, true, false, not, cond, _&&_}
+use mathlib.Core.Path.{_≡_, refl, sym}
+use mathlib.Core.Bool.{cond}
 use mathlib.Core.List.{List, [], _∷_}
-use Prim.Native.Nat.{ℕ, zero, suc, _+_, _*_, _^_, _<_, _≤_, min, max}
+use Prim.Native.Nat.{ℕ, suc, _+_, _*_, _^_, _<_, _≤_, max}
 use native.Mathlib.Nat.{pow-succ', pow-le-pow-right, one-le-pow, mul-le-mul-left, add-mul, one-mul}
 use native.Mathlib.Omega.{arith}
-use lib.Dec.{T, eqb}
+use lib.Dec.{eqb}
 use lib.ListN.{length, length-append, length-map}
-use borrow.Author.Tests.{eq-eqb, ne-eqb}
+use borrow.Author.Tests.{ne-eqb}
 use Rattle.records.specs.declared.Program.{Program}
-use Rattle.height.specs.Height.{hasTwo, rise}
+use Rattle.records.proofs.Truth.{part-few}
+use Rattle.kinds.specs.Programs.{countOf}
+use Rattle.kinds.proofs.Counting.{count-adds, count-doubled}
+use Rattle.height.specs.Height.{rise}
 use Rattle.golog.specs.declared.State.{State}
 use Rattle.golog.specs.World.{World, holds, possible}
-use Rattle.runs.specs.Guide.{only}
+use Rattle.runs.proofs.Tests.{only-length}
 use Rattle.golog.specs.Transitions.{isNone}
 use Rattle.remaining.specs.Rest.{Rest, gone, leaf, node, nodes, largest, high, AllLower}
-use Rattle.remaining.specs.Kinds.{ownOf, usesA, usesB, countOf}
 use Rattle.remaining.specs.Leaves.{RestTransition, Leaf, nilLeaf, leafWith, leafAt, leafOf, goesRight, restFinal, restTransitions}
-use Rattle.remaining.proofs.Columns.{by-kind}
-use Rattle.remaining.proofs.Entries.{entry-rule, hasA, lower-a, lower-b, rise-a, rise-b}
-
-only-length : (b : Bool) (xs : List RestTransition) → length (only b xs) ≡ cond b (length xs) 0
-only-length true xs = refl
-only-length false xs = refl
+use Rattle.remaining.proofs.Entries.{entry-rule, lower-a, lower-b, rise-a, rise-b}
 
 -- a list is empty where its length is 0
 pub none-length : (xs : List RestTransition) → isNone xs ≡ eqb (length xs) 0
@@ -34,8 +31,10 @@ none-length (x ∷ xs) = sym (ne-eqb (suc (length xs)) 0 (λ e. omega arith))
 pub leaf-count : (W : World) (s : State) (r : Program) (i : ℕ) (A B : Leaf)
     → length (leafWith W s r i A B .transitions)
     ≡ countOf (r .kind) (possible W (r .a) s) (holds W (r .a) s) (A .final) (holds W (r .c) s) (s .running) (length (A .transitions)) (length (B .transitions))
-unfolding leafWith countOf
-leaf-count W s r i A B = simp (length-append, length-map, only-length, none-length)
+unfolding leafWith
+leaf-count W s r i A B =
+    simp (length-append, length-map, only-length, none-length)
+    (sym (count-adds (possible W (r .a) s) (holds W (r .a) s) (A .final) (holds W (r .c) s) (s .running) (length (A .transitions)) (length (B .transitions)) (r .kind)))
 
 -- those of a node
 pub node-count : (W : World) (s : State) (p : ℕ → Program) (tag : ℕ) (l r : Rest)
@@ -44,38 +43,6 @@ pub node-count : (W : World) (s : State) (p : ℕ → Program) (tag : ℕ) (l r 
 unfolding restTransitions
 node-count W s p tag l r = simp (length-append, length-map, only-length, none-length)
 
--- counting up to M, what is cut in the parts is cut in the whole
-cut : (M o x y : ℕ) (ua ub : Bool) → min M (o + (cond ua x 0 + cond ub y 0)) ≡ min M (o + (cond ua (min M x) 0 + cond ub (min M y) 0))
-cut M o x y true true = omega arith
-cut M o x y true false = omega arith
-cut M o x y false true = omega arith
-cut M o x y false false = refl
-
-none-cut : (M n : ℕ) → 1 ≤ M → eqb n 0 ≡ eqb (min M n) 0
-none-cut M zero l = sym (eq-eqb (min M 0) 0 (omega arith))
-none-cut M (suc n) l = ne-eqb (suc n) 0 (λ e. omega arith) ∙ sym (ne-eqb (min M (suc n)) 0 (λ e. omega arith))
-
-pub count-capped : (M kind : ℕ) (can held fa h running : Bool) (ca cb : ℕ) → 1 ≤ M
-    → min M (countOf kind can held fa h running ca cb) ≡ min M (countOf kind can held fa h running (min M ca) (min M cb))
-unfolding countOf
-count-capped M kind can held fa h running ca cb l =
-    ap (λ (idle : Bool). min M (cond (ownOf kind can held) 1 0 + (cond (usesA kind h running) ca 0 + cond (usesB kind fa h idle) cb 0))) (none-cut M ca l)
-    ∙ cut M (cond (ownOf kind can held) 1 0) ca cb (usesA kind h running) (usesB kind fa h (eqb (min M ca) 0))
-
-part : (b : Bool) (x : ℕ) → cond b x 0 ≤ x
-part true x = omega arith
-part false x = omega arith
-
--- a record that stands above its parts: at most twice the most of a part
-doubled : (m kind : ℕ) (can held fa h running : Bool) (ca cb : ℕ) → 1 ≤ m → (T (hasA kind) → ca + ca ≤ m) → (T (hasTwo kind) → cb + cb ≤ m) → countOf kind can held fa h running ca cb ≤ m
-unfolding countOf ownOf usesA usesB
-doubled m kind can held fa h running ca cb l =
-    by-kind (λ (kind : ℕ). (T (hasA kind) → ca + ca ≤ m) → (T (hasTwo kind) → cb + cb ≤ m) → countOf kind can held fa h running ca cb ≤ m)
-    (λ p q. omega arith) (λ p q. omega (arith, part can 1)) (λ p q. omega (arith, part held 1)) (λ p q. omega (arith, p tt, q tt, part fa cb)) (λ p q. omega (arith, p tt, q tt))
-    (λ p q. omega (arith, p tt))
-    (λ p q. omega (arith, p tt, q tt, part h ca, part (not h) cb)) (λ p q. omega (arith, p tt, part h ca)) (λ p q. omega (arith, p tt, q tt)) (λ p q. omega (arith, p tt, q tt, part (eqb ca 0) cb))
-    (λ p q. omega (arith, p tt)) (λ p q. omega (arith, p tt, part (running && h) ca)) (λ k p q. omega arith) kind
-
 -- a record of height h has at most 2 ^ h transitions
 pub leaf-few : (W : World) (s : State) (p : ℕ → Program) → AllLower p → (i : ℕ) → length (leafOf W s p i .transitions) ≤ 2 ^ rise p i
 unfolding leafOf
@@ -83,7 +50,7 @@ leaf-few W s p low =
     entry-rule nilLeaf (leafAt W s p) (λ (i : ℕ) (x : Leaf). length (x .transitions) ≤ 2 ^ rise p i)
     (λ i lower h.
     rw (leaf-count W s (p i) i _ _)
-    (doubled (2 ^ rise p i) (p i .kind) _ _ _ _ _ _ _ (one-le-pow (rise p i) 2 (omega arith))
+    (count-doubled (2 ^ rise p i) (p i .kind) _ _ _ _ _ _ _ (one-le-pow (rise p i) 2 (omega arith))
     (λ t. twice i (p i .a) (rise-a p low i t) _ (h (p i .a) (lower-a p low i t)))
     (λ t. twice i (p i .b) (rise-b p low i t) _ (h (p i .b) (lower-b p low i t)))))
   where
@@ -101,7 +68,7 @@ rest-few W s p low (node tag l r) =
     omega (
       arith,
       node-count W s p tag l r,
-      part (goesRight tag (restFinal W s p l) (eqb (length (restTransitions W s p l)) 0)) (length (restTransitions W s p r)),
+      part-few (goesRight tag (restFinal W s p l) (eqb (length (restTransitions W s p l)) 0)) (length (restTransitions W s p r)),
       rest-few W s p low l,
       rest-few W s p low r,
       grown (high p l) (omega arith) (nodes l),

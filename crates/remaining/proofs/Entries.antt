@@ -1,7 +1,8 @@
--- Induction along a table whose records link to lower ones, and what the links of a record are by its kind. Assumes nothing.
+-- Induction along a table whose records link to lower ones: a record's program, finality and transitions are made of those of the parts
+-- that its kind has. Assumes nothing.
 use mathlib.Core.Path.{_≡_, refl, sym, _∙_, ap, ap₂, subst}
-use mathlib.Core.Bool.{Bool, true, false, cond, _||_}
-use mathlib.Core.List.{List, [], _∷_, _++_, List·Memᴰ, List·Memᴰ·head, List·Memᴰ·tail}
+use mathlib.Core.Bool.{Bool, true, false}
+use mathlib.Core.List.{List, [], _∷_, _++_, map, List·Memᴰ}
 use Prim.Native.Nat.{ℕ, zero, suc, _≤_, _<_}
 use native.Mathlib.Omega.{arith}
 use lib.Dec.{T}
@@ -9,16 +10,20 @@ use lib.ListN.{getD}
 use Rattle.records.specs.declared.Program.{Program}
 use Rattle.records.specs.Table.{upTo, entryOf}
 use Rattle.records.proofs.Fills.{up-at, entry-is}
-use Rattle.height.specs.Height.{hasTwo, hasOne, links, rise}
+use Rattle.kinds.specs.Programs.{hasA, hasB, links, finalOf, ownOf, usesA, usesB, tagA, tagB}
+use Rattle.kinds.proofs.ProgramFields.{link-a, link-b}
+use Rattle.kinds.proofs.Reading.{uses-a, uses-b, final-same, uses-b-same}
+use Rattle.height.specs.Height.{rise}
 use Rattle.height.proofs.Paths.{rise-less}
-use Rattle.golog.specs.Prog.{Prog, sequence, choice, together, over, star, iteration, ifThenElse, while, interrupt, construct, programOf}
+use Rattle.runs.specs.Guide.{only}
+use Rattle.golog.specs.Prog.{construct, programOf}
 use Rattle.golog.proofs.Truths.{program-at, program-is}
+use Rattle.golog.proofs.Construct.{construct-same}
 use Rattle.golog.specs.declared.State.{State}
-use Rattle.golog.specs.World.{World}
-use Rattle.remaining.specs.Rest.{AllLower}
-use Rattle.remaining.specs.Kinds.{finalOf, usesA, usesB}
-use Rattle.remaining.specs.Leaves.{Leaf, nilLeaf, leafWith, leafAt, leafOf}
-use Rattle.remaining.proofs.Columns.{by-kind}
+use Rattle.golog.specs.World.{World, holds, possible}
+use Rattle.golog.specs.Transitions.{isNone}
+use Rattle.remaining.specs.Rest.{gone, AllLower}
+use Rattle.remaining.specs.Leaves.{RestTransition, onRest, wrapA, wrapB, Leaf, nilLeaf, ownMove, siblingA, leafWith, leafAt, leafOf}
 
 -- what each entry has, given that the lower ones have it, every entry has
 pub entry-rule : {A : Type 0} (z : A) (f : ℕ → List A → A) (Q : ℕ → A → Type 0)
@@ -38,41 +43,12 @@ entry-same {A} z f g i h = ap (λ (l : List A). getD l i z) (go (suc i) (λ j l.
     go zero h = refl
     go (suc n) h = ap₂ (λ (l : List A) (x : A). l ++ (x ∷ [])) (go n (λ j k. h j (omega arith))) (h n (omega arith) (upTo f n) ∙ ap (g n) (go n (λ j k. h j (omega arith))))
 
--- the kinds whose a is a program record
-abbrev pub hasA : ℕ → Bool
-hasA kind = hasTwo kind || hasOne kind
-
-pub two-parts : (kind : ℕ) → T (hasTwo kind) → T (hasA kind)
-two-parts kind = go (hasTwo kind)
-  where
-    go : (two : Bool) → T two → T (two || hasOne kind)
-    go true t = tt
-    go false t = absurd t
-
-module _ (r : Program) where
-  pub link-a : T (hasA (r .kind)) → List·Memᴰ (r .a) (links r)
-  unfolding links
-  link-a h = go (hasTwo (r .kind)) (hasOne (r .kind)) h
-    where
-      go : (two one : Bool) → T (two || one) → List·Memᴰ (r .a) (cond two (r .a ∷ r .b ∷ []) (cond one (r .a ∷ []) []))
-      go true one h = List·Memᴰ·head refl
-      go false true h = List·Memᴰ·head refl
-      go false false h = absurd h
-
-  pub link-b : T (hasTwo (r .kind)) → List·Memᴰ (r .b) (links r)
-  unfolding links
-  link-b h = go (hasTwo (r .kind)) h
-    where
-      go : (two : Bool) → T two → List·Memᴰ (r .b) (cond two (r .a ∷ r .b ∷ []) (cond (hasOne (r .kind)) (r .a ∷ []) []))
-      go true h = List·Memᴰ·tail (List·Memᴰ·head refl)
-      go false h = absurd h
-
 -- the parts that a record's kind has are lower, and less high
 module _ (p : ℕ → Program) (low : AllLower p) (i : ℕ) where
   pub lower-a : T (hasA (p i .kind)) → p i .a < i
   lower-a t = low i (p i .a) (link-a (p i) t)
 
-  pub lower-b : T (hasTwo (p i .kind)) → p i .b < i
+  pub lower-b : T (hasB (p i .kind)) → p i .b < i
   lower-b t = low i (p i .b) (link-b (p i) t)
 
   pub rise-lower : (a : ℕ) → List·Memᴰ a (links (p i)) → rise p a < rise p i
@@ -81,21 +57,8 @@ module _ (p : ℕ → Program) (low : AllLower p) (i : ℕ) where
   pub rise-a : T (hasA (p i .kind)) → rise p (p i .a) < rise p i
   rise-a t = rise-lower (p i .a) (link-a (p i) t)
 
-  pub rise-b : T (hasTwo (p i .kind)) → rise p (p i .b) < rise p i
+  pub rise-b : T (hasB (p i .kind)) → rise p (p i .b) < rise p i
   rise-b t = rise-lower (p i .b) (link-b (p i) t)
-
--- a record by its fields
-abbrev pub fields : (kind a b c : ℕ) → Program
-fields kind a b c = record { kind = kind; a = a; b = b; c = c }
-
--- the program of a record depends on the parts that its kind has
-construct-same : (kind a b c : ℕ) (P P′ Q Q′ : Prog) → (T (hasA kind) → P ≡ P′) → (T (hasTwo kind) → Q ≡ Q′) → construct (fields kind a b c) P Q ≡ construct (fields kind a b c) P′ Q′
-unfolding construct
-construct-same kind a b c P P′ Q Q′ =
-    by-kind (λ (kind : ℕ). (T (hasA kind) → P ≡ P′) → (T (hasTwo kind) → Q ≡ Q′) → construct (fields kind a b c) P Q ≡ construct (fields kind a b c) P′ Q′)
-    (λ p q. refl) (λ p q. refl) (λ p q. refl) (λ p q. ap₂ sequence (p tt) (q tt)) (λ p q. ap₂ choice (p tt) (q tt)) (λ p q. ap star (p tt))
-    (λ p q. ap₂ (ifThenElse c) (p tt) (q tt)) (λ p q. ap (while c) (p tt)) (λ p q. ap₂ together (p tt) (q tt)) (λ p q. ap₂ over (p tt) (q tt))
-    (λ p q. ap iteration (p tt)) (λ p q. ap (interrupt c) (p tt)) (λ k p q. refl) kind
 
 -- the program of a record is made of those of the records that it names
 pub program-step : (p : ℕ → Program) → AllLower p → (i : ℕ) → programOf p i ≡ construct (p i) (programOf p (p i .a)) (programOf p (p i .b))
@@ -104,21 +67,40 @@ program-step p low i =
     ∙ construct-same (p i .kind) (p i .a) (p i .b) (p i .c) _ _ _ _ (λ h. program-at p i (p i .a) (lower-a p low i h))
     (λ h. program-at p i (p i .b) (lower-b p low i h))
 
+only-used : (b : Bool) {xs ys : List RestTransition} → (T b → xs ≡ ys) → only b xs ≡ only b ys
+only-used true e = e tt
+only-used false e = refl
+
 -- finality and transitions of a record depend on the parts that its kind has
-leaf-parts : (W : World) (s : State) (i kind a b c : ℕ) (A A′ B B′ : Leaf) → (T (hasA kind) → A ≡ A′) → (T (hasTwo kind) → B ≡ B′) →
-    leafWith W s (fields kind a b c) i A B ≡ leafWith W s (fields kind a b c) i A′ B′
-unfolding leafWith finalOf usesA usesB
-leaf-parts W s i kind a b c A A′ B B′ =
-    let two : (k : ℕ) → A ≡ A′ → B ≡ B′ → leafWith W s (fields k a b c) i A B ≡ leafWith W s (fields k a b c) i A′ B′ = λ k h j. ap₂ (leafWith W s (fields k a b c) i) h j in
-    let one : (k : ℕ) → A ≡ A′ → leafWith W s (fields k a b c) i A B ≡ leafWith W s (fields k a b c) i A′ B = λ k h. ap (λ (X : Leaf). leafWith W s (fields k a b c) i X B) h in
-    by-kind (λ (kind : ℕ). (T (hasA kind) → A ≡ A′) → (T (hasTwo kind) → B ≡ B′) → leafWith W s (fields kind a b c) i A B ≡ leafWith W s (fields kind a b c) i A′ B′)
-    (λ p q. refl) (λ p q. refl) (λ p q. refl) (λ p q. two 3 (p tt) (q tt)) (λ p q. two 4 (p tt) (q tt)) (λ p q. one 5 (p tt)) (λ p q. two 6 (p tt) (q tt))
-    (λ p q. one 7 (p tt)) (λ p q. two 8 (p tt) (q tt)) (λ p q. two 9 (p tt) (q tt)) (λ p q. one 10 (p tt)) (λ p q. one 11 (p tt)) (λ k p q. refl) kind
+module _ (W : World) (s : State) (r : Program) (i : ℕ) where
+  -- from its finality, and the transitions of a and of b that it uses
+  abbrev leafBy : (final : Bool) (first second : List RestTransition) → Leaf
+  leafBy final first second = record {
+    final = final;
+    transitions =
+        only (ownOf (r .kind) (possible W (r .a) s) (holds W (r .a) s)) ((ownMove r, gone) ∷ [])
+        ++ (map (onRest (wrapA (tagA (r .kind)) (siblingA r i))) first ++ map (onRest (wrapB (tagB (r .kind)) (r .a))) second);
+  }
+
+  leaf-parts : (A A′ B B′ : Leaf) → (T (hasA (r .kind)) → A ≡ A′) → (T (hasB (r .kind)) → B ≡ B′) → leafWith W s r i A B ≡ leafWith W s r i A′ B′
+  unfolding leafWith
+  leaf-parts A A′ B B′ a b =
+      let h : Bool = holds W (r .c) s in
+      let ua : Bool = usesA (r .kind) h (s .running) in
+      let ub : Bool = usesB (r .kind) (A .final) h (isNone (A .transitions)) in
+      let fa : T (hasA (r .kind)) → A .final ≡ A′ .final = λ t. ap (λ (x : Leaf). x .final) (a t) in
+      let fb : T (hasB (r .kind)) → B .final ≡ B′ .final = λ t. ap (λ (x : Leaf). x .final) (b t) in
+      let idle : T (hasA (r .kind)) → isNone (A .transitions) ≡ isNone (A′ .transitions) = λ t. ap (λ (x : Leaf). isNone (x .transitions)) (a t) in
+      let first = only-used ua (λ t. ap (λ (x : Leaf). x .transitions) (a (uses-a (r .kind) h (s .running) t))) in
+      let second = only-used ub (λ t. ap (λ (x : Leaf). x .transitions) (b (uses-b (r .kind) (A .final) h (isNone (A .transitions)) t)))
+      ∙ ap (λ (u : Bool). only u (B′ .transitions)) (uses-b-same (r .kind) fa (λ t. refl) idle) in
+      ap (λ (f : Bool). leafBy f (only ua (A .transitions)) (only ub (B .transitions))) (final-same (r .kind) (s .running) fa fb (λ t. refl))
+      ∙ ap₂ (leafBy (finalOf (r .kind) (A′ .final) (B′ .final) h (s .running))) first second
 
 -- so they are made of those of the records that it names
 pub leaf-step : (W : World) (s : State) (p : ℕ → Program) → AllLower p → (i : ℕ) → leafOf W s p i ≡ leafWith W s (p i) i (leafOf W s p (p i .a)) (leafOf W s p (p i .b))
 unfolding leafOf
 leaf-step W s p low i =
     entry-is nilLeaf (leafAt W s p) i
-    ∙ leaf-parts W s i (p i .kind) (p i .a) (p i .b) (p i .c) _ _ _ _ (λ h. up-at nilLeaf (leafAt W s p) i (p i .a) (lower-a p low i h))
+    ∙ leaf-parts W s (p i) i _ _ _ _ (λ h. up-at nilLeaf (leafAt W s p) i (p i .a) (lower-a p low i h))
     (λ h. up-at nilLeaf (leafAt W s p) i (p i .b) (lower-b p low i h))

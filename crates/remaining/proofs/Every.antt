@@ -1,21 +1,20 @@
 -- What all transitions of a list have, and one rule for a record's, by the one shape: where a part's transitions have it, and the
 -- construct around them keeps it, the record's have it. Assumes nothing.
 use mathlib.Core.Path.{sym, subst}
-use mathlib.Core.Bool.{Bool, true, false, _||_}
+use mathlib.Core.Bool.{Bool, true, false}
 use mathlib.Core.List.{List, [], _∷_, _++_, map, List·Memᴰ, List·Memᴰ·cases-cons, List·Memᴰ·not-nil}
 use mathlib.Core.Logic.{⊎-elim}
 use Prim.Native.Nat.{ℕ}
-use lib.Dec.{T, eqb}
+use lib.Dec.{T}
 use Rattle.records.specs.declared.Program.{Program}
-use Rattle.height.specs.Height.{hasTwo}
+use Rattle.kinds.specs.Programs.{hasA, hasB, ownOf, usesA, usesB, tagA, tagB}
+use Rattle.kinds.proofs.Reading.{uses-a, uses-b}
 use Rattle.golog.specs.declared.State.{State}
 use Rattle.golog.specs.World.{World, holds, possible}
 use Rattle.runs.specs.Guide.{only}
 use Rattle.remaining.specs.Rest.{Rest, gone, AllLower}
-use Rattle.remaining.specs.Kinds.{ownOf, usesA, usesB, tagA, loops, tagB}
 use Rattle.remaining.specs.Leaves.{RestTransition, onRest, wrapA, wrapB, Leaf, nilLeaf, ownMove, siblingA, leafWith, leafAt, leafOf}
-use Rattle.remaining.proofs.Columns.{by-kind}
-use Rattle.remaining.proofs.Entries.{entry-rule, hasA, lower-a, lower-b}
+use Rattle.remaining.proofs.Entries.{entry-rule, lower-a, lower-b}
 
 -- all transitions of a list have P
 pub data Every (P : RestTransition → Type 0) : List RestTransition → Type 0 where
@@ -34,7 +33,8 @@ pub every-map : {P Q : RestTransition → Type 0} {xs : List RestTransition} (f 
 every-map f h nobody = nobody
 every-map f h (also {x = x} a p) = also (h x a) (every-map f h p)
 
-pub every-part : {P Q : RestTransition → Type 0} {xs : List RestTransition} (b : Bool) (f : Rest → Rest) → (T b → (x : RestTransition) → P x → Q (onRest f x)) → (T b → Every P xs) → Every Q (map (onRest f) (only b xs))
+pub every-part : {P Q : RestTransition → Type 0} {xs : List RestTransition} (b : Bool) (f : Rest → Rest) → (T b → (x : RestTransition) → P x → Q (onRest f x)) → (T b → Every P xs) →
+    Every Q (map (onRest f) (only b xs))
 every-part true f h k = every-map f (h tt) (k tt)
 every-part false f h k = nobody
 
@@ -42,27 +42,9 @@ pub every-at : {P : RestTransition → Type 0} {xs : List RestTransition} {y : R
 every-at nobody k = absurd (List·Memᴰ·not-nil k)
 every-at {P} (also a p) k = ⊎-elim (λ e. subst P (sym e) a) (λ k. every-at p k) (List·Memᴰ·cases-cons k)
 
--- a record uses a part only where its kind has it
-pub uses-a : (kind : ℕ) (h running : Bool) → T (usesA kind h running) → T (hasA kind)
-unfolding usesA
-uses-a kind h running =
-    by-kind (λ (kind : ℕ). T (usesA kind h running) → T (hasA kind))
-    (λ t. t) (λ t. t) (λ t. t) (λ t. tt) (λ t. tt) (λ t. tt) (λ t. tt) (λ t. tt) (λ t. tt) (λ t. tt) (λ t. tt) (λ t. tt) (λ k t. absurd t) kind
-
-pub uses-b : (kind : ℕ) (fa h idle : Bool) → T (usesB kind fa h idle) → T (hasTwo kind)
-unfolding usesB
-uses-b kind fa h idle =
-    by-kind (λ (kind : ℕ). T (usesB kind fa h idle) → T (hasTwo kind))
-    (λ t. t) (λ t. t) (λ t. t) (λ t. tt) (λ t. tt) (λ t. t) (λ t. tt) (λ t. t) (λ t. tt) (λ t. tt) (λ t. t) (λ t. t) (λ k t. absurd t) kind
-
--- the sibling of what part a leaves is the record itself, or the part b that its kind has
-pub has-sibling : (kind : ℕ) → T (eqb (tagA kind) 0 || (loops kind || hasTwo kind))
-unfolding tagA loops
-has-sibling = by-kind (λ (kind : ℕ). T (eqb (tagA kind) 0 || (loops kind || hasTwo kind))) tt tt tt tt tt tt tt tt tt tt tt tt (λ k. tt)
-
 module _ (W : World) (s : State) (p : ℕ → Program) (low : AllLower p) (R : ℕ → RestTransition → Type 0) (own : (i : ℕ) → R i (ownMove (p i), gone))
     (by-a : (i : ℕ) (x : RestTransition) → T (hasA (p i .kind)) → R (p i .a) x → R i (onRest (wrapA (tagA (p i .kind)) (siblingA (p i) i)) x))
-    (by-b : (i : ℕ) (x : RestTransition) → T (hasTwo (p i .kind)) → R (p i .b) x → R i (onRest (wrapB (tagB (p i .kind)) (p i .a)) x)) where
+    (by-b : (i : ℕ) (x : RestTransition) → T (hasB (p i .kind)) → R (p i .b) x → R i (onRest (wrapB (tagB (p i .kind)) (p i .a)) x)) where
   pub leaf-every : (i : ℕ) → Every (R i) (leafOf W s p i .transitions)
   unfolding leafOf leafWith
   leaf-every =

@@ -1,4 +1,3 @@
-pub mod Columns
 pub mod Entries
 pub mod Same
 pub mod Started

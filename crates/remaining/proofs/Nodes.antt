@@ -10,15 +10,17 @@ use native.Mathlib.Nat.{mul-suc}
 use native.Mathlib.Omega.{arith}
 use lib.Dec.{T, eqb}
 use Rattle.records.specs.declared.Program.{Program}
-use Rattle.height.specs.Height.{hasTwo, links, rise}
+use Rattle.kinds.specs.Programs.{hasA, hasB, links, tagA, loops, tagB}
+use Rattle.kinds.proofs.ProgramFields.{link-a, link-b}
+use Rattle.kinds.proofs.Constructs.{sibling-a, sibling-b}
+use Rattle.height.specs.Height.{rise}
 use Rattle.golog.specs.declared.State.{State}
 use Rattle.golog.specs.World.{World, after}
 use Rattle.golog.specs.Transitions.{isNone}
 use Rattle.remaining.specs.Rest.{Rest, gone, leaf, node, nodes, largest, high, WithinFigure, AllLower}
-use Rattle.remaining.specs.Kinds.{tagA, loops, tagB}
 use Rattle.remaining.specs.Leaves.{RestTransition, siblingA, leafOf, goesRight, wrapRight, restFinal, restTransitions, Compact, compactTransitions}
-use Rattle.remaining.proofs.Entries.{two-parts, link-a, link-b, rise-lower, rise-a, rise-b}
-use Rattle.remaining.proofs.Every.{Every, nobody, every-append, every-map, every-part, every-at, has-sibling, leaf-every}
+use Rattle.remaining.proofs.Entries.{rise-lower, rise-a, rise-b}
+use Rattle.remaining.proofs.Every.{Every, nobody, every-append, every-map, every-part, every-at, leaf-every}
 
 -- a construct around a part: one node, and one for the sibling
 around : (z : Bool) (tag b : ℕ) (g : Rest) → (nodes (cond z g (node tag g (leaf b))) ≤ 2 + nodes g) × (nodes (cond z g (node tag (leaf b) g)) ≤ 2 + nodes g)
@@ -55,18 +57,19 @@ module _ (W : World) (s : State) (p : ℕ → Program) (low : AllLower p) where
     unfolding largest
     leaf-largest =
         leaf-every W s p low (λ (i : ℕ) (x : RestTransition). largest rank (x .1) ≤ rank i) (λ i. omega arith)
-        (λ i x t h. left i (x .1) (omega (arith, ranked i (p i .a) (link-a (p i) t))) (eqb (tagA (p i .kind)) 0) (loops (p i .kind)) (has-sibling (p i .kind)))
-        (λ i x t h. right i (x .1) (omega (arith, ranked i (p i .b) (link-b (p i) t))) (ranked i (p i .a) (link-a (p i) (two-parts (p i .kind) t))) (eqb (tagB (p i .kind)) 0))
+        (λ i x t h. left i (x .1) (omega (arith, ranked i (p i .a) (link-a (p i) t))) (eqb (tagA (p i .kind)) 0) (loops (p i .kind)) (sibling-a (p i .kind)))
+        (λ i x t h. right i (x .1) (omega (arith, ranked i (p i .b) (link-b (p i) t))) (eqb (tagB (p i .kind)) 0) (sibling-b (p i .kind)))
       where
-        left : (i : ℕ) (g : Rest) → largest rank g ≤ rank i → (z own : Bool) → T (z || (own || hasTwo (p i .kind))) →
+        left : (i : ℕ) (g : Rest) → largest rank g ≤ rank i → (z own : Bool) → T (z || (own || hasB (p i .kind))) →
             largest rank (cond z g (node (tagA (p i .kind)) g (leaf (cond own i (p i .b))))) ≤ rank i
         left i g h true own t = h
         left i g h false true t = omega arith
         left i g h false false t = omega (arith, ranked i (p i .b) (link-b (p i) t))
 
-        right : (i : ℕ) (g : Rest) → largest rank g ≤ rank i → rank (p i .a) ≤ rank i → (z : Bool) → largest rank (cond z g (node (tagB (p i .kind)) (leaf (p i .a)) g)) ≤ rank i
-        right i g h k true = h
-        right i g h k false = omega arith
+        right : (i : ℕ) (g : Rest) → largest rank g ≤ rank i → (z : Bool) → T (z || hasA (p i .kind)) →
+            largest rank (cond z g (node (tagB (p i .kind)) (leaf (p i .a)) g)) ≤ rank i
+        right i g h true t = h
+        right i g h false t = omega (arith, ranked i (p i .a) (link-a (p i) t))
 
     rest-largest : (g : Rest) → Every (λ (x : RestTransition). largest rank (x .1) ≤ largest rank g) (restTransitions W s p g)
     unfolding restTransitions largest

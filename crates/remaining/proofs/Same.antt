@@ -7,17 +7,16 @@ use mathlib.Core.Option.{Option, none, some}
 use mathlib.Core.Path.{_≡_, refl, sym, _∙_, ap, ap₂, subst}
 use lib.Dec.{T, eqb}
 use Rattle.records.specs.declared.Program.{Program}
-use Rattle.height.specs.Height.{hasTwo}
+use Rattle.kinds.specs.Programs.{fieldA, fieldB, hasA, hasB, finalOf, usesA, usesB, tagA, loops, tagB}
+use Rattle.kinds.proofs.ProgramKinds.{by-kind, recordOf}
 use Rattle.golog.specs.declared.State.{State}
 use Rattle.golog.specs.World.{World, holds, possible, after}
 use Rattle.golog.specs.Prog.{Prog, sequence, together, over, star, iteration, while, interrupt, construct, programOf}
 use Rattle.runs.specs.Guide.{only}
 use Rattle.golog.specs.Transitions.{Transition, onProg, isNone, final, transitions}
 use Rattle.remaining.specs.Rest.{Rest, gone, leaf, node, unfolded, AllLower}
-use Rattle.remaining.specs.Kinds.{finalOf, ownOf, usesA, usesB, tagA, loops, tagB}
 use Rattle.remaining.specs.Leaves.{RestTransition, onRest, Leaf, nilLeaf, leafWith, leafAt, leafOf, restFinal, restTransitions, Compact, compactTransitions, compactFinal, unfoldedTransition}
-use Rattle.remaining.proofs.Columns.{by-kind}
-use Rattle.remaining.proofs.Entries.{entry-rule, hasA, lower-a, lower-b, fields, program-step}
+use Rattle.remaining.proofs.Entries.{entry-rule, lower-a, lower-b, program-step}
 
 -- the transition that one stands for, from the state s
 abbrev seen : World → State → (ℕ → Program) → RestTransition → Transition
@@ -80,15 +79,15 @@ module _ (W : World) (s : State) (p : ℕ → Program) where
   -- a record, where the parts that its kind has are right
   module _ (i a b c : ℕ) (A B : Leaf) where
     abbrev Made : ℕ → Prog
-    Made kind = construct (fields kind a b c) (programOf p a) (programOf p b)
+    Made kind = construct (recordOf kind a b c) (programOf p a) (programOf p b)
 
     abbrev Kept : ℕ → Type 0
     Kept kind =
-        (T (hasA kind) → Right W s p A (programOf p a)) → (T (hasTwo kind) → Right W s p B (programOf p b)) → programOf p i ≡ Made kind
-        → Right W s p (leafWith W s (fields kind a b c) i A B) (Made kind)
+        (T (hasA kind) → Right W s p A (programOf p a)) → (T (hasB kind) → Right W s p B (programOf p b)) → programOf p i ≡ Made kind
+        → Right W s p (leafWith W s (recordOf kind a b c) i A B) (Made kind)
 
     record-right : (kind : ℕ) → Kept kind
-    unfolding leafWith construct final transitions finalOf ownOf usesA usesB tagA tagB loops unfolded
+    unfolding leafWith construct final transitions fieldA fieldB finalOf usesA usesB tagA tagB loops unfolded
     record-right =
         by-kind Kept
         -- 0 nil
@@ -143,7 +142,8 @@ module _ (W : World) (s : State) (p : ℕ → Program) where
         -- 11 interrupt
         (λ h k e. record {
           ends = ap (λ (x : Bool). not (s .running) || (holds W c s && x)) (h tt .ends);
-          goes = alone (wrapped (λ (g : Rest). node 3 g (leaf i)) (λ (g : Prog). sequence g (interrupt c (programOf p a))) (λ g. ap (sequence (unfolded p g)) e) (kept (s .running && holds W c s) (h tt .goes)));
+          goes = alone (wrapped (λ (g : Rest). node 3 g (leaf i)) (λ (g : Prog). sequence g (interrupt c (programOf p a))) (λ g. ap (sequence (unfolded p g)) e)
+              (kept (s .running && holds W c s) (h tt .goes)));
         })
         -- past the kinds
         (λ n h k e. record { ends = refl; goes = nobody })

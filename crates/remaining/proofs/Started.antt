@@ -11,7 +11,8 @@ use native.Mathlib.Omega.{arith}
 use lib.ListN.{getD}
 use borrow.Author.Tests.{lt-ltb, le-ltb}
 use Rattle.records.specs.declared.Program.{Program}
-use Rattle.height.specs.Height.{links, heightOver, heightAt, rise}
+use Rattle.kinds.specs.Programs.{fieldA, fieldB, links}
+use Rattle.height.specs.Height.{heightOver, heightAt, rise}
 use Rattle.height.proofs.Paths.{Lower, above, rise-above}
 use Rattle.golog.specs.Prog.{nil, sequence, over, construct, progAt, programOf, started}
 use Rattle.remaining.specs.Rest.{leaf, unfolded, AllLower}
@@ -41,7 +42,7 @@ pair-lower : (m x y a : ℕ) → x < m → y < m → List·Memᴰ a (x ∷ y ∷
 pair-lower m x y a hx hy h = ⊎-elim (λ e. omega arith) (λ t. let e = List·Memᴰ·eq-of-singleton t in omega arith) (List·Memᴰ·cases-cons h)
 
 virtual-lower : (b : Bool) (n k a : ℕ) → List·Memᴰ a (links (getD (virtual b n) k empty)) → a < n + k
-unfolding links
+unfolding links fieldA fieldB
 virtual-lower false n k a h = absurd (List·Memᴰ·not-nil h)
 virtual-lower true n zero a h = absurd (List·Memᴰ·not-nil h)
 virtual-lower true n (suc zero) a h = absurd (List·Memᴰ·not-nil h)
@@ -77,7 +78,7 @@ module _ (p : ℕ → Program) (n : ℕ) (low : Lower p n) (some-record : 1 ≤ 
 
   -- its height: two levels above the root's where there are interrupts
   pub top-rise : (b : Bool) → rise (extended b p n) (top b n) ≡ rise p (n - 1) + cond b 2 0
-  unfolding links above
+  unfolding links fieldA fieldB above
   top-rise true =
       let t : ℕ → Program = extended true p n in
       let at : (k : ℕ) → rise t (n + k) ≡ above (rise t) (links (getD (virtual true n) k empty)) =

@@ -8,12 +8,12 @@ use lib.Dec.{eqb}
 use lib.ListN.{getD}
 use Rattle.records.specs.declared.Program.{Program}
 use Rattle.records.specs.Table.{entryOf}
+use Rattle.kinds.specs.Programs.{acts, finalOf, ownOf, usesA, usesB, tagA, loops, tagB}
 use Rattle.golog.specs.declared.State.{State}
 use Rattle.golog.specs.World.{World, holds, possible, after}
 use Rattle.runs.specs.Guide.{only}
 use Rattle.golog.specs.Transitions.{Transition, isNone}
 use Rattle.remaining.specs.Rest.{Rest, gone, leaf, node, unfolded}
-use Rattle.remaining.specs.Kinds.{finalOf, ownOf, usesA, usesB, tagA, loops, tagB}
 
 -- a transition: the move, none for a test, and what it leaves. The move gives the state
 abbrev pub RestTransition : Type 0
@@ -41,7 +41,7 @@ nilLeaf = record { final = true; transitions = [] }
 
 -- the move of a record's own transition: that of an act, none of a test
 abbrev pub ownMove : Program → Option ℕ
-ownMove r = cond (eqb (r .kind) 1) (some (r .a)) none
+ownMove r = cond (acts (r .kind)) (some (r .a)) none
 
 -- what stands beside what a leaves: the record itself, or its part b
 abbrev pub siblingA : Program → ℕ → ℕ

@@ -1,4 +1,3 @@
 pub mod Rest
-pub mod Kinds
 pub mod Leaves
 pub mod Extended

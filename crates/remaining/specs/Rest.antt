@@ -5,7 +5,8 @@ use mathlib.Core.Bool.{cond}
 use mathlib.Core.List.{List·Memᴰ}
 use lib.Dec.{eqb}
 use Rattle.records.specs.declared.Program.{Program}
-use Rattle.height.specs.Height.{links, rise}
+use Rattle.kinds.specs.Programs.{links}
+use Rattle.height.specs.Height.{rise}
 use Rattle.golog.specs.Prog.{Prog, nil, sequence, together, over, programOf}
 
 -- nothing (nil); a record; a construct by its kind, 3 sequence, 8 together, 9 over, with its two parts

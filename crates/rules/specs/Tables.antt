@@ -3,7 +3,9 @@ use Prim.Native.Nat.{ℕ}
 use mathlib.Core.Bool.{Bool}
 use mathlib.Core.List.{List}
 use Rattle.records.specs.Records.{fluentAt, formulaAt, effectAt, actionAt, programAt}
-use Rattle.rules.specs.Rules.{fluentOk, formulaOk, effectOk, actionOk, programOk}
+use Rattle.kinds.specs.Programs.{programOk}
+use Rattle.kinds.specs.Formulas.{formulaOk}
+use Rattle.rules.specs.Rules.{fluentOk, effectOk, actionOk}
 
 abbrev pub fluentsOk : List ℕ → ℕ → Bool
 fluentsOk t i = fluentOk (fluentAt t i)

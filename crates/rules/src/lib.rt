@@ -4,29 +4,16 @@ ghost use Prim.Native.Nat.{_+_, _*_, _≤_, _<_};
 ghost use lib.ListN.{length};
 ghost use Rattle.records.specs.Records.{fluentAt};
 ghost use Rattle.records.specs.Lowest.{lowest};
-ghost use Rattle.rules.specs.Rules.{fluentOk, formulaOk, effectOk, actionOk, programOk};
+ghost use Rattle.rules.specs.Rules.{fluentOk, effectOk, actionOk};
 ghost use Rattle.rules.specs.Tables.{fluentsOk, formulasOk, effectsOk, actionsOk, programsOk};
 use records::Action;
 use records::Effect;
 use records::Fluent;
-use records::Formula;
-use records::Program;
 
 fn fluent_ok(r: Fluent) -> bool
     ensures { λ ok. ⌜ ok ≡ fluentOk r ⌝ }
 {
     (1 <= r.size) & (r.size <= 16) & (r.initial < r.size)
-}
-
-fn formula_ok(nf: usize, size: usize, i: usize, r: Formula) -> bool
-    ensures { λ ok. ⌜ ok ≡ formulaOk nf size i r ⌝ }
-{
-    (r.kind <= 1) & (r.x == 0) & (r.a == 0) & (r.b == 0)
-        | (r.kind == 2) & (r.x < nf) & (r.a < size) & (r.b == 0)
-        | (r.kind == 3) & (r.x < nf) & (r.a <= size) & (r.b == 0)
-        | (r.kind == 4) & (r.x < nf) & (r.a < nf) & (r.b == 0)
-        | (r.kind == 5) & (r.x == 0) & (r.a < i) & (r.b == 0)
-        | ((r.kind == 6) | (r.kind == 7)) & (r.x == 0) & (r.a < i) & (r.b < i)
 }
 
 fn effect_ok(nf: usize, nq: usize, size: usize, r: Effect) -> bool
@@ -42,32 +29,12 @@ fn action_ok(nq: usize, ne: usize, r: Action) -> bool
     (r.precondition < nq) & (r.first + r.count <= ne)
 }
 
-fn program_ok(nq: usize, na: usize, i: usize, r: Program) -> bool
-    ensures { λ ok. ⌜ ok ≡ programOk nq na i r ⌝ }
-{
-    (r.kind == 0) & (r.a == 0) & (r.b == 0) & (r.c == 0)
-        | (r.kind == 1) & (r.a < na) & (r.b == 0) & (r.c == 0)
-        | (r.kind == 2) & (r.a < nq) & (r.b == 0) & (r.c == 0)
-        | ((r.kind == 3) | (r.kind == 4) | (r.kind == 8) | (r.kind == 9))
-            & (r.a < i)
-            & (r.b < i)
-            & (r.c == 0)
-        | ((r.kind == 5) | (r.kind == 10)) & (r.a < i) & (r.b == 0) & (r.c == 0)
-        | (r.kind == 6) & (r.a < i) & (r.b < i) & (r.c < nq)
-        | ((r.kind == 7) | (r.kind == 11)) & (r.a < i) & (r.b == 0) & (r.c < nq)
-}
-
 // The domain size of fluent x, 0 past the table's end.
 fn size_of(fluents: &[u8], x: usize) -> usize
     requires { ⌜ x < 65536 ⌝ }
     ensures { λ r. ⌜ r ≡ fluentAt (now (fluents .entry)) x .size ⌝ }
 {
-    let at = 2 * x;
-    if at < fluents.len() {
-        records::wide(fluents[at])
-    } else {
-        0
-    }
+    records::byte_in(fluents, 2 * x)
 }
 
 fn formulas_ok(fluents: &[u8], nf: usize, t: &[u8], i: usize) -> bool
@@ -75,7 +42,7 @@ fn formulas_ok(fluents: &[u8], nf: usize, t: &[u8], i: usize) -> bool
     ensures { λ r. ⌜ r ≡ formulasOk (now (fluents .entry)) nf (now (t .entry)) i ⌝ }
 {
     let r = records::formula_at(t, i);
-    formula_ok(nf, size_of(fluents, r.x), i, r)
+    kinds::formulas::formula_ok(nf, size_of(fluents, r.x), i, r)
 }
 
 fn effects_ok(fluents: &[u8], nf: usize, nq: usize, t: &[u8], i: usize) -> bool
@@ -153,7 +120,7 @@ pub fn programs(nq: usize, na: usize, t: &[u8], n: usize) -> usize
 {
     let mut i = 0;
     while i < n {
-        if !program_ok(nq, na, i, records::program_at(t, i)) {
+        if !kinds::programs::program_ok(nq, na, i, records::program_at(t, i)) {
             return i;
         }
         i += 1;

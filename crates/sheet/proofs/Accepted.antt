@@ -1,6 +1,6 @@
 -- What acceptance tells: no cause of 1 to 9 holds, so the tables lie in the sheet, every record keeps its rule, the height is at most
 -- 16 and the answer is the figure. Assumes nothing.
-use mathlib.Core.Path.{_≡_, refl, sym, _∙_, ap, subst}
+use mathlib.Core.Path.{_≡_, refl, sym, subst}
 use mathlib.Core.List.{List}
 use mathlib.Core.Bool.{Bool, true, false, not, cond}
 use Prim.Native.Nat.{ℕ, _+_, _-_, _≤_, _<_}

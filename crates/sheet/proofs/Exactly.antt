@@ -12,12 +12,13 @@ use lib.ListN.{length}
 use lib.Dec.{ltb, eqb}
 use Rattle.records.specs.Lowest.{lowest}
 use Rattle.records.specs.Records.{programAt}
-use Rattle.records.proofs.Lowest.{none-exactly}
+use Rattle.records.proofs.Lowest.{lower-true}
 use Rattle.records.proofs.Truth.{or-exactly, not-exactly}
 use Rattle.records.specs.declared.Program.{Program}
 use Rattle.rules.specs.Tables.{programsOk}
-use Rattle.rules.specs.Kept.{ProgramKept}
-use Rattle.rules.proofs.Kept.{fluent-exactly, formula-exactly, effect-exactly, action-exactly, program-exactly}
+use Rattle.kinds.proofs.ProgramFields.{program-exactly}
+use Rattle.kinds.proofs.FormulaFields.{formula-exactly}
+use Rattle.rules.proofs.Kept.{fluent-exactly, effect-exactly, action-exactly}
 use Rattle.height.specs.Down.{HeightAbove}
 use Rattle.height.specs.Height.{heightOf}
 use Rattle.height.specs.Work.{levels, workWords}
@@ -55,9 +56,7 @@ misplaced-exactly t room = (
     go true h (no l) e = absurd (not-exactly _ (placed-exactly t room) .0 e (eqb-true _ _ h, omega arith))
 
 kept-lower : (nq na : ℕ) (t : List ℕ) (n : ℕ) → ltb (lowest (programsOk nq na t) n) n ≡ false → Lower (programAt t) n
-kept-lower nq na t n e =
-    let decides : (i : ℕ) → (programsOk nq na t i ≡ true) ↔ ProgramKept nq na t i = λ i. program-exactly nq na i (programAt t i) in
-    rules-lower nq na n (programAt t) (none-exactly (programsOk nq na t) (ProgramKept nq na t) decides n .0 (ltb-false _ n e))
+kept-lower nq na t n e = rules-lower nq na n (programAt t) (λ i l. lower-true (programsOk nq na t) n i (omega (arith, ltb-false _ n e)))
 
 too-high : (p : ℕ → Program) (n : ℕ) → (1 ≤ n) × Lower p n → (ltb 16 (heightOf p n) ≡ true) ↔ HeightAbove p n 16
 too-high p n (some, low) = let a = above-exactly p n low some 16 in (λ e. a .1 (ltb-true _ _ e), λ h. lt-ltb _ _ (a .0 h))

@@ -6,6 +6,7 @@ use native.Mathlib.Omega.{arith}
 use lib.ListN.{length, length-drop}
 use lib.Seq.{length-take-le}
 use Rattle.records.specs.Bytes.{part}
+use Rattle.records.specs.Records.{ProgramTable}
 use Rattle.sheet.specs.Layout.{LaidOut, fluentsIn, formulasIn, actionsIn, programsIn}
 use Rattle.sheet.specs.declared.Layout.{Layout}
 
@@ -48,7 +49,7 @@ module _ (s : List ℕ) (l : Layout) (f : LaidOut l (length s)) where
       let o = in-order f in
       omega (arith, part-length s (l .actions) (l .programs) (o .actions) (omega arith), f .at-programs)
 
-  pub programs-long : (8 * l .p ≤ length (programsIn s l)) × (1 ≤ l .p) × (l .p ≤ 256)
+  pub programs-long : ProgramTable (programsIn s l) (l .p)
   programs-long =
       let o = in-order f in
-      (omega (arith, part-length s (l .programs) (l .end) (o .programs) (o .end), f .at-end), f .some-record, f .p)
+      record { long = omega (arith, part-length s (l .programs) (l .end) (o .programs) (o .end), f .at-end); some-record = f .some-record; few = f .p }

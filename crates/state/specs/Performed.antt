@@ -11,23 +11,23 @@ use Rattle.golog.specs.declared.State.{State}
 use Rattle.golog.specs.World.{start, special, each}
 
 -- an effect names fluent x and its condition holds
-abbrev pub changesBy : Effect → (held : List Bool) → (x : ℕ) → Bool
-changesBy e held x = eqb (e .fluent) x && getD held (e .condition) false
+abbrev pub changesBy : Effect → (truths : List Bool) → (x : ℕ) → Bool
+changesBy e truths x = eqb (e .fluent) x && getD truths (e .condition) false
 
 -- "the first effect in the action's range that names it and whose condition holds in the old values gives the new value; without one the
 -- value stays": fluent x, with the value old, under the k effects from number i on
-unfoldable pub givenBy : (effects : List ℕ) (held : List Bool) (x old i k : ℕ) → ℕ
-givenBy effects held x old i zero = old
-givenBy effects held x old i (suc k) = let later : ℕ = givenBy effects held x old (suc i) k in cond (changesBy (effectAt effects i) held x) (effectAt effects i .value) later
+unfoldable pub givenBy : (effects : List ℕ) (truths : List Bool) (x old i k : ℕ) → ℕ
+givenBy effects truths x old i zero = old
+givenBy effects truths x old i (suc k) = let later : ℕ = givenBy effects truths x old (suc i) k in cond (changesBy (effectAt effects i) truths x) (effectAt effects i .value) later
 
 -- the values after the count effects from number first on
-unfoldable pub changedBy : (effects : List ℕ) (held : List Bool) (first count : ℕ) (values : List ℕ) → List ℕ
-changedBy effects held first count values = each (λ (x old : ℕ). givenBy effects held x old first count) 0 values
+unfoldable pub changedBy : (effects : List ℕ) (truths : List Bool) (first count : ℕ) (values : List ℕ) → List ℕ
+changedBy effects truths first count values = each (λ (x old : ℕ). givenBy effects truths x old first count) 0 values
 
 -- start and stop switch whether interrupts run, other actions change values
-unfoldable pub performBy : (effects actions : List ℕ) (held : List Bool) → ℕ → State → State
-performBy effects actions held a s =
-    let new : List ℕ = changedBy effects held (actionAt actions a .first) (actionAt actions a .count) (s .values) in
+unfoldable pub performBy : (effects actions : List ℕ) (truths : List Bool) → ℕ → State → State
+performBy effects actions truths a s =
+    let new : List ℕ = changedBy effects truths (actionAt actions a .first) (actionAt actions a .count) (s .values) in
     record { values = cond (special a) (s .values) new; running = cond (special a) (eqb a start) (s .running) }
 
 -- of the count effects from number first on: each names a fluent below n

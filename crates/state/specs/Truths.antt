@@ -6,8 +6,9 @@ use mathlib.Core.List.{List, _++_}
 use lib.ListN.{getD, drop}
 use Rattle.records.specs.Records.{formulaAt}
 use Rattle.records.specs.Table.{upTo}
+use Rattle.kinds.specs.Truth.{truthOf}
 use Rattle.golog.specs.declared.State.{State}
-use Rattle.golog.specs.World.{World, truthOf, holds}
+use Rattle.golog.specs.World.{World, holds}
 
 -- document 01, "Formula": formula i of the table t, given what the lower ones say (golog's `truthAt`)
 abbrev pub truthIn : (t values : List ℕ) → ℕ → (lower : List Bool) → Bool
@@ -17,6 +18,6 @@ truthIn t values i lower = truthOf (formulaAt t i) values lower
 unfoldable pub truthsOf : (t values : List ℕ) → ℕ → (old : List Bool) → List Bool
 truthsOf t values n old = upTo (truthIn t values) n ++ drop n old
 
--- `held` has what each of the first n formulas says in s
+-- `truths` has what each of the first n formulas says in s
 abbrev pub AreTruths : World → State → ℕ → List Bool → Type 0
-AreTruths W s n held = (q : ℕ) → q < n → getD held q false ≡ holds W q s
+AreTruths W s n truths = (q : ℕ) → q < n → getD truths q false ≡ holds W q s

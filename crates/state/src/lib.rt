@@ -1,80 +1,58 @@
 // One state: what all formulas say of it, and the state after an action.
 ghost use mathlib.Core.Path.{_≡_};
 ghost use Prim.Native.Nat.{_+_, _*_, _≤_};
-ghost use lib.ListN.{length, getD};
+ghost use lib.ListN.{length};
 ghost use Rattle.records.specs.Records.{formulaAt};
-ghost use Rattle.records.specs.Lower.{LowerFormulas};
+ghost use Rattle.kinds.specs.Truth.{truthOf};
+ghost use Rattle.kinds.specs.Formulas.{LowerFormulas};
 ghost use Rattle.golog.specs.declared.State.{State};
-ghost use Rattle.golog.specs.World.{truthOf};
 ghost use Rattle.state.specs.Truths.{truthsOf};
 ghost use Rattle.state.specs.Performed.{changesBy, givenBy, changedBy, performBy, Names, Performable};
 use golog::State;
 use records::Effect;
-
-// The value of fluent x, 0 past the end.
-fn value_in(values: &[u8], x: usize) -> usize
-    ensures { λ r. ⌜ r ≡ getD (now (values .entry)) x 0 ⌝ }
-{
-    if x < values.len() {
-        records::wide(values[x])
-    } else {
-        0
-    }
-}
 
 // What formula i says, where `lower` has what the formulas before it say.
 fn truth_at(formulas: &[u8], i: usize, values: &[u8], lower: &[bool]) -> bool
     requires { ⌜ 6 * i + 6 ≤ length (now formulas) ⌝ }
     ensures { λ r. ⌜ r ≡ truthOf (formulaAt (now (formulas .entry)) i) (now (values .entry)) (now (lower .entry)) ⌝ }
 {
-    let f = records::formula_at(formulas, i);
-    let kind = f.kind;
-    match kind {
-        0 => true,
-        2 => value_in(values, f.x) == f.a,
-        3 => value_in(values, f.x) < f.a,
-        4 => value_in(values, f.x) == value_in(values, f.a),
-        5 => !records::holds_in(lower, f.a),
-        6 => records::holds_in(lower, f.a) & records::holds_in(lower, f.b),
-        7 => records::holds_in(lower, f.a) | records::holds_in(lower, f.b),
-        _ => false,
-    }
+    kinds::formulas::truth_of(records::formula_at(formulas, i), values, lower)
 }
 
 // Fills in what each of the first n formulas says of a state, whatever stood there: one pass upwards, since a formula names lower ones
 // only.
-pub fn truths(formulas: &[u8], n: usize, s: State, held: &mut [bool])
-    requires { ⌜ (6 * n ≤ length (now formulas)) × (n ≤ length (now held)) ⌝ }
+pub fn fill_truths(formulas: &[u8], n: usize, s: State, truths: &mut [bool])
+    requires { ⌜ (6 * n ≤ length (now formulas)) × (n ≤ length (now truths)) ⌝ }
     requires { ⌜ LowerFormulas (now formulas) n ⌝ }
-    ensures { λ _. ⌜ now (held .exit) ≡ truthsOf (now (formulas .entry)) (s .values) n (now (held .entry)) ⌝ }
+    ensures { λ _. ⌜ now (truths .exit) ≡ truthsOf (now (formulas .entry)) (s .values) n (now (truths .entry)) ⌝ }
 {
     let values = s.values;
     let mut i = 0;
     while i < n {
-        let r = truth_at(formulas, i, &values, held);
-        held[i] = r;
+        let r = truth_at(formulas, i, &values, truths);
+        truths[i] = r;
         i += 1;
     }
 }
 
 // Whether an effect names fluent x and its condition holds.
-fn changes(e: Effect, held: &[bool], x: usize) -> bool
-    ensures { λ r. ⌜ r ≡ changesBy e (now (held .entry)) x ⌝ }
+fn changes(e: Effect, truths: &[bool], x: usize) -> bool
+    ensures { λ r. ⌜ r ≡ changesBy e (now (truths .entry)) x ⌝ }
 {
-    (e.fluent == x) & records::holds_in(held, e.condition)
+    (e.fluent == x) & records::flag_in(truths, e.condition, false)
 }
 
 // The new value of fluent x under an action's effects: the first one that changes it gives it.
-fn new_value(effects: &[u8], first: usize, count: usize, held: &[bool], x: usize, old: u8) -> u8
+fn new_value(effects: &[u8], first: usize, count: usize, truths: &[bool], x: usize, old: u8) -> u8
     requires { ⌜ 4 * (first + count) ≤ length (now effects) ⌝ }
-    ensures { λ r. ⌜ r ≡ givenBy (now (effects .entry)) (now (held .entry)) x old first count ⌝ }
+    ensures { λ r. ⌜ r ≡ givenBy (now (effects .entry)) (now (truths .entry)) x old first count ⌝ }
 {
     let end = first + count;
     let mut value = old;
     let mut i = first;
     'effects: while i < end {
         let e = records::effect_at(effects, i);
-        if changes(e, held, x) {
+        if changes(e, truths, x) {
             value = e.value as u8;
             break 'effects;
         }
@@ -89,27 +67,34 @@ fn changed(
     first: usize,
     count: usize,
     n: usize,
-    held: &[bool],
+    truths: &[bool],
     values: [u8; 32],
 ) -> [u8; 32]
     requires { ⌜ (4 * (first + count) ≤ length (now effects)) × (n ≤ 32) ⌝ }
     requires { ⌜ Names (now effects) n first count ⌝ }
-    ensures { λ r. ⌜ r ≡ changedBy (now (effects .entry)) (now (held .entry)) first count values ⌝ }
+    ensures { λ r. ⌜ r ≡ changedBy (now (effects .entry)) (now (truths .entry)) first count values ⌝ }
 {
     let mut new = values;
     let mut x = 0;
     while x < n {
-        new[x] = new_value(effects, first, count, held, x, values[x]);
+        new[x] = new_value(effects, first, count, truths, x, values[x]);
         x += 1;
     }
     new
 }
 
-// The state after action a, where n is the number of fluents and `held` has what the formulas say of s.
-pub fn perform(effects: &[u8], actions: &[u8], n: usize, held: &[bool], a: usize, s: State) -> State
+// The state after action a, where n is the number of fluents and `truths` has what the formulas say of s.
+pub fn perform(
+    effects: &[u8],
+    actions: &[u8],
+    n: usize,
+    truths: &[bool],
+    a: usize,
+    s: State,
+) -> State
     requires { ⌜ Performable (now effects) (now actions) n a ⌝ }
     requires { ⌜ n ≤ 32 ⌝ }
-    ensures { λ r. ⌜ r ≡ performBy (now (effects .entry)) (now (actions .entry)) (now (held .entry)) a s ⌝ }
+    ensures { λ r. ⌜ r ≡ performBy (now (effects .entry)) (now (actions .entry)) (now (truths .entry)) a s ⌝ }
 {
     let values = s.values;
     if 65533 < a {
@@ -119,7 +104,7 @@ pub fn perform(effects: &[u8], actions: &[u8], n: usize, held: &[bool], a: usize
         };
     }
     let r = records::action_at(actions, a);
-    let new = changed(effects, r.first, r.count, n, held, values);
+    let new = changed(effects, r.first, r.count, n, truths, values);
     State {
         values: new,
         running: s.running,

@@ -10,25 +10,25 @@ use native.Mathlib.Omega.{arith}
 use lib.Dec.{T, eqb}
 use lib.ListN.{length, getD, getElem?}
 use Rattle.records.specs.declared.Program.{Program}
-use Rattle.height.specs.Height.{hasTwo, rise}
+use Rattle.kinds.specs.Programs.{hasA, hasB, ownOf, hasOwn, usesA, usesB, tagA, tagB, firstBy}
+use Rattle.kinds.proofs.Reading.{uses-a, uses-b}
+use Rattle.kinds.proofs.Constructs.{own-no-first, own-no-second, no-own}
+use Rattle.height.specs.Height.{rise}
 use Rattle.golog.specs.declared.State.{State}
 use Rattle.golog.specs.World.{World, holds, possible}
 use Rattle.runs.specs.Guide.{only}
 use Rattle.golog.specs.Transitions.{isNone}
 use Rattle.remaining.specs.Rest.{Rest, gone, leaf, nodes, largest, high, AllLower}
-use Rattle.remaining.specs.Kinds.{ownOf, usesA, usesB, tagA, tagB}
 use Rattle.remaining.specs.Leaves.{RestTransition, onRest, Leaf, leafWith, leafOf, ownMove, siblingA, wrapA, wrapB, restTransitions}
-use Rattle.remaining.proofs.Entries.{hasA, leaf-step, lower-a, lower-b, rise-a, rise-b}
+use Rattle.remaining.proofs.Entries.{leaf-step, lower-a, lower-b, rise-a, rise-b}
 use Rattle.remaining.proofs.Nodes.{step-nodes}
 use Rattle.words.specs.Words.{Put, Room}
 use Rattle.words.proofs.Written.{kept-less, kept-trans, kept-put}
 use Rattle.words.proofs.Moved.{put-gone}
-use Rattle.leaves.specs.Tallies.{extendedSize, countsOf, firstBy}
+use Rattle.leaves.specs.Tallies.{extendedSize, countsOf}
 use Rattle.leaves.proofs.Entries.{counts-exact, first-exact}
 use Rattle.steps.specs.Laid.{codeOf, Sources, Counted, CanLay, Built, Lays, past, Wrapped}
 use Rattle.steps.proofs.Nth.{nth-member, Both, from-first, from-second, second-goes}
-use Rattle.remaining.proofs.Every.{uses-a, uses-b}
-use Rattle.steps.proofs.Columns.{no-own, no-first, no-second}
 
 -- what was built of a transition is small: at most two nodes more for each level
 pub built-few : (W : World) (s : State) (p : ℕ → Program) → AllLower p → (g : Rest) (k to e n : ℕ) (w : List ℕ) → Built (restTransitions W s p g) k to e n w → n ≤ nodes g + 2 * high p g
@@ -49,6 +49,25 @@ cond-less : (b : Bool) (k x : ℕ) → k < cond b x 0 → T b × (k < x)
 cond-less true k x h = (tt, h)
 cond-less false k x h = absurd (omega arith)
 
+-- r is record i of the table that runs, low enough for its counts to be exact
+pub record IsRecord (v : Sources) (i : ℕ) (r : Program) : Type 0 where
+  pub inside : i < v .many
+  pub low : rise (v .records) i ≤ 18
+  pub is : r ≡ v .records i
+
+-- r has no transition of its own: `first` of its transitions are part a's, the others part b's
+pub record OfParts (v : Sources) (r : Program) (first : ℕ) : Type 0 where
+  pub other : hasOwn (r .kind) ≡ false
+  pub first-by : first ≡ firstBy r (v .truths) (v .running) (v .counts)
+
+pub is-record : {v : Sources} {w : List ℕ} {i to k : ℕ} {r : Program} → CanLay v w i to k → r ≡ v .records i → IsRecord v i r
+is-record can e = record { inside = can .inside; low = can .low; is = e }
+
+pub of-parts :
+    {v : Sources} {i first : ℕ} {r : Program} {own : Bool}
+    → IsRecord v i r → own ≡ hasOwn (r .kind) → own ≡ false → first ≡ firstBy r (v .truths) (v .running) (v .counts) → OfParts v r first
+of-parts I e n f = record { other = sym e ∙ n; first-by = f }
+
 module _ {W : World} {s : State} {v : Sources} (C : Counted W s v) where
   abbrev p : ℕ → Program
   p = v .records
@@ -57,7 +76,7 @@ module _ {W : World} {s : State} {v : Sources} (C : Counted W s v) where
   pub count-is : (i : ℕ) → i < v .many → rise (v .records) i ≤ 18 → getD (v .counts) i 0 ≡ length (leafOf W s (v .records) i .transitions)
   count-is i h l = ap (λ (c : List ℕ). getD c i 0) (C .counts-are) ∙ counts-exact W s p (C .lower) (v .many) i h l
 
-  module _ (i : ℕ) (inside : i < v .many) (low : rise (v .records) i ≤ 18) (r : Program) (er : r ≡ v .records i) where
+  module _ {i : ℕ} {r : Program} (I : IsRecord v i r) where
     A : Leaf
     A = leafOf W s p (r .a)
 
@@ -78,10 +97,10 @@ module _ {W : World} {s : State} {v : Sources} (C : Counted W s v) where
 
     steps-are : leafOf W s p i .transitions ≡ own ++ parts
     unfolding leafWith A B ua ub own parts
-    steps-are = ap (λ (x : Leaf). x .transitions) (subst (λ (r : Program). leafOf W s p i ≡ leafWith W s r i (leafOf W s p (r .a)) (leafOf W s p (r .b))) (sym er) (leaf-step W s p (C .lower) i))
+    steps-are = ap (λ (x : Leaf). x .transitions) (subst (λ (r : Program). leafOf W s p i ≡ leafWith W s r i (leafOf W s p (r .a)) (leafOf W s p (r .b))) (sym (I .is)) (leaf-step W s p (C .lower) i))
 
     -- an act or a test: its own
-    pub own-step : (k : ℕ) → k < length (leafOf W s (v .records) i .transitions) → r .kind < 3 → getElem? (leafOf W s (v .records) i .transitions) k ≡ some (ownMove r, gone)
+    pub own-step : (k : ℕ) → k < length (leafOf W s (v .records) i .transitions) → hasOwn (r .kind) ≡ true → getElem? (leafOf W s (v .records) i .transitions) k ≡ some (ownMove r, gone)
     unfolding own parts ua ub
     own-step k h l =
         ap (λ (xs : List RestTransition). getElem? xs k) alone
@@ -91,9 +110,10 @@ module _ {W : World} {s : State} {v : Sources} (C : Counted W s v) where
         alone =
             steps-are
             ∙ ap₂ (λ (x y : Bool). own ++ Both (wrapA (tagA (r .kind)) (siblingA r i)) (wrapB (tagB (r .kind)) (r .a)) (A .transitions) (B .transitions) x y)
-            (no-first (r .kind) _ _ l) (no-second (r .kind) _ _ _ l)
+            (own-no-first (r .kind) _ _ l) (own-no-second (r .kind) _ _ _ l)
 
-        go : (b : Bool) (k : ℕ) → k < length (only {A = RestTransition} b ((ownMove r, gone) ∷ []) ++ []) → getElem? (only {A = RestTransition} b ((ownMove r, gone) ∷ []) ++ []) k ≡ some (ownMove r, gone)
+        go : (b : Bool) (k : ℕ) → k < length (only {A = RestTransition} b ((ownMove r, gone) ∷ []) ++ []) →
+            getElem? (only {A = RestTransition} b ((ownMove r, gone) ∷ []) ++ []) k ≡ some (ownMove r, gone)
         go true zero h = refl
         go true (suc k) h = absurd (omega arith)
         go false k h = absurd (omega arith)
@@ -103,30 +123,30 @@ module _ {W : World} {s : State} {v : Sources} (C : Counted W s v) where
     unfolding ua
     a-lower t =
         let u : T (hasA (r .kind)) = uses-a (r .kind) _ _ t in
-        subst (λ (r : Program). T (hasA (r .kind)) → (r .a < i) × (rise p (r .a) < rise p i)) (sym er) (λ u. (lower-a p (C .lower) i u, rise-a p (C .lower) i u)) u
+        subst (λ (r : Program). T (hasA (r .kind)) → (r .a < i) × (rise p (r .a) < rise p i)) (sym (I .is)) (λ u. (lower-a p (C .lower) i u, rise-a p (C .lower) i u)) u
 
     b-lower : T ub → (r .b < i) × (rise p (r .b) < rise p i)
     unfolding ub
     b-lower t =
-        let u : T (hasTwo (r .kind)) = uses-b (r .kind) _ _ _ t in
-        subst (λ (r : Program). T (hasTwo (r .kind)) → (r .b < i) × (rise p (r .b) < rise p i)) (sym er) (λ u. (lower-b p (C .lower) i u, rise-b p (C .lower) i u)) u
+        let u : T (hasB (r .kind)) = uses-b (r .kind) _ _ _ t in
+        subst (λ (r : Program). T (hasB (r .kind)) → (r .b < i) × (rise p (r .b) < rise p i)) (sym (I .is)) (λ u. (lower-b p (C .lower) i u, rise-b p (C .lower) i u)) u
 
-    module _ (three : 3 ≤ r .kind) (first : ℕ) (ef : first ≡ firstBy r (v .held) (v .running) (v .counts)) where
+    module _ {first : ℕ} (P : OfParts v r first) where
       parts-are : leafOf W s p i .transitions ≡ parts
       unfolding own
-      parts-are = steps-are ∙ ap (λ (b : Bool). only b ((ownMove r, gone) ∷ []) ++ parts) (no-own (r .kind) _ _ three)
+      parts-are = steps-are ∙ ap (λ (b : Bool). only b ((ownMove r, gone) ∷ []) ++ parts) (no-own (r .kind) _ _ (P .other))
 
       first-is : first ≡ cond ua (length (A .transitions)) 0
       unfolding A ua
       first-is =
-          ef
-          ∙ ap (firstBy r (v .held) (v .running)) (C .counts-are)
+          P .first-by
+          ∙ ap (firstBy r (v .truths) (v .running)) (C .counts-are)
           ∙ subst
-          (λ (r : Program). firstBy r (v .held) (v .running) (countsOf W s p (v .many)) ≡ cond (usesA (r .kind) (holds W (r .c) s) (s .running)) (length (leafOf W s p (r .a) .transitions)) 0)
-          (sym er) (first-exact W s p (C .lower) (v .many) i inside low (C .sees .each i inside) (C .sees .runs))
+          (λ (r : Program). firstBy r (v .truths) (v .running) (countsOf W s p (v .many)) ≡ cond (usesA (r .kind) (holds W (r .c) s) (s .running)) (length (leafOf W s p (r .a) .transitions)) 0)
+          (sym (I .is)) (first-exact W s p (C .lower) (v .many) i (I .inside) (I .low) (C .sees .each i (I .inside)) (C .sees .runs))
 
       -- part a's, where k is below how many of a's there are
-      module _ (k : ℕ) (below : k < first) where
+      module _ {k : ℕ} (below : k < first) where
         a-goes : T ua × (k < length (A .transitions))
         a-goes = cond-less ua k _ (subst (λ (n : ℕ). k < n) first-is below)
 
@@ -168,12 +188,12 @@ module _ {W : World} {s : State} {v : Sources} (C : Counted W s v) where
             }
 
       -- else part b's, at the difference
-      module _ (k : ℕ) (all : k < getD (v .counts) i 0) (above : first ≤ k) where
+      module _ {k : ℕ} (all : k < getD (v .counts) i 0) (above : first ≤ k) where
         b-goes : T ub × (k - cond ua (length (A .transitions)) 0 < length (B .transitions))
         unfolding parts
         b-goes =
             second-goes _ _ (A .transitions) (B .transitions) ua ub k (subst (λ (n : ℕ). n ≤ k) first-is above)
-            (subst (λ (xs : List RestTransition). k < length xs) parts-are (subst (λ (n : ℕ). k < n) (count-is i inside low) all))
+            (subst (λ (xs : List RestTransition). k < length xs) parts-are (subst (λ (n : ℕ). k < n) (count-is i (I .inside) (I .low)) all))
 
         pub b-falls : r .b < i
         b-falls = b-lower (b-goes .0) .0
@@ -208,19 +228,20 @@ module _ {W : World} {s : State} {v : Sources} (C : Counted W s v) where
             record {
               built =
                   wrap-built _ (B .transitions) _ k (k - first) _ to e n n′ w₁ w′ (L .built) X
-                  (λ x h. ap (λ (xs : List RestTransition). getElem? xs k) parts-are ∙ from-second _ _ (A .transitions) (B .transitions) ua ub k (k - first) (b-goes .0) (omega (arith, first-is)) h);
+                  (λ x h. ap (λ (xs : List RestTransition). getElem? xs k) parts-are ∙ from-second _ _ (A .transitions) (B .transitions) ua ub k (k - first) (b-goes .0) (omega (arith, first-is))
+                  h);
               kept = kept-trans to to w w₁ w′ (kept-less to _ w w₁ (L .kept) (omega arith)) (X .kept) (omega arith);
             }
 
     -- a transition of its own leaves nothing
-    pub own-lays : {w w′ : List ℕ} {to k e : ℕ} → k < getD (v .counts) i 0 → r .kind < 3 → Room w to (1 + 2 * rise (v .records) i) → Put to 0 0 1 w w′ → e ≡ codeOf (ownMove r)
+    pub own-lays : {w w′ : List ℕ} {to k e : ℕ} → k < getD (v .counts) i 0 → hasOwn (r .kind) ≡ true → Room w to (1 + 2 * rise (v .records) i) → Put to 0 0 1 w w′ → e ≡ codeOf (ownMove r)
         → Lays (leafOf W s (v .records) i .transitions) k to w w′ e 1
     unfolding nodes
     own-lays {w} {w′} {to} {k} h l R P ee = record {
       built = record {
         move = ownMove r;
         rest = gone;
-        nth = own-step k (subst (λ (n : ℕ). k < n) (count-is i inside low) h) l;
+        nth = own-step k (subst (λ (n : ℕ). k < n) (count-is i (I .inside) (I .low)) h) l;
         at = put-gone to w w′ P (omega (arith, R .inside));
         entry-is = ee;
         size-is = refl;

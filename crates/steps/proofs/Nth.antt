@@ -1,6 +1,6 @@
 -- The k-th member of a list, and of the lists that transitions are made of: those of a first part, then those of a second, each under a
 -- test and in a construct. Assumes nothing.
-use mathlib.Core.Path.{_≡_, refl, sym, ap, subst, _∙_}
+use mathlib.Core.Path.{_≡_, sym, ap, subst, _∙_}
 use mathlib.Core.Bool.{Bool, true, false, cond}
 use mathlib.Core.Option.{some}
 use mathlib.Core.List.{List, [], _∷_, _++_, map, List·Memᴰ, List·Memᴰ·head, List·Memᴰ·tail}
@@ -9,6 +9,7 @@ use native.Mathlib.Omega.{arith}
 use lib.Dec.{T}
 use lib.ListN.{length, getElem?, length-append, length-map}
 use Rattle.runs.specs.Guide.{only}
+use Rattle.runs.proofs.Tests.{only-length}
 use Rattle.remaining.specs.Rest.{Rest}
 use Rattle.remaining.specs.Leaves.{RestTransition, onRest}
 
@@ -42,10 +43,6 @@ module _ (f g : Rest → Rest) (A B : List RestTransition) where
   -- under the tests ua and ub
   abbrev pub Both : (ua ub : Bool) → List RestTransition
   Both ua ub = map (onRest f) (only ua A) ++ map (onRest g) (only ub B)
-
-  only-length : (b : Bool) (xs : List RestTransition) → length (only b xs) ≡ cond b (length xs) 0
-  only-length true xs = refl
-  only-length false xs = refl
 
   pub both-length : (ua ub : Bool) → length (Both ua ub) ≡ cond ua (length A) 0 + cond ub (length B) 0
   both-length ua ub = simp (length-append, length-map, only-length)

@@ -15,6 +15,7 @@ use Rattle.remaining.specs.Leaves.{RestTransition, leafOf}
 use Rattle.remaining.specs.Extended.{extended}
 use Rattle.words.specs.Words.{At, Kept, Room}
 use Rattle.leaves.specs.Tallies.{extendedSize, countsOf, Sees}
+use Rattle.steps.specs.declared.Setting.{Setting}
 
 -- the code of a transition that is no move (document 01: "A test is a transition but no move"), above every entry of a history
 abbrev pub testCode : ℕ
@@ -29,18 +30,23 @@ codeOf (some a) = a
 pub record Sources : Type 0 where
   pub records : ℕ → Program
   pub many : ℕ
-  pub held : List Bool
+  pub truths : List Bool
   pub running : Bool
   pub counts : List ℕ
 
-abbrev pub sourcesOf : (programs : List ℕ) (n : ℕ) (interrupts : Bool) (held : List Bool) (running : Bool) (counts : List ℕ) → Sources
-sourcesOf programs n interrupts held running counts =
-    record { records = extended interrupts (programAt programs) n; many = extendedSize interrupts n; held = held; running = running; counts = counts }
+abbrev pub sourcesOf : (programs : List ℕ) → Setting → (truths : List Bool) (counts : List ℕ) → Sources
+sourcesOf programs v truths counts = record {
+  records = extended (v .interrupts) (programAt programs) (v .n);
+  many = extendedSize (v .interrupts) (v .n);
+  truths = truths;
+  running = v .running;
+  counts = counts;
+}
 
 -- it is that of a state
 pub record Counted (W : World) (s : State) (v : Sources) : Type 0 where
   pub can : ℕ → Bool
-  pub sees : Sees W s (v .records) (v .many) (v .held) can (v .running)
+  pub sees : Sees W s (v .records) (v .many) (v .truths) can (v .running)
   pub lower : AllLower (v .records)
   pub counts-are : v .counts ≡ countsOf W s (v .records) (v .many)
 

@@ -4,9 +4,9 @@ ghost use mathlib.Core.Path.{_≡_};
 ghost use mathlib.Core.Bool.{_&&_};
 ghost use Prim.Native.Nat.{_+_, _*_, _≤_, _<_};
 ghost use lib.Dec.{eqb};
-ghost use lib.ListN.{length};
+ghost use Rattle.records.specs.Records.{TwoBytes, ProgramTable};
+ghost use Rattle.kinds.specs.Programs.{tagA, tagB};
 ghost use Rattle.remaining.specs.Rest.{Rest};
-ghost use Rattle.remaining.specs.Kinds.{tagA, loops, tagB};
 ghost use Rattle.remaining.specs.Leaves.{ownMove, siblingA, wrapA, wrapB};
 ghost use Rattle.words.specs.Words.{At, Stands, Room};
 ghost use Rattle.ends.specs.Ends.{finalByTable};
@@ -21,59 +21,28 @@ pub struct Setting {
     pub running: bool,
 }
 
-// The kind of the construct that what part a leaves stands in; 0 where it stands alone.
-fn tag_a(kind: usize) -> u32
-    ensures { λ r. ⌜ r ≡ tagA kind ⌝ }
-{
-    match kind {
-        3 => 3,
-        5 => 3,
-        7 => 3,
-        8 => 8,
-        9 => 9,
-        10 => 8,
-        11 => 3,
-        _ => 0,
-    }
-}
-
-// The same for what part b leaves.
-fn tag_b(kind: usize) -> u32
-    ensures { λ r. ⌜ r ≡ tagB kind ⌝ }
-{
-    match kind {
-        8 => 8,
-        9 => 9,
-        _ => 0,
-    }
-}
-
-fn is_loop(kind: usize) -> bool
-    ensures { λ r. ⌜ r ≡ loops kind ⌝ }
-{
-    match kind {
-        5 => true,
-        7 => true,
-        10 => true,
-        11 => true,
-        _ => false,
-    }
-}
-
 // The record beside what part a leaves: the record itself for a loop, else its part b.
 fn sibling(r: Program, i: usize) -> usize
     ensures { λ q. ⌜ q ≡ siblingA r i ⌝ }
 {
-    if is_loop(r.kind) { i } else { r.b }
+    if kinds::programs::loops(r.kind) {
+        i
+    } else {
+        r.b
+    }
 }
 
 // The code of a record's own move.
 fn entry_of(r: Program) -> u32
-    requires { ⌜ r .a < 65536 ⌝ }
+    requires { ⌜ TwoBytes r ⌝ }
     ensures { λ e. ⌜ e ≡ codeOf (ownMove r) ⌝ }
 {
     let a = r.a;
-    if r.kind == 1 { a as u32 } else { 65536 }
+    if kinds::programs::acts(r.kind) {
+        a as u32
+    } else {
+        65536
+    }
 }
 
 // How far what a part leaves stands after its construct.
@@ -86,10 +55,10 @@ fn past_words(alone: bool, words: usize) -> usize
 // Puts what part a of record i left, n nodes, into its construct: the new number of nodes.
 fn wrap_a(work: &mut [u32], to: usize, r: Program, i: usize, n: usize) -> usize
     requires { ⌜ Room (now work) to (n + 2) ⌝ }
-    requires { ⌜ (i < 65536) × (r .b < 65536) ⌝ }
+    requires { ⌜ (i < 65536) × TwoBytes r ⌝ }
     ensures { λ m. ⌜ Wrapped (wrapA (tagA (r .kind)) (siblingA r i)) (to + past (eqb (tagA (r .kind)) 0) 3) to n m (now (work .entry)) (now (work .exit)) ⌝ }
 {
-    let tag = tag_a(r.kind);
+    let tag = kinds::programs::tag_a(r.kind);
     if tag == 0 {
         return n;
     }
@@ -100,10 +69,10 @@ fn wrap_a(work: &mut [u32], to: usize, r: Program, i: usize, n: usize) -> usize
 // The same for part b, which part a stands left of.
 fn wrap_b(work: &mut [u32], to: usize, r: Program, n: usize) -> usize
     requires { ⌜ Room (now work) to (n + 2) ⌝ }
-    requires { ⌜ r .a < 65536 ⌝ }
+    requires { ⌜ TwoBytes r ⌝ }
     ensures { λ m. ⌜ Wrapped (wrapB (tagB (r .kind)) (r .a)) (to + past (eqb (tagB (r .kind)) 0) 6) to n m (now (work .entry)) (now (work .exit)) ⌝ }
 {
-    let tag = tag_b(r.kind);
+    let tag = kinds::programs::tag_b(r.kind);
     if tag == 0 {
         return n;
     }
@@ -121,38 +90,37 @@ pub struct Laid {
 fn lay_record(
     programs: &[u8],
     v: Setting,
-    held: &[bool],
+    truths: &[bool],
     counts: &[u32],
     work: &mut [u32],
     i: usize,
     to: usize,
     k: usize,
 ) -> Laid
-    requires { ⌜ (8 * v .n ≤ length (now programs)) × (1 ≤ v .n) × (v .n ≤ 256) ⌝ }
-    requires { ⌜ CanLay (sourcesOf (now programs) (v .n) (v .interrupts) (now held) (v .running) (now counts)) (now work) i to k ⌝ }
-    ensures { λ r. ⌜ LaysRecord (sourcesOf (now (programs .entry)) (v .n) (v .interrupts) (now (held .entry)) (v .running) (now (counts .entry))) i k to (now (work .entry))
-        (now (work .exit)) (r .entry) (r .size) ⌝ }
+    requires { ⌜ ProgramTable (now programs) (v .n) ⌝ }
+    requires { ⌜ CanLay (sourcesOf (now programs) v (now truths) (now counts)) (now work) i to k ⌝ }
+    ensures { λ r. ⌜ LaysRecord (sourcesOf (now (programs .entry)) v (now (truths .entry)) (now (counts .entry))) i k to (now (work .entry)) (now (work .exit)) (r .entry) (r .size) ⌝ }
 {
     let r = leaves::record_at(programs, v.n, v.interrupts, i);
-    if r.kind < 3 {
+    if kinds::programs::has_own(r.kind) {
         words::put_node(work, to, 0, 0, 1);
         return Laid {
             entry: entry_of(r),
             size: 1,
         };
     }
-    let first = leaves::first_count(r, held, v.running, counts);
+    let first = kinds::programs::first_by(r, truths, v.running, counts);
     if k < first {
-        let at = to + past_words(tag_a(r.kind) == 0, 3);
-        let x = lay_record(programs, v, held, counts, work, r.a, at, k);
+        let at = to + past_words(kinds::programs::tag_a(r.kind) == 0, 3);
+        let x = lay_record(programs, v, truths, counts, work, r.a, at, k);
         let size = wrap_a(work, to, r, i, x.size);
         return Laid {
             entry: x.entry,
             size,
         };
     }
-    let at = to + past_words(tag_b(r.kind) == 0, 6);
-    let x = lay_record(programs, v, held, counts, work, r.b, at, k - first);
+    let at = to + past_words(kinds::programs::tag_b(r.kind) == 0, 6);
+    let x = lay_record(programs, v, truths, counts, work, r.b, at, k - first);
     let size = wrap_b(work, to, r, x.size);
     Laid {
         entry: x.entry,
@@ -166,17 +134,11 @@ pub enum Turn {
     Passed { k: usize, done: bool },
 }
 
-fn wide(x: u32) -> usize
-    ensures { λ r. ⌜ r ≡ x ⌝ }
-{
-    x as usize
-}
-
 // The k-th transition of record i.
 fn step_record(
     programs: &[u8],
     v: Setting,
-    held: &[bool],
+    truths: &[bool],
     finals: &[bool],
     counts: &[u32],
     work: &mut [u32],
@@ -184,14 +146,14 @@ fn step_record(
     to: usize,
     k: usize,
 ) -> Turn
-    requires { ⌜ (8 * v .n ≤ length (now programs)) × (1 ≤ v .n) × (v .n ≤ 256) ⌝ }
-    requires { ⌜ CanStepRecord (sourcesOf (now programs) (v .n) (v .interrupts) (now held) (v .running) (now counts)) (now finals) (now work) i to ⌝ }
-    ensures { λ r. ⌜ StepsRecord (sourcesOf (now (programs .entry)) (v .n) (v .interrupts) (now (held .entry)) (v .running) (now (counts .entry))) (now (finals .entry)) i k to
-        (now (work .entry)) (now (work .exit)) r ⌝ }
+    requires { ⌜ ProgramTable (now programs) (v .n) ⌝ }
+    requires { ⌜ CanStepRecord (sourcesOf (now programs) v (now truths) (now counts)) (now finals) (now work) i to ⌝ }
+    ensures { λ r. ⌜ StepsRecord (sourcesOf (now (programs .entry)) v (now (truths .entry)) (now (counts .entry))) (now (finals .entry)) i k to (now (work .entry))
+        (now (work .exit)) r ⌝ }
 {
-    let count = wide(leaves::count_in(counts, i));
+    let count = records::wide32(records::number_in(counts, i, 0));
     if k < count {
-        let x = lay_record(programs, v, held, counts, work, i, to, k);
+        let x = lay_record(programs, v, truths, counts, work, i, to, k);
         return Turn::Made {
             entry: x.entry,
             size: x.size,
@@ -199,7 +161,7 @@ fn step_record(
     }
     Turn::Passed {
         k: k - count,
-        done: leaves::final_in(finals, i),
+        done: records::flag_in(finals, i, true),
     }
 }
 
@@ -253,7 +215,7 @@ fn end_right(
 pub fn step_rest(
     programs: &[u8],
     v: Setting,
-    held: &[bool],
+    truths: &[bool],
     finals: &[bool],
     counts: &[u32],
     work: &mut [u32],
@@ -261,9 +223,9 @@ pub fn step_rest(
     to: usize,
     k: usize,
 ) -> Turn
-    requires { ⌜ (8 * v .n ≤ length (now programs)) × (1 ≤ v .n) × (v .n ≤ 256) ⌝ }
-    requires { ⌜ CanStep (sourcesOf (now programs) (v .n) (v .interrupts) (now held) (v .running) (now counts)) (now finals) (now work) from to ⌝ }
-    ensures { λ r. ⌜ StepsRest (sourcesOf (now (programs .entry)) (v .n) (v .interrupts) (now (held .entry)) (v .running) (now (counts .entry))) (now (finals .entry)) from k to
+    requires { ⌜ ProgramTable (now programs) (v .n) ⌝ }
+    requires { ⌜ CanStep (sourcesOf (now programs) v (now truths) (now counts)) (now finals) (now work) from to ⌝ }
+    ensures { λ r. ⌜ StepsRest (sourcesOf (now (programs .entry)) v (now (truths .entry)) (now (counts .entry))) (now (finals .entry)) from k to
         (now (work .entry)) (now (work .exit)) r ⌝ }
 {
     let tag = words::tag_at(work, from);
@@ -272,12 +234,12 @@ pub fn step_rest(
     }
     if tag == 1 {
         let i = words::record_at(work, from);
-        return step_record(programs, v, held, finals, counts, work, i, to, k);
+        return step_record(programs, v, truths, finals, counts, work, i, to, k);
     }
     let left = from + 3;
     let size_left = words::size_at(work, left);
     let right = left + 3 * size_left;
-    let t = step_rest(programs, v, held, finals, counts, work, left, to + 3, k);
+    let t = step_rest(programs, v, truths, finals, counts, work, left, to + 3, k);
     match t {
         Turn::Made { entry, size } => {
             let m = words::size_at(work, right);
@@ -295,7 +257,7 @@ pub fn step_rest(
                 };
             }
             let at = to + past_words(tag == 3, 3 + 3 * size_left);
-            let u = step_rest(programs, v, held, finals, counts, work, right, at, j);
+            let u = step_rest(programs, v, truths, finals, counts, work, right, at, j);
             return end_right(work, left, to, tag, size_left, done, u);
         }
     }

@@ -4,12 +4,6 @@ ghost use Prim.Native.Nat.{_+_, _*_, _^_, _≤_, _<_};
 ghost use lib.ListN.{length, getD};
 ghost use Rattle.words.specs.Words.{Copied, Put, Room, LeafRight, LeafLeft, CopyRight, CopyLeft};
 
-fn wide(x: u32) -> usize
-    ensures { λ r. ⌜ (r ≡ x) × (r < 2 ^ 32) ⌝ }
-{
-    x as usize
-}
-
 // The words of the node at `at`.
 pub fn tag_at(work: &[u32], at: usize) -> u32
     requires { ⌜ at + 3 ≤ length (now work) ⌝ }
@@ -22,14 +16,14 @@ pub fn record_at(work: &[u32], at: usize) -> usize
     requires { ⌜ at + 3 ≤ length (now work) ⌝ }
     ensures { λ r. ⌜ r ≡ getD (now (work .entry)) (at + 1) 0 ⌝ }
 {
-    wide(work[at + 1])
+    records::wide32(work[at + 1])
 }
 
 pub fn size_at(work: &[u32], at: usize) -> usize
     requires { ⌜ at + 3 ≤ length (now work) ⌝ }
     ensures { λ r. ⌜ r ≡ getD (now (work .entry)) (at + 2) 0 ⌝ }
 {
-    wide(work[at + 2])
+    records::wide32(work[at + 2])
 }
 
 // Copies n words to a place above them.

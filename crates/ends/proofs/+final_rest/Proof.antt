@@ -11,7 +11,7 @@ use borrow.Fn.PlainCycle.{Measures, is, falls, and}
 use Rattle.ends.proofs.final_rest.Reads as final-rest
 use Rattle.ends.proofs.final_rest.Kinds as final-rest-kinds
 use Rattle.ends.proofs.+final_rest.Lts-final_rest as final-rest-lts
-use Rattle.leaves.proofs.final_in.Reads as final-in-reads
+use Rattle.records.proofs.flag_in.Reads as flag-in-reads
 use Rattle.words.proofs.record_at.Reads as record-at-reads
 use Rattle.words.proofs.size_at.Reads as size-at-reads
 use Rattle.words.proofs.tag_at.Reads as tag-at-reads
@@ -35,8 +35,8 @@ claims t = (
   tag-at-reads.Learnt,
   record-at-reads.Asked,
   record-at-reads.Learnt,
-  final-in-reads.Asked,
-  final-in-reads.Learnt,
+  flag-in-reads.Asked,
+  flag-in-reads.Learnt,
   size-at-reads.Asked,
   size-at-reads.Learnt,
   final-rest-below t,
@@ -60,12 +60,12 @@ module _ {k : final-rest-lts.Claims} {p : In 2 final-rest-kinds.ps} {q : Out 2 f
 final-rest-record-at-requires : (t : ℕ) → final-rest-lts.Need-record-at-requires (claims t) (final-rest-at t) final-rest.Post
 final-rest-record-at-requires t c κs = holds-room (start-from-then2 c .pre .1)
 
-final-rest-final-in-requires : (t : ℕ) → final-rest-lts.Need-final-in-requires (claims t) (final-rest-at t) final-rest.Post
-final-rest-final-in-requires t c κs = search needs
+final-rest-flag-in-requires : (t : ℕ) → final-rest-lts.Need-flag-in-requires (claims t) (final-rest-at t) final-rest.Post
+final-rest-flag-in-requires t c κs = search needs
 
 final-rest-returns-2 : (t : ℕ) → final-rest-lts.Need-returns-2 (claims t) (final-rest-at t) final-rest.Post
 final-rest-returns-2 t c g h = final-leaf _ (leaf-at _ _ _ (c .before .before .before .before .tag-at .ensures) g h (c .before .before .if2 .taken)) (c .before .record-at .ensures)
-    (c .final-in .ensures)
+    (c .flag-in .ensures)
 
 final-rest-add-size-at : (t : ℕ) → final-rest-lts.Need-add-size-at (claims t) (final-rest-at t) final-rest.Post
 final-rest-add-size-at t c = let h = left-room (start-from-else2 c .pre .1) (c .before .before .tag-at .ensures) (c .before .if1 .left) (c .if2 .left) in omega arith
@@ -154,7 +154,7 @@ pub +final-rest-spec : {M : Type 1} → statement M
     (final-rest-tag-at-requires t)
     (final-rest-returns t)
     (final-rest-record-at-requires t)
-    (final-rest-final-in-requires t)
+    (final-rest-flag-in-requires t)
     (final-rest-returns-2 t)
     (final-rest-add-size-at t)
     (final-rest-size-at-requires t)

@@ -14,9 +14,9 @@ use Rattle.ends.proofs.total_rest.Reads as total-rest
 use Rattle.ends.proofs.total_rest.Kinds as total-rest-kinds
 use Rattle.ends.proofs.+total_rest.Lts-total_rest as total-rest-lts
 use Rattle.ends.proofs.join_totals.Reads as join-totals-reads
-use Rattle.ends.proofs.wide.Reads as wide-reads
-use Rattle.leaves.proofs.count_in.Reads as count-in-reads
-use Rattle.leaves.proofs.final_in.Reads as final-in-reads
+use Rattle.records.proofs.wide32.Reads as wide32-reads
+use Rattle.records.proofs.number_in.Reads as number-in-reads
+use Rattle.records.proofs.flag_in.Reads as flag-in-reads
 use Rattle.words.proofs.record_at.Reads as record-at-reads
 use Rattle.words.proofs.size_at.Reads as size-at-reads
 use Rattle.words.proofs.tag_at.Reads as tag-at-reads
@@ -40,12 +40,12 @@ claims t = (
   tag-at-reads.Learnt,
   record-at-reads.Asked,
   record-at-reads.Learnt,
-  count-in-reads.Asked,
-  count-in-reads.Learnt,
-  wide-reads.Asked,
-  wide-reads.Learnt,
-  final-in-reads.Asked,
-  final-in-reads.Learnt,
+  number-in-reads.Asked,
+  number-in-reads.Learnt,
+  wide32-reads.Asked,
+  wide32-reads.Learnt,
+  flag-in-reads.Asked,
+  flag-in-reads.Learnt,
   size-at-reads.Asked,
   size-at-reads.Learnt,
   total-rest-below t,
@@ -74,27 +74,27 @@ module _ {k : total-rest-lts.Claims} {p : In 4 total-rest-kinds.ps} {q : Out 4 t
 total-rest-record-at-requires : (t : ℕ) → total-rest-lts.Need-record-at-requires (claims t) (total-rest-at t) total-rest.Post
 total-rest-record-at-requires t c κs = holds-room (start-from-then2 c .pre .1 .0)
 
-total-rest-count-in-requires : (t : ℕ) → total-rest-lts.Need-count-in-requires (claims t) (total-rest-at t) total-rest.Post
-total-rest-count-in-requires t c κs = search needs
+total-rest-number-in-requires : (t : ℕ) → total-rest-lts.Need-number-in-requires (claims t) (total-rest-at t) total-rest.Post
+total-rest-number-in-requires t c κs = search needs
 
-total-rest-wide-requires : (t : ℕ) → total-rest-lts.Need-wide-requires (claims t) (total-rest-at t) total-rest.Post
-total-rest-wide-requires t c κs = search needs
+total-rest-wide32-requires : (t : ℕ) → total-rest-lts.Need-wide32-requires (claims t) (total-rest-at t) total-rest.Post
+total-rest-wide32-requires t c κs = search needs
 
-total-rest-final-in-requires : (t : ℕ) → total-rest-lts.Need-final-in-requires (claims t) (total-rest-at t) total-rest.Post
-total-rest-final-in-requires t c κs = search needs
+total-rest-flag-in-requires : (t : ℕ) → total-rest-lts.Need-flag-in-requires (claims t) (total-rest-at t) total-rest.Post
+total-rest-flag-in-requires t c κs = search needs
 
-total-rest-final-in-requires-2 : (t : ℕ) → total-rest-lts.Need-final-in-requires-2 (claims t) (total-rest-at t) total-rest.Post
-total-rest-final-in-requires-2 t c κs = search needs
+total-rest-flag-in-requires-2 : (t : ℕ) → total-rest-lts.Need-flag-in-requires-2 (claims t) (total-rest-at t) total-rest.Post
+total-rest-flag-in-requires-2 t c κs = search needs
 
 total-rest-returns-2 : (t : ℕ) → total-rest-lts.Need-returns-2 (claims t) (total-rest-at t) total-rest.Post
 total-rest-returns-2 t c g h =
-    let at-wide = c .before .before in
-    let at-count-in = at-wide .before in
-    let at-record-at = at-count-in .before in
+    let at-wide32 = c .before .before in
+    let at-number-in = at-wide32 .before in
+    let at-record-at = at-number-in .before in
     let at-if2 = at-record-at .before in
     let at-tag-at = at-if2 .before .before in
-    total-leaf _ _ _ (leaf-at _ _ _ (at-tag-at .tag-at .ensures) g h (at-if2 .if2 .taken)) (at-record-at .record-at .ensures) (at-wide .wide .ensures .0 ∙ at-count-in .count-in .ensures)
-    (at-wide .wide .ensures .1) (c .before .final-in .ensures) (c .final-in2 .ensures)
+    total-leaf _ _ _ (leaf-at _ _ _ (at-tag-at .tag-at .ensures) g h (at-if2 .if2 .taken)) (at-record-at .record-at .ensures) (at-wide32 .wide32 .ensures .0 ∙ at-number-in .number-in .ensures)
+    (at-wide32 .wide32 .ensures .1) (c .before .flag-in .ensures) (c .flag-in2 .ensures)
 
 total-rest-add-size-at : (t : ℕ) → total-rest-lts.Need-add-size-at (claims t) (total-rest-at t) total-rest.Post
 total-rest-add-size-at t c = let h = left-room (start-from-else2 c .pre .1 .0) (c .before .before .tag-at .ensures) (c .before .if1 .left) (c .if2 .left) in omega arith
@@ -181,10 +181,10 @@ pub +total-rest-spec : {M : Type 1} → statement M
     (total-rest-tag-at-requires t)
     (total-rest-returns t)
     (total-rest-record-at-requires t)
-    (total-rest-count-in-requires t)
-    (total-rest-wide-requires t)
-    (total-rest-final-in-requires t)
-    (total-rest-final-in-requires-2 t)
+    (total-rest-number-in-requires t)
+    (total-rest-wide32-requires t)
+    (total-rest-flag-in-requires t)
+    (total-rest-flag-in-requires-2 t)
     (total-rest-returns-2 t)
     (total-rest-add-size-at t)
     (total-rest-size-at-requires t)

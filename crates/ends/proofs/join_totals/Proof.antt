@@ -4,7 +4,7 @@ use mathlib.Core.Bool.{Bool, cond, _&&_, _||_}
 use Prim.Native.Nat.{ℕ, _+_}
 use native.Mathlib.Omega.{arith}
 use Rattle.ends.specs.declared.Totals.{Totals}
-use Rattle.ends.proofs.Parts.{part-few}
+use Rattle.records.proofs.Truth.{part-few}
 use borrow.Author.Needs.{needs}
 use Rattle.ends.proofs.join_totals.Statement.{statement}
 use Rattle.ends.proofs.join_totals.Tie as tie

@@ -4,7 +4,7 @@ use mathlib.Core.Bool.{Bool}
 use mathlib.Core.List.{List}
 use mathlib.Core.Path.{refl, _∙_, ap₂}
 use Prim.Native.Nat.{_+_}
-use Rattle.leaves.specs.Tallies.{finalBy}
+use Rattle.kinds.specs.Programs.{finalBy}
 use Rattle.engine.proofs.Windows.{window-to}
 use borrow.Author.Needs.{needs}
 use Rattle.engine.proofs.final_by.Statement.{statement}
@@ -16,14 +16,14 @@ add-middle c = search needs
 add-end : tie.Need-add-end
 add-end c = search needs
 
-sub-held : tie.Need-sub-held
-sub-held c = search needs
+sub-truths : tie.Need-sub-truths
+sub-truths c = search needs
 
-part-held-start : tie.Need-part-held-start
-part-held-start c = search needs
+part-truths-start : tie.Need-part-truths-start
+part-truths-start c = search needs
 
-part-held-end : tie.Need-part-held-end
-part-held-end c = search needs
+part-truths-end : tie.Need-part-truths-end
+part-truths-end c = search needs
 
 sub-finals : tie.Need-sub-finals
 sub-finals c = search needs
@@ -34,15 +34,15 @@ part-finals-start c = search needs
 part-finals-end : tie.Need-part-finals-end
 part-finals-end c = search needs
 
-final-at-requires : tie.Need-final-at-requires
-final-at-requires c κs = search needs
+final-by-requires : tie.Need-final-by-requires
+final-by-requires c κs = search needs
 
 returns : tie.Need-returns
 returns c =
     let a = c .before .before .before .before .args in
     let flags = now (a .flags) in
     let o = a .from in
-    c .final-at .ensures
+    c .final-by .ensures
     ∙ ap₂ (λ (x y : List Bool). finalBy (a .r) x (a .running) y) (window-to o (o + 512) 512 flags refl) (window-to (o + 512) (o + 512 + 260) 260 flags refl)
 
 pub final-by-spec : {M : Type 1} → statement M
@@ -51,11 +51,11 @@ final-by-spec =
     (tie.spec
     add-middle
     add-end
-    sub-held
-    part-held-start
-    part-held-end
+    sub-truths
+    part-truths-start
+    part-truths-end
     sub-finals
     part-finals-start
     part-finals-end
-    final-at-requires
+    final-by-requires
     returns)

@@ -8,7 +8,7 @@ use Prim.Native.Nat.{ℕ, _+_, _-_, _≤_}
 use lib.ListN.{length, getD}
 use lib.Seq.{length-take-le}
 use borrow.Rule.Slice.PartMut.{putMid, same-len-mid}
-use Rattle.records.specs.Lower.{LowerFormulas}
+use Rattle.kinds.specs.Formulas.{LowerFormulas}
 use Rattle.sheet.specs.Layout.{formulasIn}
 use Rattle.sheet.specs.declared.Layout.{Layout}
 use Rattle.sheet.proofs.Lower.{lower-formulas}
@@ -45,26 +45,26 @@ start-from-slice-aggregate-mark-finals c = start-from-settle (settle-from-slice-
 abbrev settle-from-mark-finals : tie.After-mark-finals → tie.After-settle
 settle-from-mark-finals c = settle-from-slice-aggregate-mark-finals (c .before)
 
-sub-truths : tie.Need-sub-truths
-sub-truths c = in-order (in-sheet (start-from-flags-from c .pre .0)) .formulas
+sub-fill-truths : tie.Need-sub-fill-truths
+sub-fill-truths c = in-order (in-sheet (start-from-flags-from c .pre .0)) .formulas
 
-part-truths-start : tie.Need-part-truths-start
-part-truths-start c = let o = in-order (in-sheet (start-from-flags-from c .pre .0)) in omega arith
+part-fill-truths-start : tie.Need-part-fill-truths-start
+part-fill-truths-start c = let o = in-order (in-sheet (start-from-flags-from c .pre .0)) in omega arith
 
-part-truths-end : tie.Need-part-truths-end
-part-truths-end c = let o = in-order (in-sheet (start-from-flags-from c .pre .0)) in omega arith
+part-fill-truths-end : tie.Need-part-fill-truths-end
+part-fill-truths-end c = let o = in-order (in-sheet (start-from-flags-from c .pre .0)) in omega arith
 
-sub-truths-2 : tie.Need-sub-truths-2
-sub-truths-2 c = search needs
+sub-fill-truths-2 : tie.Need-sub-fill-truths-2
+sub-fill-truths-2 c = search needs
 
-part-truths-start-2 : tie.Need-part-truths-start-2
-part-truths-start-2 c = search needs
+part-fill-truths-start-2 : tie.Need-part-fill-truths-start-2
+part-fill-truths-start-2 c = search needs
 
-part-truths-end-2 : tie.Need-part-truths-end-2
-part-truths-end-2 c = search needs
+part-fill-truths-end-2 : tie.Need-part-fill-truths-end-2
+part-fill-truths-end-2 c = search needs
 
-truths-requires : tie.Need-truths-requires
-truths-requires c κs =
+fill-truths-requires : tie.Need-fill-truths-requires
+fill-truths-requires c κs =
     let at-flags-from = c .before .before in
     let at-start = start-from-flags-from at-flags-from in
     let O = at-start .pre .0 in
@@ -95,8 +95,8 @@ slice-aggregate-mark-finals c =
 mark-finals-requires : tie.Need-mark-finals-requires
 mark-finals-requires c κs =
     let at-settle = settle-from-slice-aggregate-mark-finals c in
-    let at-truths = at-settle .before .before .before .before in
-    let at-flags-from = at-truths .before .before .before in
+    let at-fill-truths = at-settle .before .before .before .before in
+    let at-flags-from = at-fill-truths .before .before .before in
     let at-start = start-from-flags-from at-flags-from in
     let O = at-start .pre .0 in
     let P = at-start .pre .1 in
@@ -104,12 +104,12 @@ mark-finals-requires c κs =
     let flags = now (at-start .args .flags) in
     let x = at-flags-from .flags-from .result in
     let fits : x + 772 ≤ length flags = omega (arith, at-flags-from .flags-from .ensures .1, P .flags-long) in
-    let held = at-truths .truths .last .1 .1 .1 .0 in
-    let long : length held ≡ 512 = at-truths .truths .kept .1 .1 .1 .0 ∙ window-at-long x (x + 512) 512 flags (omega arith) (omega arith) in
-    let first = only-put x (x + 512) 512 flags held (omega arith) (omega arith) long in
+    let said = at-fill-truths .fill-truths .last .1 .1 .1 .0 in
+    let long : length said ≡ 512 = at-fill-truths .fill-truths .kept .1 .1 .1 .0 ∙ window-at-long x (x + 512) 512 flags (omega arith) (omega arith) in
+    let first = only-put x (x + 512) 512 flags said (omega arith) (omega arith) long in
     let finals = at-settle .settle .ensures .1 ∙ endable-kept (omega (arith, at-flags-from .flags-from .ensures .0)) first in
-    let n = at-settle .settle .kept .0 ∙ same-len-mid x (x + 512 - x) flags held (at-truths .truths .kept .1 .1 .1 .0) in
-    ((r .0, r .1, r .2, omega (arith, n)), (runs-lower O, skips-by O P _ _ finals refl))
+    let n = at-settle .settle .kept .0 ∙ same-len-mid x (x + 512 - x) flags said (at-fill-truths .fill-truths .kept .1 .1 .1 .0) in
+    ((r, omega (arith, n)), (runs-lower O, skips-by O P _ _ finals refl))
 
 same-length : tie.Need-same-length
 same-length c = search needs
@@ -118,8 +118,8 @@ returns : tie.Need-returns
 returns c =
     let at-mark-finals = c .before .before in
     let at-settle = settle-from-mark-finals at-mark-finals in
-    let at-truths = at-settle .before .before .before .before in
-    let at-flags-from = at-truths .before .before .before in
+    let at-fill-truths = at-settle .before .before .before .before in
+    let at-flags-from = at-fill-truths .before .before .before in
     let at-start = start-from-flags-from at-flags-from in
     let O = at-start .pre .0 in
     let P = at-start .pre .1 in
@@ -129,15 +129,15 @@ returns c =
     let x = at-flags-from .flags-from .result in
     let ex = at-flags-from .flags-from .ensures .0 in
     let fits : x + 772 ≤ length flags = omega (arith, at-flags-from .flags-from .ensures .1, P .flags-long) in
-    let held = at-truths .truths .last .1 .1 .1 .0 in
-    let long : length held ≡ 512 = at-truths .truths .kept .1 .1 .1 .0 ∙ window-at-long x (x + 512) 512 flags (omega arith) (omega arith) in
-    let flags₁ = putMid x (x + 512 - x) flags held in
+    let said = at-fill-truths .fill-truths .last .1 .1 .1 .0 in
+    let long : length said ≡ 512 = at-fill-truths .fill-truths .kept .1 .1 .1 .0 ∙ window-at-long x (x + 512) 512 flags (omega arith) (omega arith) in
+    let flags₁ = putMid x (x + 512 - x) flags said in
     let flags₂ = at-settle .settle .last .0 in
     let flags₃ = at-mark-finals .mark-finals .last .0 in
-    let n₁ = same-len-mid x (x + 512 - x) flags held (at-truths .truths .kept .1 .1 .1 .0) in
+    let n₁ = same-len-mid x (x + 512 - x) flags said (at-fill-truths .fill-truths .kept .1 .1 .1 .0) in
     let n₂ = at-settle .settle .kept .0 in
     let n₃ = at-mark-finals .mark-finals .kept .0 in
-    let K₁ = only-put x (x + 512) 512 flags held (omega arith) (omega arith) long in
+    let K₁ = only-put x (x + 512) 512 flags said (omega arith) (omega arith) long in
     let S = at-settle .settle .ensures in
     let M = at-mark-finals .mark-finals .ensures in
     let K : Only (truthsFrom d) 772 flags flags₃ =
@@ -146,7 +146,7 @@ returns c =
     let finals : (l : List Bool) → window (x + 512) 260 l ≡ finalsAt d l = λ l. let e : x + 512 ≡ finalsFrom d = omega arith in ap (λ (o : ℕ). window o 260 l) e in
     let truths : (l : List Bool) → window x 512 l ≡ truthsAt d l = λ l. ap (λ (o : ℕ). window o 512 l) ex in
     let same = window-before (M .1 .0) n₃ x 512 (omega arith) (omega (arith, n₁, n₂)) ∙ window-before (S .0) n₂ x 512 (omega arith) (omega (arith, n₁)) in
-    let told = sym (truths flags₃) ∙ same ∙ window-put x (x + 512) 512 flags held (omega arith) (omega arith) long ∙ at-truths .truths .ensures in
+    let told = sym (truths flags₃) ∙ same ∙ window-put x (x + 512) 512 flags said (omega arith) (omega arith) long ∙ at-fill-truths .fill-truths .ensures in
     let before : endableIn flags₁ ≡ endableIn flags = endable-kept (omega arith) K₁ in (
       judged O P st d flags₃ (n₃ ∙ n₂ ∙ n₁) K
           (truths-told O st _ told)
@@ -163,13 +163,13 @@ judge-spec =
     (tie.spec
     flags-from-requires
     add-to
-    sub-truths
-    part-truths-start
-    part-truths-end
-    sub-truths-2
-    part-truths-start-2
-    part-truths-end-2
-    truths-requires
+    sub-fill-truths
+    part-fill-truths-start
+    part-fill-truths-end
+    sub-fill-truths-2
+    part-fill-truths-start-2
+    part-fill-truths-end-2
+    fill-truths-requires
     settle-requires
     sub-mark-finals
     part-mark-finals-start

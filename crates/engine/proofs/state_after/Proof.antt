@@ -61,10 +61,10 @@ returns-2 c =
     let st = at-start .args .st in
     let O = at-start .pre .0 .0 in
     let l = layoutOf s in
-    let held = now (at-start .args .held) in
-    let by = c .perform .ensures ∙ ap (λ (l : Layout). performBy (effectsIn s l) (actionsIn s l) held e st) (O .layout-is) in
+    let truths = now (at-start .args .truths) in
+    let by = c .perform .ensures ∙ ap (λ (l : Layout). performBy (effectsIn s l) (actionsIn s l) truths e st) (O .layout-is) in
     let action = judged s (O .accepted) e (action-of-code (now (at-start .args .s)) (at-start .args .entry) _ (at-start .pre .1) refl (at-if1 .if1 .left)) in
-    let is = perform-is (formulasIn s l) (effectsIn s l) (actionsIn s l) st (l .q) held (at-start .pre .0 .1) e action in
+    let is = perform-is (formulasIn s l) (effectsIn s l) (actionsIn s l) st (l .q) truths (at-start .pre .0 .1) e action in
     by ∙ is ∙ sym (ap (λ (x : Option ℕ). after (worldOf s) x st) (is-move e (at-if1 .if1 .left)))
 
 pub state-after-spec : {M : Type 1} → statement M

@@ -114,7 +114,7 @@ tallies-requires c κs =
     let F = window-at (x + 512) (finalsFrom d) (x + 512 + 260) 260 flags (omega (arith, e)) (omega arith) in
     let N = window-at y (countsFrom d) (y + 260) 260 numbers (at-counts-from .counts-from .ensures .0) (omega arith) in
     let r = programs-long _ _ (in-sheet O) in (
-      (r .0, r .1, r .2, actions-long _ _ (in-sheet O), ap length N ∙ counts-long (J .prepared) d),
+      (r, actions-long _ _ (in-sheet O), ap length N ∙ counts-long (J .prepared) d),
       (
         runs-lower O,
         subst₂ (λ (t f : List Bool). FinalsKnown (runs (now (at-start .args .s)) (m .layout) (m .interrupts)) (many (m .layout) (m .interrupts)) t (at-start .args .st .running) f) (sym T) (sym F)

@@ -1,6 +1,6 @@
 -- The table of heights is filled upwards, by the law of Fills; the last entry is the root's. Assumes nothing.
 use denote.Ref.{now}
-use mathlib.Core.Path.{_≡_, ap, _∙_}
+use mathlib.Core.Path.{_≡_, sym, ap, _∙_}
 use Prim.Native.Nat.{ℕ, _≤_, _-_}
 use native.Mathlib.Nat.{le-antisymm}
 use native.Mathlib.Omega.{arith}
@@ -8,7 +8,8 @@ use Rattle.records.specs.Table.{upTo}
 use Rattle.records.specs.declared.Program.{Program}
 use Rattle.records.specs.Records.{programAt}
 use Rattle.records.proofs.Fills.{Filled, start, full, at, more, up-at}
-use Rattle.height.specs.Height.{heightAt, links, heightOver, rise}
+use Rattle.kinds.specs.Programs.{links}
+use Rattle.height.specs.Height.{heightAt, heightOver, rise}
 use Rattle.height.proofs.Heights.{heights-le}
 use Rattle.height.proofs.Links.{over-same}
 use borrow.Author.Needs.{needs}
@@ -24,15 +25,17 @@ abbrev μ-loop : tie.MeasureT-loop
 loop-holds : tie.Need-loop-holds Inv-loop μ-loop
 loop-holds c = (omega arith, start _ _ _ _)
 
+slice-aggregate-height-over : tie.Need-slice-aggregate-height-over Inv-loop μ-loop
+slice-aggregate-height-over c = sym (full _ _ _ _ (c .before .before .loop .inv .1) (omega arith))
+
 program-at-requires : tie.Need-program-at-requires Inv-loop μ-loop
 program-at-requires c κs = search needs
 
 height-over-requires : tie.Need-height-over-requires Inv-loop μ-loop
-height-over-requires c κs =
+height-over-requires c κs j =
     let at-loop = c .before .before .before in
     let at-start = at-loop .before .before in
-    let b = at-loop .loop .inv .1 in
-    (full _ _ _ _ b (omega arith), λ j. omega (arith, at _ _ _ _ b j, heights-le (programAt (now (at-start .args .t))) (at-loop .loop .i) j))
+    omega (arith, at _ _ _ _ (at-loop .loop .inv .1) j, heights-le (programAt (now (at-start .args .t))) (at-loop .loop .i) j)
 
 mul-h : tie.Need-mul-h Inv-loop μ-loop
 mul-h c = search needs
@@ -52,28 +55,31 @@ loop-again c =
     let at-loop = c .before .before .before .before in
     let at-start = at-loop .before .before in
     let p = programAt (now (at-start .args .t)) in
+    let h = at-loop .loop .h in
     let i = at-loop .loop .i in
     let b = at-loop .loop .inv .1 in
-    let read : c .height-over .result ≡ heightOver (at-loop .loop .h) (links (p i)) = c .height-over .ensures ∙ ap (λ (r : Program). heightOver (at-loop .loop .h) (links r))
-    (c .before .program-at .ensures .0) in
-    (omega arith, more 0 (heightAt p) (λ (x : ℕ). x) 256 b (omega arith) (read ∙ over-same (at-loop .loop .h) (upTo (heightAt p) i) (at 0 (heightAt p) (λ (x : ℕ). x) 256 b) (links (p i))))
+    let read : c .height-over .result ≡ heightOver h (links (p i)) = c .height-over .ensures ∙ ap (λ (r : Program). heightOver h (links r)) (c .before .program-at .ensures .0) in
+    (omega arith, more 0 (heightAt p) (λ (x : ℕ). x) 256 b (omega arith) (read ∙ over-same h (upTo (heightAt p) i) (at 0 (heightAt p) (λ (x : ℕ). x) 256 b) (links (p i))))
 
-sub-result : tie.Need-sub-result Inv-loop μ-loop
-sub-result c = search needs
+sub-wide32 : tie.Need-sub-wide32 Inv-loop μ-loop
+sub-wide32 c = search needs
 
-mul-result : tie.Need-mul-result Inv-loop μ-loop
-mul-result c = search needs
+mul-wide32 : tie.Need-mul-wide32 Inv-loop μ-loop
+mul-wide32 c = search needs
 
-array-read-result : tie.Need-array-read-result Inv-loop μ-loop
-array-read-result c = search needs
+array-read-wide32 : tie.Need-array-read-wide32 Inv-loop μ-loop
+array-read-wide32 c = search needs
+
+wide32-requires : tie.Need-wide32-requires Inv-loop μ-loop
+wide32-requires c κs = search needs
 
 returns : tie.Need-returns Inv-loop μ-loop
 unfolding rise
 returns c =
-    let at-loop = c .before in
-    let e = le-antisymm (at-loop .loop .inv .0) (c .loop-test .left) in
+    let at-loop = c .before .before in
+    let e = le-antisymm (at-loop .loop .inv .0) (c .before .loop-test .left) in
     let b = at-loop .loop .inv .1 in
-    at _ _ _ _ b _ ∙ up-at 0 _ _ _ (omega (arith, e))
+    c .wide32 .ensures .0 ∙ at _ _ _ _ b _ ∙ up-at 0 _ _ _ (omega (arith, e))
 
 pub height-spec : {M : Type 1} → statement M
 height-spec =
@@ -82,6 +88,7 @@ height-spec =
     Inv-loop
     μ-loop
     loop-holds
+    slice-aggregate-height-over
     program-at-requires
     height-over-requires
     mul-h
@@ -89,7 +96,8 @@ height-spec =
     add-i
     loop-less
     loop-again
-    sub-result
-    mul-result
-    array-read-result
+    sub-wide32
+    mul-wide32
+    array-read-wide32
+    wide32-requires
     returns)

@@ -29,11 +29,11 @@ loop-holds c = (omega arith, start true _ (λ (b : Bool). b) 260)
 record-at-requires : tie.Need-record-at-requires Inv-loop μ-loop
 record-at-requires c κs = search needs
 
-slice-aggregate-bound-at : tie.Need-slice-aggregate-bound-at Inv-loop μ-loop
-slice-aggregate-bound-at c = sym (full _ _ _ _ (c .before .before .before .loop .inv .1) (omega arith))
+slice-aggregate-final-bound-by : tie.Need-slice-aggregate-final-bound-by Inv-loop μ-loop
+slice-aggregate-final-bound-by c = sym (full _ _ _ _ (c .before .before .before .loop .inv .1) (omega arith))
 
-bound-at-requires : tie.Need-bound-at-requires Inv-loop μ-loop
-bound-at-requires c κs = search needs
+final-bound-by-requires : tie.Need-final-bound-by-requires Inv-loop μ-loop
+final-bound-by-requires c κs = search needs
 
 array-write-marks : tie.Need-array-write-marks Inv-loop μ-loop
 array-write-marks c = search needs
@@ -47,7 +47,7 @@ loop-less c = search needs
 loop-again : tie.Need-loop-again Inv-loop μ-loop
 loop-again c =
     let b = c .before .before .before .before .loop .inv .1 in
-    (omega arith, more _ _ _ _ b (omega arith) (rw (c .before .before .record-at .ensures .0) at (c .bound-at .ensures) ∙ bound-same _ _ _ _ (at _ _ _ _ b)))
+    (omega arith, more _ _ _ _ b (omega arith) (rw (c .before .before .record-at .ensures .0) at (c .final-bound-by .ensures) ∙ bound-same _ _ _ _ (at _ _ _ _ b)))
 
 returns : tie.Need-returns Inv-loop μ-loop
 unfolding finalBoundsOf
@@ -65,8 +65,8 @@ bounds-spec =
     places-of-requires
     loop-holds
     record-at-requires
-    slice-aggregate-bound-at
-    bound-at-requires
+    slice-aggregate-final-bound-by
+    final-bound-by-requires
     array-write-marks
     add-i
     loop-less

@@ -10,15 +10,15 @@ returns c = rw (lt-ltb _ _ (c .if1 .taken))
 action-at-requires : tie.Need-action-at-requires
 action-at-requires c κs = search needs
 
-holds-in-requires : tie.Need-holds-in-requires
-holds-in-requires c κs = search needs
+flag-in-requires : tie.Need-flag-in-requires
+flag-in-requires c κs = search needs
 
 returns-2 : tie.Need-returns-2
-returns-2 c = rw (le-ltb _ _ (c .before .before .before .if1 .left), lt-ltb _ _ (c .before .before .if2 .taken), ← c .before .action-at .ensures .0) (c .holds-in .ensures)
+returns-2 c = rw (le-ltb _ _ (c .before .before .before .if1 .left), lt-ltb _ _ (c .before .before .if2 .taken), ← c .before .action-at .ensures .0) (c .flag-in .ensures)
 
 returns-3 : tie.Need-returns-3
 returns-3 c = rw (le-ltb _ _ (c .before .if1 .left), le-ltb _ _ (c .if2 .left))
 
 pub possible-in-spec : {M : Type 1} → statement M
 possible-in-spec =
-    tie.close (tie.spec returns action-at-requires holds-in-requires returns-2 returns-3)
+    tie.close (tie.spec returns action-at-requires flag-in-requires returns-2 returns-3)

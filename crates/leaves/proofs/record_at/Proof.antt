@@ -23,7 +23,7 @@ returns-2 c = (rw (le-ltb _ _ (c .before .before .if1 .left), c .before .if2 .ta
 
 returns-3 : tie.Need-returns-3
 unfolding extended
-returns-3 c = (rw (le-ltb _ _ (c .before .if1 .left), c .if2 .left) refl, omega arith)
+returns-3 c = (rw (le-ltb _ _ (c .before .if1 .left), c .if2 .left) refl, record { a = omega arith; b = omega arith })
 
 pub record-at-spec : {M : Type 1} → statement M
 record-at-spec = tie.close (tie.spec program-at-requires returns virtual-at-requires returns-2 returns-3)

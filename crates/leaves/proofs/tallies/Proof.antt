@@ -18,13 +18,13 @@ use Rattle.leaves.proofs.tallies.Statement.{statement}
 use Rattle.leaves.proofs.tallies.Tie as tie
 
 abbrev Inv-loop : tie.InvT-loop
-Inv-loop counts₀ programs n interrupts actions na held running finals m i₀ counts i =
+Inv-loop counts₀ programs n interrupts actions na truths running finals m i₀ counts i =
     (i ≤ m) × (length counts ≡ 260)
-    × ((W : World) (s : State) → Sees W s (extended interrupts (programAt programs) n) (extendedSize interrupts n) held (possibleIn actions na held) running →
+    × ((W : World) (s : State) → Sees W s (extended interrupts (programAt programs) n) (extendedSize interrupts n) truths (possibleIn actions na truths) running →
     Refilled (leafAt W s (extended interrupts (programAt programs) n)) cappedCount counts₀ counts i)
 
 abbrev μ-loop : tie.MeasureT-loop
-μ-loop counts₀ programs n interrupts actions na held running finals m i₀ counts i = m - i
+μ-loop counts₀ programs n interrupts actions na truths running finals m i₀ counts i = m - i
 
 places-of-requires : tie.Need-places-of-requires Inv-loop μ-loop
 places-of-requires c κs = search needs
@@ -37,7 +37,7 @@ abbrev start-from-loop : tie.At-loop Inv-loop μ-loop → tie.Start Inv-loop μ-
 start-from-loop c = start-from-places-of (c .before)
 
 loop-holds : tie.Need-loop-holds Inv-loop μ-loop
-loop-holds c = (omega arith, start-from-places-of c .pre .0 .4, λ W s S. refill-start _ cappedCount _)
+loop-holds c = (omega arith, start-from-places-of c .pre .0 .2, λ W s S. refill-start _ cappedCount _)
 
 record-at-requires : tie.Need-record-at-requires Inv-loop μ-loop
 record-at-requires c κs = search needs
@@ -73,7 +73,7 @@ loop-again c =
     )
 
 same-length : tie.Need-same-length Inv-loop μ-loop
-same-length c = c .before .loop .inv .1 ∙ sym (start-from-loop (c .before) .pre .0 .4)
+same-length c = c .before .loop .inv .1 ∙ sym (start-from-loop (c .before) .pre .0 .2)
 
 returns : tie.Need-returns Inv-loop μ-loop
 returns c =

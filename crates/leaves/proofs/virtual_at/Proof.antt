@@ -27,19 +27,19 @@ add-t6 : tie.Need-add-t6
 add-t6 c = search needs
 
 returns : tie.Need-returns
-returns c = (rw (c .match .keys1) refl, omega arith)
+returns c = (rw (c .match .keys1) refl, record { a = omega arith; b = omega arith })
 
 returns-2 : tie.Need-returns-2
-returns-2 c = (rw (c .match .keys2) refl, omega arith)
+returns-2 c = (rw (c .match .keys2) refl, record { a = omega arith; b = omega arith })
 
 returns-3 : tie.Need-returns-3
-returns-3 c = (rw (c .match .keys3) refl, omega arith)
+returns-3 c = (rw (c .match .keys3) refl, record { a = omega arith; b = omega arith })
 
 returns-4 : tie.Need-returns-4
-returns-4 c = (rw (c .match .keys4) refl, omega arith)
+returns-4 c = (rw (c .match .keys4) refl, record { a = omega arith; b = omega arith })
 
 returns-5 : tie.Need-returns-5
-returns-5 c = let r = c .match .rest in (beyond _ _ (r .0 .0 .0 .1) (r .0 .0 .1) (r .0 .1) (r .1), omega arith)
+returns-5 c = let r = c .match .rest in (beyond _ _ (r .0 .0 .0 .1) (r .0 .0 .1) (r .0 .1) (r .1), record { a = omega arith; b = omega arith })
 
 pub virtual-at-spec : {M : Type 1} → statement M
 virtual-at-spec = tie.close (tie.spec sub-t4 add-t5 add-t6 returns returns-2 returns-3 returns-4 returns-5)

@@ -3,7 +3,7 @@ use borrow.Author.Needs.{needs}
 use Prim.Native.Nat.{_-_}
 use mathlib.Core.Path.{ap, _∙_}
 use Rattle.records.proofs.Scan.{Scan, start, more, found, done}
-use Rattle.rules.specs.Rules.{programOk}
+use Rattle.kinds.specs.Programs.{programOk}
 use Rattle.rules.specs.Tables.{programsOk}
 use Rattle.rules.proofs.programs.Statement.{statement}
 use Rattle.rules.proofs.programs.Tie as tie

@@ -130,7 +130,7 @@ part-programs-end : tie.Need-part-programs-end
 part-programs-end c = omega (arith, start-from-else4 c .pre .inside)
 
 programs-requires : tie.Need-programs-requires
-programs-requires c κs = programs-long _ _ (start-from-else4 (c .before) .pre) .0
+programs-requires c κs = programs-long _ _ (start-from-else4 (c .before) .pre) .long
 
 refusal-of-requires-5 : tie.Need-refusal-of-requires-5
 refusal-of-requires-5 c κs = search needs

@@ -6,7 +6,7 @@ use native.Mathlib.Omega.{arith}
 use denote.Ref.{now}
 use Rattle.records.specs.Records.{programAt}
 use Rattle.height.specs.Work.{levels, frameWords}
-use Rattle.height.proofs.Levels.{at-most-two}
+use Rattle.records.proofs.Truth.{part-few}
 use Rattle.sheet.specs.Layout.{programsIn}
 use Rattle.sheet.specs.Inspection.{inspectedIn}
 use Rattle.sheet.specs.declared.Inspected.the-variants as inspected
@@ -19,7 +19,7 @@ use native.Mathlib.Omega.{arith}
 use denote.Ref.{now}
 use Rattle.records.specs.Records.{programAt}
 use Rattle.height.specs.Work.{levels, frameWords}
-use Rattle.height.proofs.Levels.{at-most-two}
+use Rattle.records.proofs.Truth.{part-few}
 use Rattle.sheet.specs.Layout.{programsIn}
 use Rattle.sheet.specs.Inspection.{inspectedIn}
 use Rattle.sheet.specs.declared.Inspected.the-variants as inspected
@@ -61,7 +61,7 @@ levels-from-requires : tie.Need-levels-from-requires
 levels-from-requires c κs = search needs
 
 frame-words-requires : tie.Need-frame-words-requires
-frame-words-requires c κs = omega (arith, at-most-two (c .before .has-interrupts .result), c .levels-from .ensures, c .before .before .if1 .left)
+frame-words-requires c κs = omega (arith, part-few (c .before .has-interrupts .result) 2, c .levels-from .ensures, c .before .before .if1 .left)
 
 work-words-requires : tie.Need-work-words-requires
 work-words-requires c κs = search needs

@@ -11,10 +11,10 @@ use Rattle.state.proofs.changed.Statement.{statement}
 use Rattle.state.proofs.changed.Tie as tie
 
 abbrev Inv-loop : tie.InvT-loop
-Inv-loop effects first count n held values new₀ x₀ new x = (x ≤ n) × (length values ≡ 32) × Laid 0 (λ (y : ℕ). givenBy effects held y (getD values y 0) first count) values new x
+Inv-loop effects first count n truths values new₀ x₀ new x = (x ≤ n) × (length values ≡ 32) × Laid 0 (λ (y : ℕ). givenBy effects truths y (getD values y 0) first count) values new x
 
 abbrev μ-loop : tie.MeasureT-loop
-μ-loop effects first count n held values new₀ x₀ new x = n - x
+μ-loop effects first count n truths values new₀ x₀ new x = n - x
 
 loop-holds : tie.Need-loop-holds Inv-loop μ-loop
 loop-holds c = (omega arith, search needs, laid-none _ _ _)

@@ -3,11 +3,11 @@ use borrow.Author.Needs.{needs}
 use Rattle.state.proofs.changes.Statement.{statement}
 use Rattle.state.proofs.changes.Tie as tie
 
-holds-in-requires : tie.Need-holds-in-requires
-holds-in-requires c κs = search needs
+flag-in-requires : tie.Need-flag-in-requires
+flag-in-requires c κs = search needs
 
 returns : tie.Need-returns
-returns c = rw (c .holds-in .ensures)
+returns c = rw (c .flag-in .ensures)
 
 pub changes-spec : {M : Type 1} → statement M
-changes-spec = tie.close (tie.spec holds-in-requires returns)
+changes-spec = tie.close (tie.spec flag-in-requires returns)

@@ -9,10 +9,10 @@ use Rattle.state.proofs.new_value.Statement.{statement}
 use Rattle.state.proofs.new_value.Tie as tie
 
 abbrev Inv-effects : tie.InvT-effects
-Inv-effects effects first count held x old end value₀ i₀ value i = Passed effects held x old first count value i × (end ≡ first + count)
+Inv-effects effects first count truths x old end value₀ i₀ value i = Passed effects truths x old first count value i × (end ≡ first + count)
 
 abbrev μ-effects : tie.MeasureT-effects
-μ-effects effects first count held x old end value₀ i₀ value i = end - i
+μ-effects effects first count truths x old end value₀ i₀ value i = end - i
 
 add-end : tie.Need-add-end Inv-effects μ-effects
 add-end c = search needs

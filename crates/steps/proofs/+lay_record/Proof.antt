@@ -1,19 +1,23 @@
 -- Down by counts, and on the way back up a construct around what was laid out; the record number falls (Laying.antt). Assumes nothing.
 use borrow.Author.Needs.{needs}
+use mathlib.Core.Path.{sym, _∙_}
 use native.Mathlib.Omega.{arith}
-use Rattle.steps.proofs.Laying.{own-lays, a-falls, a-can, a-room, a-lays, b-falls, b-can, b-room, b-lays, many-few}
+use denote.Ref.{now}
+use Rattle.steps.specs.Laid.{sourcesOf}
+use Rattle.steps.proofs.Laying.{IsRecord, OfParts, is-record, of-parts, own-lays, a-falls, a-can, a-room, a-lays, b-falls, b-can, b-room, b-lays, many-few}
 use Prim.Native.Nat.{ℕ, _<_}
 use borrow.Fn.Kinds.{In, Out}
 use borrow.Fn.PlainCycle.{Measures, is, falls, and}
 use Rattle.steps.proofs.lay_record.Reads as lay-record
 use Rattle.steps.proofs.lay_record.Kinds as lay-record-kinds
 use Rattle.steps.proofs.+lay_record.Lts-lay_record as lay-record-lts
-use Rattle.leaves.proofs.first_count.Reads as first-count-reads
+use Rattle.kinds.proofs.programs.first_by.Reads as first-by-reads
+use Rattle.kinds.proofs.programs.has_own.Reads as has-own-reads
+use Rattle.kinds.proofs.programs.tag_a.Reads as tag-a-reads
+use Rattle.kinds.proofs.programs.tag_b.Reads as tag-b-reads
 use Rattle.leaves.proofs.record_at.Reads as record-at-reads
 use Rattle.steps.proofs.entry_of.Reads as entry-of-reads
 use Rattle.steps.proofs.past_words.Reads as past-words-reads
-use Rattle.steps.proofs.tag_a.Reads as tag-a-reads
-use Rattle.steps.proofs.tag_b.Reads as tag-b-reads
 use Rattle.steps.proofs.wrap_a.Reads as wrap-a-reads
 use Rattle.steps.proofs.wrap_b.Reads as wrap-b-reads
 use Rattle.words.proofs.put_node.Reads as put-node-reads
@@ -35,12 +39,14 @@ abbrev claims : ℕ → lay-record-lts.Claims
 claims t = (
   record-at-reads.Asked,
   record-at-reads.Learnt,
+  has-own-reads.Asked,
+  has-own-reads.Learnt,
   put-node-reads.Asked,
   put-node-reads.Learnt,
   entry-of-reads.Asked,
   entry-of-reads.Learnt,
-  first-count-reads.Asked,
-  first-count-reads.Learnt,
+  first-by-reads.Asked,
+  first-by-reads.Learnt,
   tag-a-reads.Asked,
   tag-a-reads.Learnt,
   past-words-reads.Asked,
@@ -57,6 +63,9 @@ claims t = (
 
 lay-record-record-at-requires : (t : ℕ) → lay-record-lts.Need-record-at-requires (claims t) (lay-record-at t) lay-record.Post
 lay-record-record-at-requires t c κs = (c .before .before .before .before .pre .1 .0)
+
+lay-record-has-own-requires : (t : ℕ) → lay-record-lts.Need-has-own-requires (claims t) (lay-record-at t) lay-record.Post
+lay-record-has-own-requires t c κs = search needs
 
 -- Places: what stands before a need, by name. Written by `named`: run it again when the code changes.
 module _ {k : lay-record-lts.Claims} {p : In 4 lay-record-kinds.ps} {q : Out 4 lay-record-kinds.ps lay-record-kinds.r} where
@@ -85,22 +94,29 @@ lay-record-put-node-requires : (t : ℕ) → lay-record-lts.Need-put-node-requir
 lay-record-put-node-requires t c κs = omega (arith, (start-from-then1 (c .before) .pre .1 .1) .room .inside)
 
 lay-record-entry-of-requires : (t : ℕ) → lay-record-lts.Need-entry-of-requires (claims t) (lay-record-at t) lay-record.Post
-lay-record-entry-of-requires t c κs = (record-at-from-put-node (c .before .before) .record-at .ensures .1 .0)
+lay-record-entry-of-requires t c κs = (record-at-from-put-node (c .before .before) .record-at .ensures .1)
 
 lay-record-same-length : (t : ℕ) → lay-record-lts.Need-same-length (claims t) (lay-record-at t) lay-record.Post
 lay-record-same-length t c = search needs
+
+record-known : (t : ℕ) → (c : lay-record-lts.After-record-at (claims t) (lay-record-at t) lay-record.Post) →
+    let at-start = start-from-record-at c in
+    IsRecord (sourcesOf (now (at-start .args .programs)) (at-start .args .v) (now (at-start .args .truths)) (now (at-start .args .counts))) (at-start .args .i) (c .record-at .result)
+record-known t c = is-record (start-from-record-at c .pre .1 .1) (c .record-at .ensures .0)
 
 lay-record-returns : (t : ℕ) → lay-record-lts.Need-returns (claims t) (lay-record-at t) lay-record.Post
 lay-record-returns t c W s C =
     let at-put-node = c .before .before .before in
     let at-if1 = at-put-node .before .before in
-    let at-record-at = at-if1 .before .before in
+    let at-has-own = at-if1 .before in
+    let at-record-at = at-has-own .before in
     let at-start = start-from-record-at at-record-at in
     let can = at-start .pre .1 .1 in
-    own-lays C _ (can .inside) (can .low) _ (at-record-at .record-at .ensures .0) (can .least) (at-if1 .if1 .taken) (can .room) (at-put-node .put-node .ensures) (c .entry-of .ensures)
+    let I = record-known t at-record-at in
+    own-lays C I (can .least) (sym (at-has-own .has-own .ensures) ∙ at-if1 .if1 .taken) (can .room) (at-put-node .put-node .ensures) (c .entry-of .ensures)
 
-lay-record-first-count-requires : (t : ℕ) → lay-record-lts.Need-first-count-requires (claims t) (lay-record-at t) lay-record.Post
-lay-record-first-count-requires t c κs = search needs
+lay-record-first-by-requires : (t : ℕ) → lay-record-lts.Need-first-by-requires (claims t) (lay-record-at t) lay-record.Post
+lay-record-first-by-requires t c κs = search needs
 
 lay-record-tag-a-requires : (t : ℕ) → lay-record-lts.Need-tag-a-requires (claims t) (lay-record-at t) lay-record.Post
 lay-record-tag-a-requires t c κs = search needs
@@ -113,41 +129,36 @@ lay-record-add-at t c =
     let can = start-from-past-words c .pre .1 .1 in
     omega (arith, can .room .inside, can .room .small, c .past-words .ensures .1)
 
+parts-known : (t : ℕ) → (c : lay-record-lts.After-first-by (claims t) (lay-record-at t) lay-record.Post) →
+    let at-record-at = c .before .before .before in
+    let at-start = start-from-record-at at-record-at in
+    OfParts (sourcesOf (now (at-start .args .programs)) (at-start .args .v) (now (at-start .args .truths)) (now (at-start .args .counts))) (at-record-at .record-at .result) (c .first-by .result)
+parts-known t c = of-parts (record-known t (c .before .before .before)) (c .before .before .has-own .ensures) (c .before .if1 .left) (c .first-by .ensures .0)
+
 lay-record-lay-record-requires : (t : ℕ) → lay-record-lts.Need-lay-record-requires (claims t) (lay-record-at t) lay-record.Post
 lay-record-lay-record-requires t c κs =
     let at-if2 = c .before .before .before in
-    let at-first-count = at-if2 .before in
-    let at-if1 = at-first-count .before in
-    let at-record-at = at-if1 .before .before in
+    let at-first-by = at-if2 .before in
+    let at-record-at = at-first-by .before .before .before in
     let at-start = start-from-record-at at-record-at in
-    let can = at-start .pre .1 .1 in (
-      omega (
-        arith,
-        a-falls (can .counted) _ (can .inside) (can .low) _ (at-record-at .record-at .ensures .0) (at-if1 .if1 .left) _ (at-first-count .first-count .ensures .0) _ (at-if2 .if2 .taken),
-        at-start .pre .0,
-      ),
-      (
-        at-start .pre .1 .0,
-        a-can (can .counted) _ (can .inside) (can .low) _ (at-record-at .record-at .ensures .0) (at-if1 .if1 .left) _ (at-first-count .first-count .ensures .0)
-            _ (at-if2 .if2 .taken) (can .room) (c .before .past-words .ensures .1),
-      ),
-    )
+    let I = record-known t at-record-at in
+    let P = parts-known t at-first-by in
+    let can = at-start .pre .1 .1 in
+    let below = at-if2 .if2 .taken in
+    (omega (arith, a-falls (can .counted) I P below, at-start .pre .0), (at-start .pre .1 .0, a-can (can .counted) I P below (can .room) (c .before .past-words .ensures .1)))
 
 lay-record-wrap-a-requires : (t : ℕ) → lay-record-lts.Need-wrap-a-requires (claims t) (lay-record-at t) lay-record.Post
 lay-record-wrap-a-requires t c κs =
     let at-lay-record = c .before .before .before in
     let at-if2 = at-lay-record .before .before .before .before in
-    let at-first-count = at-if2 .before in
-    let at-if1 = at-first-count .before in
-    let at-record-at = at-if1 .before .before in
+    let at-first-by = at-if2 .before in
+    let at-record-at = at-first-by .before .before .before in
     let at-start = start-from-record-at at-record-at in
+    let I = record-known t at-record-at in
+    let P = parts-known t at-first-by in
     let can = at-start .pre .1 .1 in (
-      a-room (can .counted) _ (can .inside) (can .low) _ (at-record-at .record-at .ensures .0) (at-if1 .if1 .left) _ (at-first-count .first-count .ensures .0) _ (at-if2 .if2 .taken) (can .room)
-          (at-lay-record .lay-record .ensures _ _ (can .counted)),
-      (
-        many-few (at-start .args .v .interrupts) (at-start .args .v .n) _ (at-start .pre .1 .0 .2) (can .inside),
-        at-record-at .record-at .ensures .1 .1,
-      ),
+      a-room (can .counted) I P (at-if2 .if2 .taken) (can .room) (at-lay-record .lay-record .ensures _ _ (can .counted)),
+      (many-few (at-start .args .v .interrupts) (at-start .args .v .n) _ (at-start .pre .1 .0 .few) (can .inside), at-record-at .record-at .ensures .1),
     )
 
 lay-record-same-length-2 : (t : ℕ) → lay-record-lts.Need-same-length-2 (claims t) (lay-record-at t) lay-record.Post
@@ -159,13 +170,11 @@ lay-record-returns-2 t c W s C =
     let at-past-words = at-lay-record .before .before in
     let at-tag-a = at-past-words .before in
     let at-if2 = at-tag-a .before in
-    let at-first-count = at-if2 .before in
-    let at-if1 = at-first-count .before in
-    let at-record-at = at-if1 .before .before in
-    let at-start = start-from-record-at at-record-at in
-    let can = at-start .pre .1 .1 in
-    a-lays C _ (can .inside) (can .low) _ (at-record-at .record-at .ensures .0) (at-if1 .if1 .left) _ (at-first-count .first-count .ensures .0) _ (at-if2 .if2 .taken) (at-tag-a .tag-a .ensures)
-    (at-past-words .past-words .ensures .0) (at-lay-record .lay-record .ensures W s C) (c .before .before .wrap-a .ensures)
+    let at-first-by = at-if2 .before in
+    let at-record-at = at-first-by .before .before .before in
+    let I = record-known t at-record-at in
+    let P = parts-known t at-first-by in
+    a-lays C I P (at-if2 .if2 .taken) (at-tag-a .tag-a .ensures) (at-past-words .past-words .ensures .0) (at-lay-record .lay-record .ensures W s C) (c .before .before .wrap-a .ensures)
 
 lay-record-tag-b-requires : (t : ℕ) → lay-record-lts.Need-tag-b-requires (claims t) (lay-record-at t) lay-record.Post
 lay-record-tag-b-requires t c κs = search needs
@@ -181,21 +190,17 @@ lay-record-add-at-2 t c =
 lay-record-lay-record-requires-2 : (t : ℕ) → lay-record-lts.Need-lay-record-requires-2 (claims t) (lay-record-at t) lay-record.Post
 lay-record-lay-record-requires-2 t c κs =
     let at-if2 = c .before .before .before in
-    let at-first-count = at-if2 .before in
-    let at-if1 = at-first-count .before in
-    let at-record-at = at-if1 .before .before in
+    let at-first-by = at-if2 .before in
+    let at-record-at = at-first-by .before .before .before in
     let at-start = start-from-record-at at-record-at in
-    let can = at-start .pre .1 .1 in (
-      omega (
-        arith,
-        b-falls (can .counted) _ (can .inside) (can .low) _ (at-record-at .record-at .ensures .0) (at-if1 .if1 .left) _ (at-first-count .first-count .ensures .0) _ (can .least)
-            (at-if2 .if2 .left),
-        at-start .pre .0,
-      ),
+    let I = record-known t at-record-at in
+    let P = parts-known t at-first-by in
+    let can = at-start .pre .1 .1 in
+    let above = at-if2 .if2 .left in (
+      omega (arith, b-falls (can .counted) I P (can .least) above, at-start .pre .0),
       (
         at-start .pre .1 .0,
-        b-can (can .counted) _ (can .inside) (can .low) _ (at-record-at .record-at .ensures .0) (at-if1 .if1 .left) _
-            (at-first-count .first-count .ensures .0) _ (can .least) (at-if2 .if2 .left) (can .room) (c .before .past-words2 .ensures .1),
+        b-can (can .counted) I P (can .least) above (can .room) (c .before .past-words2 .ensures .1),
       ),
     )
 
@@ -203,15 +208,13 @@ lay-record-wrap-b-requires : (t : ℕ) → lay-record-lts.Need-wrap-b-requires (
 lay-record-wrap-b-requires t c κs =
     let at-lay-record2 = c .before .before .before in
     let at-if2 = at-lay-record2 .before .before .before .before in
-    let at-first-count = at-if2 .before in
-    let at-if1 = at-first-count .before in
-    let at-record-at = at-if1 .before .before in
+    let at-first-by = at-if2 .before in
+    let at-record-at = at-first-by .before .before .before in
     let at-start = start-from-record-at at-record-at in
-    let can = at-start .pre .1 .1 in (
-      b-room (can .counted) _ (can .inside) (can .low) _ (at-record-at .record-at .ensures .0) (at-if1 .if1 .left) _ (at-first-count .first-count .ensures .0) _ (can .least) (at-if2 .if2 .left)
-          (can .room) (at-lay-record2 .lay-record2 .ensures _ _ (can .counted)),
-      at-record-at .record-at .ensures .1 .0,
-    )
+    let I = record-known t at-record-at in
+    let P = parts-known t at-first-by in
+    let can = at-start .pre .1 .1 in
+    (b-room (can .counted) I P (can .least) (at-if2 .if2 .left) (can .room) (at-lay-record2 .lay-record2 .ensures _ _ (can .counted)), at-record-at .record-at .ensures .1)
 
 lay-record-same-length-3 : (t : ℕ) → lay-record-lts.Need-same-length-3 (claims t) (lay-record-at t) lay-record.Post
 lay-record-same-length-3 t c = search needs
@@ -222,24 +225,25 @@ lay-record-returns-3 t c W s C =
     let at-past-words2 = at-lay-record2 .before .before in
     let at-tag-b = at-past-words2 .before in
     let at-if2 = at-tag-b .before in
-    let at-first-count = at-if2 .before in
-    let at-if1 = at-first-count .before in
-    let at-record-at = at-if1 .before .before in
+    let at-first-by = at-if2 .before in
+    let at-record-at = at-first-by .before .before .before in
     let at-start = start-from-record-at at-record-at in
-    let can = at-start .pre .1 .1 in
-    b-lays C _ (can .inside) (can .low) _ (at-record-at .record-at .ensures .0) (at-if1 .if1 .left) _ (at-first-count .first-count .ensures .0) _ (can .least) (at-if2 .if2 .left)
-    (at-tag-b .tag-b .ensures) (at-past-words2 .past-words2 .ensures .0) (at-lay-record2 .lay-record2 .ensures W s C) (c .before .before .wrap-b .ensures)
+    let I = record-known t at-record-at in
+    let P = parts-known t at-first-by in
+    b-lays C I P (at-start .pre .1 .1 .least) (at-if2 .if2 .left) (at-tag-b .tag-b .ensures) (at-past-words2 .past-words2 .ensures .0) (at-lay-record2 .lay-record2 .ensures W s C)
+    (c .before .before .wrap-b .ensures)
 
 pub +lay-record-spec : {M : Type 1} → statement M
 +lay-record-spec = close μ-lay-record λ t. lay-record-lts.spec (claims t)
     (lay-record-at t)
     lay-record.Post
     (lay-record-record-at-requires t)
+    (lay-record-has-own-requires t)
     (lay-record-put-node-requires t)
     (lay-record-entry-of-requires t)
     (lay-record-same-length t)
     (lay-record-returns t)
-    (lay-record-first-count-requires t)
+    (lay-record-first-by-requires t)
     (lay-record-tag-a-requires t)
     (lay-record-past-words-requires t)
     (lay-record-add-at t)

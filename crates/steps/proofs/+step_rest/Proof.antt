@@ -144,7 +144,7 @@ step-rest-size-at-requires t c κs =
 parts-known : (t : ℕ) → (c : step-rest-lts.After-size-at (claims t) (step-rest-at t) step-rest.Post) →
     let at-tag-at = c .before .before .before .before in
     let at-start = start-from-tag-at at-tag-at in
-    Split (sourcesOf (now (at-start .args .programs)) (at-start .args .v .n) (at-start .args .v .interrupts) (now (at-start .args .held)) (at-start .args .v .running) (now (at-start .args .counts)))
+    Split (sourcesOf (now (at-start .args .programs)) (at-start .args .v) (now (at-start .args .truths)) (now (at-start .args .counts)))
     (now (at-start .args .finals)) (now (at-start .args .work)) (at-start .args .from) (at-start .args .to) (at-tag-at .tag-at .result) (c .size-at .result) (at-start .pre .1 .1 .rest)
 parts-known t c =
     let at-if1 = c .before .before .before in

@@ -1,7 +1,7 @@
 -- Left of its sibling in a construct of the record's tag, or as it stands where that is 0. Assumes nothing.
 use native.Mathlib.Omega.{arith}
-use Rattle.remaining.specs.Kinds.{loops}
-use Rattle.steps.proofs.Columns.{construct-a}
+use Rattle.kinds.specs.Programs.{loops}
+use Rattle.kinds.proofs.Constructs.{construct-a}
 use Rattle.steps.proofs.Wrapping.{alone-a, closed-a, choice-few}
 use borrow.Author.Needs.{needs}
 use Rattle.steps.proofs.wrap_a.Statement.{statement}
@@ -26,7 +26,7 @@ close-leaf-requires c κs =
         omega (
           arith,
           c .sibling .ensures,
-          choice-few (loops (at-start .args .r .kind)) _ _ 65536 (at-start .pre .1 .0) (at-start .pre .1 .1),
+          choice-few (loops (at-start .args .r .kind)) _ _ 65536 (at-start .pre .1 .0) (at-start .pre .1 .1 .b),
         ),
       ),
     )

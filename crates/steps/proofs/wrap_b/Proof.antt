@@ -1,6 +1,6 @@
 -- Right of part a in a construct of the record's tag, or as it stands where that is 0. Assumes nothing.
 use native.Mathlib.Omega.{arith}
-use Rattle.steps.proofs.Columns.{construct-b}
+use Rattle.kinds.proofs.Constructs.{construct-b}
 use Rattle.steps.proofs.Wrapping.{alone-b, opened-b}
 use borrow.Author.Needs.{needs}
 use Rattle.steps.proofs.wrap_b.Statement.{statement}

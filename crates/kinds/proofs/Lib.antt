@@ -1,0 +1,9 @@
+pub mod ProgramKinds
+pub mod ProgramFields
+pub mod Reading
+pub mod Constructs
+pub mod Counting
+pub mod Bounding
+pub mod FormulaKinds
+pub mod FormulaFields
+pub mod Truth

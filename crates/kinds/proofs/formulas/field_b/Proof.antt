@@ -1,0 +1,28 @@
+-- In each arm the kind is known, so the column has one entry there; the kinds that no arm names have the default. Assumes nothing.
+use mathlib.Core.Path.{_≡_, refl}
+use Rattle.kinds.specs.declared.formulas.Field.the-variants.{Unused}
+use Prim.Native.Nat.{ℕ}
+use Rattle.kinds.specs.Formulas.{fieldB}
+use Rattle.kinds.proofs.FormulaKinds.{by-kind}
+use Rattle.kinds.proofs.formulas.field_b.Statement.{statement}
+use Rattle.kinds.proofs.formulas.field_b.Tie as tie
+
+returns : tie.Need-returns
+unfolding fieldB
+returns c = rw (c .match .keys1)
+
+returns-2 : tie.Need-returns-2
+unfolding fieldB
+returns-2 c = rw (c .match .keys2)
+
+returns-3 : tie.Need-returns-3
+unfolding fieldB
+returns-3 c =
+    let kind = c .before .args .kind in
+    let r = c .match .rest in
+    by-kind (λ (k : ℕ). kind ≡ k → Unused ≡ fieldB k)
+    (λ e. refl) (λ e. refl) (λ e. refl) (λ e. refl) (λ e. refl) (λ e. refl) (λ e. absurd (r .0 .1 e)) (λ e. absurd (r .1 e)) (λ k e. refl)
+    kind refl
+
+pub field-b-spec : {M : Type 1} → statement M
+field-b-spec = tie.close (tie.spec returns returns-2 returns-3)

@@ -1,0 +1,88 @@
+// What each kind of formula is (specs/Formulas.antt) and says (specs/Truth.antt): a function for each column that is asked for.
+ghost use mathlib.Core.Path.{_≡_};
+ghost use Rattle.kinds.specs.Truth.{truthOf};
+ghost use Rattle.kinds.specs.Formulas.{fieldX, fieldA, fieldB, fieldOk, formulaOk};
+use records::Formula;
+
+// What a field of a formula is: a fluent, one of its values, a number up to its size, a lower formula.
+pub enum Field {
+    Unused,
+    Fluent,
+    Value,
+    Limit,
+    Lower,
+}
+
+fn field_x(kind: usize) -> Field
+    ensures { λ r. ⌜ r ≡ fieldX kind ⌝ }
+{
+    match kind {
+        2 => Field::Fluent,
+        3 => Field::Fluent,
+        4 => Field::Fluent,
+        _ => Field::Unused,
+    }
+}
+
+fn field_a(kind: usize) -> Field
+    ensures { λ r. ⌜ r ≡ fieldA kind ⌝ }
+{
+    match kind {
+        2 => Field::Value,
+        3 => Field::Limit,
+        4 => Field::Fluent,
+        5 => Field::Lower,
+        6 => Field::Lower,
+        7 => Field::Lower,
+        _ => Field::Unused,
+    }
+}
+
+fn field_b(kind: usize) -> Field
+    ensures { λ r. ⌜ r ≡ fieldB kind ⌝ }
+{
+    match kind {
+        6 => Field::Lower,
+        7 => Field::Lower,
+        _ => Field::Unused,
+    }
+}
+
+fn field_ok(nf: usize, size: usize, i: usize, field: Field, x: usize) -> bool
+    ensures { λ r. ⌜ r ≡ fieldOk nf size i field x ⌝ }
+{
+    match field {
+        Field::Unused => x == 0,
+        Field::Fluent => x < nf,
+        Field::Value => x < size,
+        Field::Limit => x <= size,
+        Field::Lower => x < i,
+    }
+}
+
+// Whether formula i keeps its rule, where there are nf fluents and size is the domain size of fluent x.
+pub fn formula_ok(nf: usize, size: usize, i: usize, r: Formula) -> bool
+    ensures { λ ok. ⌜ ok ≡ formulaOk nf size i r ⌝ }
+{
+    (r.kind <= 7)
+        & field_ok(nf, size, i, field_x(r.kind), r.x)
+        & field_ok(nf, size, i, field_a(r.kind), r.a)
+        & field_ok(nf, size, i, field_b(r.kind), r.b)
+}
+
+// What a formula says of values, where `lower` has what the lower ones say.
+pub fn truth_of(r: Formula, values: &[u8], lower: &[bool]) -> bool
+    ensures { λ t. ⌜ t ≡ truthOf r (now (values .entry)) (now (lower .entry)) ⌝ }
+{
+    let kind = r.kind;
+    match kind {
+        0 => true,
+        2 => records::byte_in(values, r.x) == r.a,
+        3 => records::byte_in(values, r.x) < r.a,
+        4 => records::byte_in(values, r.x) == records::byte_in(values, r.a),
+        5 => !records::flag_in(lower, r.a, false),
+        6 => records::flag_in(lower, r.a, false) & records::flag_in(lower, r.b, false),
+        7 => records::flag_in(lower, r.a, false) | records::flag_in(lower, r.b, false),
+        _ => false,
+    }
+}
