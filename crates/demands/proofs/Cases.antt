@@ -14,7 +14,7 @@ use Rattle.height.specs.Work.{levels}
 use Rattle.sheet.specs.Trailer.{trailerIn, limitsOk, distanceOk}
 use Rattle.sheet.specs.Layout.{layoutIn, layoutOf}
 use Rattle.sheet.specs.Check.{refusedAt, tablesChecked, heightChecked, trailerChecked, checkOf}
-use Rattle.golog.specs.World.{holds, possible, given, each, changed, perform}
+use Rattle.golog.specs.World.{holds, possibleBy, given, each, changed, performBy}
 use Rattle.golog.specs.Prog.{construct, programOf}
 use Rattle.golog.specs.Transitions.{final, transitions}
 use Rattle.demands.specs.Planning.{verdictOf, acceptsOf, planOf, replayOf}
@@ -27,7 +27,7 @@ unfolding
     fieldX formulaA formulaB formulaOk fieldA fieldB fieldC programOk links
     fluentOk effectOk actionOk heightOver heightAt rise interrupts levels
     trailerIn limitsOk distanceOk layoutIn layoutOf refusedAt tablesChecked heightChecked trailerChecked checkOf
-    truthOf holds possible given each changed perform construct programOf final transitions
+    truthOf holds possibleBy given each changed performBy construct programOf final transitions
     verdictOf acceptsOf planOf replayOf
 computing = tt
 

@@ -21,9 +21,10 @@ use Rattle.remaining.specs.Extended.{empty, virtual}
 use Rattle.remaining.proofs.Started.{table-below, table-above}
 use Rattle.demands.specs.Decoded.{recordsOf, interruptsIn}
 use Rattle.demands.specs.Compact.{extendedRecords}
-use Rattle.state.specs.Performed.{Performable, ConditionsBelow}
+use Rattle.state.specs.Ranges.{InActions, Performable, ConditionsBelow}
+use Rattle.leaves.specs.Tallies.{ReadsActions}
 use Rattle.engine.specs.Going.{IsAction}
-use Rattle.sheet.proofs.Parts.{part-length, in-order}
+use Rattle.sheet.proofs.Parts.{part-length, in-order, actions-long}
 
 module _ (s : List ℕ) (accepted : Accepts s) where
   act-known : (i : ℕ) → i < layoutOf s .p → T (acts (recordsOf s i .kind)) → IsAction s (recordsOf s i .a)
@@ -55,16 +56,21 @@ module _ (s : List ℕ) (accepted : Accepts s) where
           let e : i ≡ n + (i - n) = omega arith in
           same (ap (extendedRecords s) e ∙ table-above (interruptsIn s) (recordsOf s) n (i - n)) (virtual-known (interruptsIn s) n (i - n))
 
+  in-actions : (a : ℕ) → IsAction s a → InActions (actionsIn s (layoutOf s)) a
+  in-actions a known h = let k = known .1 h in omega (arith, actions-long s (layoutOf s) (laid s accepted))
+
+  pub acts-read : ReadsActions (actionsIn s (layoutOf s)) (extendedRecords s)
+  acts-read i t = in-actions _ (acts-known i t)
+
   -- it can be performed by the tables, and its effects' conditions are among the formulas
   pub performable : (a : ℕ) → IsAction s a → Performable (effectsIn s (layoutOf s)) (actionsIn s (layoutOf s)) (layoutOf s .f) a
   performable a known =
       let f = laid s accepted in
       let o = in-order f in
       let l = layoutOf s in
-      let actions = part-length s (l .actions) (l .programs) (o .actions) (omega (arith, o .programs, o .end)) in
       let effects = part-length s (l .effects) (l .actions) (o .effects) (omega (arith, o .actions, o .programs, o .end)) in
       record {
-        known = λ h. let k = known .1 h in omega (arith, actions, f .at-programs);
+        known = in-actions a known;
         range = λ h. let r = action-of s accepted a (known .1 h) .1 in omega (arith, effects, f .at-actions);
         names = λ h i l m. let r = action-of s accepted a (known .1 h) .1 in effect-of s accepted i (omega arith) .1;
       }

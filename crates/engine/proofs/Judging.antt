@@ -20,9 +20,9 @@ use Rattle.remaining.specs.Rest.{AllLower}
 use Rattle.demands.specs.Decoded.{worldOf, interruptsIn}
 use Rattle.demands.specs.Compact.{extendedRecords}
 use Rattle.demands.proofs.Compact.{all-lower}
-use Rattle.state.specs.Truths.{truthsOf, AreTruths}
+use Rattle.state.specs.Truths.{truthsOf, possibleIn, AreTruths}
 use Rattle.state.proofs.Truths.{are-truths}
-use Rattle.leaves.specs.Tallies.{extendedSize, cappedCount, countsOf, possibleIn, Tallied}
+use Rattle.leaves.specs.Tallies.{extendedSize, cappedCount, countsOf, ReadsActions, Tallied}
 use Rattle.leaves.specs.Endable.{Endable, finalBoundsOf, skipsOf, Skips, FinalsKnown}
 use Rattle.leaves.proofs.Marking.{bounds-above, bounds-after, places-few}
 use Rattle.leaves.proofs.Skipping.{skips-settled}
@@ -31,6 +31,7 @@ use Rattle.engine.specs.Tables.{Only, flagPlaces, endableIn, truthsFrom,
 use Rattle.sheet.specs.Inspection.{Of}
 use Rattle.sheet.specs.declared.Inspection.{Inspection}
 use Rattle.sheet.proofs.Found.{by-found, of-found}
+use Rattle.engine.proofs.Actions.{acts-read}
 use Rattle.engine.proofs.Seen.{sees}
 use Rattle.engine.proofs.Tables.{finals-long, counts-long, endable-kept, skips-kept, none-by}
 
@@ -47,6 +48,9 @@ few-places {s} O = places-few (interruptsIn s) _ (laid s (O .accepted) .p)
 module _ {s : List ℕ} {m : Inspection} (O : Of s m) where
   pub runs-lower : AllLower (runs s (m .layout) (m .interrupts))
   runs-lower = by-found O (λ (l : Layout) (b : Bool). AllLower (runs s l b)) (all-lower s (O .accepted))
+
+  pub actions-read : ReadsActions (actionsIn s (m .layout)) (runs s (m .layout) (m .interrupts))
+  actions-read = by-found O (λ (l : Layout) (b : Bool). ReadsActions (actionsIn s l) (runs s l b)) (acts-read s (O .accepted))
 
   -- what the formulas say in a state
   pub truths-told :
@@ -68,7 +72,8 @@ module _ {s : List ℕ} {m : Inspection} (O : Of s m) where
   prepared {flags} {numbers} marks n k e eb ec es =
       let low = all-lower s (O .accepted) in
       let e₂ = e ∙ of-found O (λ (l : Layout) (b : Bool). marks ≡ finalBoundsOf true (runs s l b) (many l b)) eb in
-      let E : Endable (extendedRecords s) (extendedSizeOf s) (endableIn flags) = subst (Endable (extendedRecords s) (extendedSizeOf s)) (sym e₂) (bounds-above (extendedRecords s) low (extendedSizeOf s)) in
+      let E : Endable (extendedRecords s) (extendedSizeOf s) (endableIn flags) =
+      subst (Endable (extendedRecords s) (extendedSizeOf s)) (sym e₂) (bounds-above (extendedRecords s) low (extendedSizeOf s)) in
       let S = skips-settled (extendedRecords s) (extendedSizeOf s) (endableIn flags) low E in
       let e₃ = of-found O (λ (l : Layout) (b : Bool). skipsIn numbers ≡ skipsOf (runs s l b) (many l b) marks) es in
       let e₄ = e₃ ∙ ap (skipsOf (extendedRecords s) (extendedSizeOf s)) (sym e) in
@@ -124,7 +129,7 @@ module _ {s : List ℕ} {m : Inspection} (O : Of s m) where
 
   module _ {st : State} {d : ℕ} {flags : List Bool} {numbers : List ℕ} (J : Judged s st d flags numbers) where
     abbrev pub seenBy : Layout → ℕ → Bool
-    seenBy l = possibleIn (actionsIn s l) (l .a) (truthsAt d flags)
+    seenBy l = possibleIn (actionsIn s l) (truthsAt d flags)
 
     pub decides-by : FinalsKnown (runs s (m .layout) (m .interrupts)) (many (m .layout) (m .interrupts)) (truthsAt d flags) (st .running) (finalsAt d flags)
     decides-by = by-found O (λ (l : Layout) (b : Bool). FinalsKnown (runs s l b) (many l b) (truthsAt d flags) (st .running) (finalsAt d flags)) (J .decides)

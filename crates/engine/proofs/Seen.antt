@@ -11,14 +11,15 @@ use Rattle.sheet.proofs.Lower.{fields-of, action-of}
 use Rattle.golog.specs.declared.State.{State}
 use Rattle.demands.specs.Decoded.{worldOf, recordsOf, interruptsIn}
 use Rattle.demands.specs.Compact.{extendedRecords}
-use Rattle.state.specs.Truths.{AreTruths}
-use Rattle.leaves.specs.Tallies.{possibleIn, SeesRecord, Sees}
-use Rattle.leaves.proofs.Seen.{possible-seen, table-seen}
+use Rattle.state.specs.Truths.{possibleIn, AreTruths}
+use Rattle.state.proofs.Performed.{possible-same}
+use Rattle.leaves.specs.Tallies.{SeesRecord, Sees}
+use Rattle.leaves.proofs.Seen.{table-seen}
 use Rattle.engine.specs.Tables.{extendedSizeOf}
 
 module _ (s : List ℕ) (accepted : Accepts s) (st : State) (truths : List Bool) (H : AreTruths (worldOf s) st (layoutOf s .q) truths) where
   abbrev can : ℕ → Bool
-  can = possibleIn (actionsIn s (layoutOf s)) (layoutOf s .a) truths
+  can = possibleIn (actionsIn s (layoutOf s)) truths
 
   -- by the roles of its fields, what a record asks of the state is told
   seen : (i : ℕ) (r : Program) → Fields (layoutOf s .q) (layoutOf s .a) i r → SeesRecord (worldOf s) st truths can r
@@ -27,10 +28,10 @@ module _ (s : List ℕ) (accepted : Accepts s) (st : State) (truths : List Bool)
     test = λ t. H (r .a) (formula-below _ _ i (fieldA (r .kind)) (f .a) t);
     act = λ t.
         let l = action-below _ _ i (fieldA (r .kind)) (f .a) t in
-        possible-seen (worldOf s) st (actionsIn s (layoutOf s)) (layoutOf s .a) truths (r .a) l (H _ (action-of s accepted (r .a) l .0));
+        possible-same _ _ (worldOf s .action) (r .a) (H _ (action-of s accepted (r .a) l .0));
   }
 
   pub sees : Sees (worldOf s) st (extendedRecords s) (extendedSizeOf s) truths can (st .running)
   sees =
-      table-seen (worldOf s) st (actionsIn s (layoutOf s)) (layoutOf s .a) truths (interruptsIn s) (recordsOf s) (layoutOf s .p) _
+      table-seen (worldOf s) st (actionsIn s (layoutOf s)) truths (interruptsIn s) (recordsOf s) (layoutOf s .p) _
       (λ i l. seen i (recordsOf s i) (fields-of s accepted i l))

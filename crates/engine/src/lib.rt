@@ -101,11 +101,11 @@ fn initial(fluents: &[u8], n: usize) -> State
 }
 
 // The sheet's initial state.
-pub fn initial_of(s: &[u8], m: Inspection) -> State
-    requires { ⌜ Of (now s) m ⌝ }
+pub fn initial_of(s: &[u8], found: Inspection) -> State
+    requires { ⌜ Of (now s) found ⌝ }
     ensures { λ r. ⌜ r ≡ initialOf (now (s .entry)) ⌝ }
 {
-    let l = m.layout;
+    let l = found.layout;
     let a = l.fluents;
     let b = l.formulas;
     initial(&s[a..b], l.f)
@@ -120,13 +120,13 @@ fn top_of(n: usize, interrupts: bool) -> usize
 }
 
 // Puts what runs at first, whatever the state, into frame 0 of a work area that is as long as required.
-pub fn put_first(work: &mut [u32], s: &[u8], m: Inspection)
-    requires { ⌜ Of (now s) m × (length (now work) ≡ m .words) ⌝ }
+pub fn put_first(work: &mut [u32], s: &[u8], found: Inspection)
+    requires { ⌜ Of (now s) found × (length (now work) ≡ found .words) ⌝ }
     ensures { λ _. ⌜ Frame (now (s .entry)) (boundOf (now (s .entry))) (now (work .exit)) 0 (firstOf (now (s .entry)) .0) ⌝ }
     ensures { λ _. ⌜ length (now (work .exit)) ≡ length (now (work .entry)) ⌝ }
 {
-    let l = m.layout;
-    words::put_node(work, HEADER, 1, top_of(l.p, m.interrupts), 1);
+    let l = found.layout;
+    words::put_node(work, HEADER, 1, top_of(l.p, found.interrupts), 1);
 }
 
 // Makes one table the same as another.
@@ -153,16 +153,16 @@ fn copy_numbers(to: &mut [u32], from: &[u32])
 }
 
 // Fills in once what depends on the sheet alone: which records may be final in some state, and which depend on it.
-pub fn prepare(flags: &mut [bool], numbers: &mut [u32], s: &[u8], m: Inspection)
-    requires { ⌜ Of (now s) m × (length (now flags) ≡ flagPlaces) × (length (now numbers) ≡ numberPlaces) × ((i : ℕ) → getD (now numbers) i 0 ≡ 0) ⌝ }
+pub fn prepare(flags: &mut [bool], numbers: &mut [u32], s: &[u8], found: Inspection)
+    requires { ⌜ Of (now s) found × (length (now flags) ≡ flagPlaces) × (length (now numbers) ≡ numberPlaces) × ((i : ℕ) → getD (now numbers) i 0 ≡ 0) ⌝ }
     ensures { λ _. ⌜ Prepared (now (s .entry)) (now (flags .exit)) (now (numbers .exit)) ⌝ }
 {
-    let l = m.layout;
+    let l = found.layout;
     let a = l.programs;
     let b = l.end;
     let t = &s[a..b];
-    let endable = leaves::bounds(t, l.p, m.interrupts, true);
-    let skips = leaves::skips(t, l.p, m.interrupts, &endable);
+    let endable = leaves::bounds(t, l.p, found.interrupts, true);
+    let skips = leaves::skips(t, l.p, found.interrupts, &endable);
     copy_flags(&mut flags[..RECORDS], &endable);
     copy_numbers(&mut numbers[..SKIPS], &skips);
 }
@@ -237,12 +237,12 @@ fn mark_finals(
 }
 
 // Fills in what the formulas say in a state, and which records are final, in the tables for depth d.
-fn judge(flags: &mut [bool], numbers: &[u32], s: &[u8], m: Inspection, st: State, d: usize)
-    requires { ⌜ Of (now s) m × Prepared (now s) (now flags) (now numbers) ⌝ }
+fn judge(flags: &mut [bool], numbers: &[u32], s: &[u8], found: Inspection, st: State, d: usize)
+    requires { ⌜ Of (now s) found × Prepared (now s) (now flags) (now numbers) ⌝ }
     ensures { λ _. ⌜ Judged (now (s .entry)) st d (now (flags .exit)) (now (numbers .entry)) ⌝ }
     ensures { λ _. ⌜ Only (truthsFrom d) 772 (now (flags .entry)) (now (flags .exit)) ⌝ }
 {
-    let l = m.layout;
+    let l = found.layout;
     let formulas = l.formulas;
     let effects = l.effects;
     let programs = l.programs;
@@ -256,7 +256,7 @@ fn judge(flags: &mut [bool], numbers: &[u32], s: &[u8], m: Inspection, st: State
         from,
         &s[programs..end],
         l.p,
-        m.interrupts,
+        found.interrupts,
         &numbers[..SKIPS],
         st.running,
     );
@@ -268,29 +268,29 @@ pub fn is_final(
     numbers: &[u32],
     work: &[u32],
     s: &[u8],
-    m: Inspection,
+    found: Inspection,
     st: State,
     d: usize,
 ) -> bool
-    requires { ⌜ Of (now s) m × Prepared (now s) (now flags) (now numbers) ⌝ }
+    requires { ⌜ Of (now s) found × Prepared (now s) (now flags) (now numbers) ⌝ }
     requires { ⌜ ((left : ℕ) × (p : Prog) × Frame (now s) left (now work) d p) ⌝ }
     ensures { λ r. ⌜ ((left : ℕ) (p : Prog) → Frame (now (s .entry)) left (now (work .entry)) d p → r ≡ isFinal (now (s .entry)) (p, st)) ⌝ }
     ensures { λ _. ⌜ Prepared (now (s .entry)) (now (flags .exit)) (now (numbers .entry)) ⌝ }
     ensures { λ _. ⌜ Filled d d (now (flags .entry)) (now (flags .exit)) (now (numbers .entry)) (now (numbers .entry)) ⌝ }
 {
-    judge(flags, numbers, s, m, st, d);
+    judge(flags, numbers, s, found, st, d);
     let from = flags_from(d) + FORMULAS;
     let to = from + RECORDS;
-    ends::final_rest(&flags[from..to], work, d * m.frame + HEADER)
+    ends::final_rest(&flags[from..to], work, d * found.frame + HEADER)
 }
 
 // Fills in how many transitions each record has in a state, in the tables for depth d.
-fn tally(numbers: &mut [u32], flags: &[bool], s: &[u8], m: Inspection, st: State, d: usize)
-    requires { ⌜ Of (now s) m × Judged (now s) st d (now flags) (now numbers) ⌝ }
+fn tally(numbers: &mut [u32], flags: &[bool], s: &[u8], found: Inspection, st: State, d: usize)
+    requires { ⌜ Of (now s) found × Judged (now s) st d (now flags) (now numbers) ⌝ }
     ensures { λ _. ⌜ Surveyed (now (s .entry)) st d (now (flags .entry)) (now (numbers .exit)) ⌝ }
     ensures { λ _. ⌜ Only (countsFrom d) 260 (now (numbers .entry)) (now (numbers .exit)) ⌝ }
 {
-    let l = m.layout;
+    let l = found.layout;
     let actions = l.actions;
     let programs = l.programs;
     let end = l.end;
@@ -303,9 +303,8 @@ fn tally(numbers: &mut [u32], flags: &[bool], s: &[u8], m: Inspection, st: State
         &mut numbers[first..last],
         &s[programs..end],
         l.p,
-        m.interrupts,
+        found.interrupts,
         &s[actions..programs],
-        l.a,
         &flags[from..middle],
         st.running,
         &flags[middle..to],
@@ -336,19 +335,19 @@ pub fn survey(
     numbers: &mut [u32],
     work: &[u32],
     s: &[u8],
-    m: Inspection,
+    found: Inspection,
     st: State,
     d: usize,
 ) -> Findings
-    requires { ⌜ Of (now s) m × Prepared (now s) (now flags) (now numbers) ⌝ }
+    requires { ⌜ Of (now s) found × Prepared (now s) (now flags) (now numbers) ⌝ }
     requires { ⌜ ((left : ℕ) × (p : Prog) × Frame (now s) left (now work) d p) ⌝ }
     ensures { λ r. ⌜ ((left : ℕ) (p : Prog) → Frame (now (s .entry)) left (now (work .entry)) d p → Tells (now (s .entry)) (p, st) r) ⌝ }
     ensures { λ _. ⌜ Surveyed (now (s .entry)) st d (now (flags .exit)) (now (numbers .exit)) ⌝ }
     ensures { λ _. ⌜ Filled d d (now (flags .entry)) (now (flags .exit)) (now (numbers .entry)) (now (numbers .exit)) ⌝ }
 {
-    judge(flags, numbers, s, m, st, d);
-    tally(numbers, flags, s, m, st, d);
-    let x = total(flags, numbers, work, d, d * m.frame + HEADER);
+    judge(flags, numbers, s, found, st, d);
+    tally(numbers, flags, s, found, st, d);
+    let x = total(flags, numbers, work, d, d * found.frame + HEADER);
     Findings {
         done: x.done,
         soon: x.soon,
@@ -360,15 +359,15 @@ pub fn survey(
 }
 
 // The state after a transition, where `truths` has what the formulas say in the state before it.
-fn state_after(s: &[u8], m: Inspection, truths: &[bool], entry: u32, st: State) -> State
-    requires { ⌜ Of (now s) m × AreTruths (worldOf (now s)) st (layoutOf (now s) .q) (now truths) ⌝ }
+fn state_after(s: &[u8], found: Inspection, truths: &[bool], entry: u32, st: State) -> State
+    requires { ⌜ Of (now s) found × AreTruths (worldOf (now s)) st (layoutOf (now s) .q) (now truths) ⌝ }
     requires { ⌜ Known (IsAction (now s)) (moveOf entry) ⌝ }
     ensures { λ r. ⌜ r ≡ after (worldOf (now (s .entry))) (moveOf entry) st ⌝ }
 {
     if entry == TEST {
         return st;
     }
-    let l = m.layout;
+    let l = found.layout;
     let effects = l.effects;
     let actions = l.actions;
     let programs = l.programs;
@@ -395,20 +394,20 @@ fn lay_next(
     flags: &[bool],
     numbers: &[u32],
     s: &[u8],
-    m: Inspection,
+    found: Inspection,
     st: State,
     d: usize,
     k: Cursor,
 ) -> Turn
-    requires { ⌜ Of (now s) m × Surveyed (now s) st d (now flags) (now numbers) × CanGoOn (now s) st (now work) d k ⌝ }
+    requires { ⌜ Of (now s) found × Surveyed (now s) st d (now flags) (now numbers) × CanGoOn (now s) st (now work) d k ⌝ }
     ensures { λ r. ⌜ Turns (now (s .entry)) st d k (now (work .entry)) (now (work .exit)) r ⌝ }
 {
-    let l = m.layout;
+    let l = found.layout;
     let programs = l.programs;
     let end = l.end;
     let v = Setting {
         n: l.p,
-        interrupts: m.interrupts,
+        interrupts: found.interrupts,
         running: st.running,
     };
     let from = flags_from(d);
@@ -416,7 +415,7 @@ fn lay_next(
     let to = middle + RECORDS;
     let first = counts_from(d);
     let last = first + RECORDS;
-    let at = d * m.frame + HEADER;
+    let at = d * found.frame + HEADER;
     steps::step_rest(
         &s[programs..end],
         v,
@@ -425,7 +424,7 @@ fn lay_next(
         &numbers[first..last],
         work,
         at,
-        at + m.frame,
+        at + found.frame,
         k.next,
     )
 }
@@ -448,24 +447,24 @@ pub fn next(
     flags: &[bool],
     numbers: &[u32],
     s: &[u8],
-    m: Inspection,
+    found: Inspection,
     st: State,
     d: usize,
     k: Cursor,
 ) -> Taken
-    requires { ⌜ Of (now s) m × Surveyed (now s) st d (now flags) (now numbers) × CanGoOn (now s) st (now work) d k ⌝ }
+    requires { ⌜ Of (now s) found × Surveyed (now s) st d (now flags) (now numbers) × CanGoOn (now s) st (now work) d k ⌝ }
     ensures { λ r. ⌜ GoesOn (now (s .entry)) st d k (now (work .entry)) (now (work .exit)) r ⌝ }
 {
     if k.end <= k.next {
         return none_made(st, k);
     }
-    let turn = lay_next(work, flags, numbers, s, m, st, d, k);
+    let turn = lay_next(work, flags, numbers, s, found, st, d, k);
     let Turn::Made { entry, size: _ } = turn else {
         return none_made(st, k);
     };
     let from = flags_from(d);
     let to = from + FORMULAS;
-    let state = state_after(s, m, &flags[from..to], entry, st);
+    let state = state_after(s, found, &flags[from..to], entry, st);
     Taken {
         made: true,
         entry,

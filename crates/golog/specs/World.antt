@@ -41,34 +41,45 @@ stop = 65535
 abbrev pub special : ℕ → Bool
 special a = ltb 65533 a
 
--- the paper's Poss(a, s): "An action is possible when its precondition holds"; "Start and stop are always possible"
-unfoldable pub possible : World → ℕ → State → Bool
-possible W a s = special a || holds W (W .action a .precondition) s
+-- "An action is possible when its precondition holds"; "Start and stop are always possible": `says` is what each formula says in the state
+unfoldable pub possibleBy : (says : ℕ → Bool) (action : ℕ → Action) → ℕ → Bool
+possibleBy says action a = special a || says (action a .precondition)
 
--- effect i names fluent x and its condition holds in s
-abbrev pub changes : World → State → (x i : ℕ) → Bool
-changes W s x i = eqb (W .effect i .fluent) x && holds W (W .effect i .condition) s
+-- an effect names fluent x and its condition holds
+abbrev pub changes : (says : ℕ → Bool) → Effect → (x : ℕ) → Bool
+changes says e x = eqb (e .fluent) x && says (e .condition)
 
 -- "the first effect in the action's range that names it and whose condition holds in the old values gives the new value; without one
 -- the value stays": fluent x, with the value old, under the k effects from number i on
-unfoldable pub given : World → State → (x old i k : ℕ) → ℕ
-given W s x old i zero = old
-given W s x old i (suc k) = let later : ℕ = given W s x old (suc i) k in cond (changes W s x i) (W .effect i .value) later
+unfoldable pub given : (says : ℕ → Bool) (effect : ℕ → Effect) (x old i k : ℕ) → ℕ
+given says effect x old i zero = old
+given says effect x old i (suc k) = let later : ℕ = given says effect x old (suc i) k in cond (changes says (effect i) x) (effect i .value) later
 
 -- f at each value and its place, counted from x
 unfoldable pub each : (ℕ → ℕ → ℕ) → (x : ℕ) → List ℕ → List ℕ
 each f x [] = []
 each f x (v ∷ vs) = f x v ∷ each f (suc x) vs
 
--- the values after action a
-unfoldable pub changed : World → ℕ → State → List ℕ
-changed W a s = each (λ (x old : ℕ). given W s x old (W .action a .first) (W .action a .count)) 0 (s .values)
+-- the values after an action
+unfoldable pub changed : (says : ℕ → Bool) (effect : ℕ → Effect) → Action → (values : List ℕ) → List ℕ
+changed says effect r values = each (λ (x old : ℕ). given says effect x old (r .first) (r .count)) 0 values
 
--- the paper's do(a, s): start and stop switch whether interrupts run, other actions change values
-unfoldable pub perform : World → ℕ → State → State
-perform W a s =
-    let new : List ℕ = changed W a s in
+-- start and stop switch whether interrupts run, other actions change values
+unfoldable pub performBy : (says : ℕ → Bool) (effect : ℕ → Effect) (action : ℕ → Action) → ℕ → State → State
+performBy says effect action a s =
+    let new : List ℕ = changed says effect (action a) (s .values) in
     record { values = cond (special a) (s .values) new; running = cond (special a) (eqb a start) (s .running) }
+
+-- what each formula says in a state
+abbrev pub saysIn : World → State → ℕ → Bool
+saysIn W s q = holds W q s
+
+-- the paper's Poss(a, s), and its do(a, s)
+abbrev pub possible : World → ℕ → State → Bool
+possible W a s = possibleBy (saysIn W s) (W .action) a
+
+abbrev pub perform : World → ℕ → State → State
+perform W a s = performBy (saysIn W s) (W .effect) (W .action) a s
 
 -- the state after a transition: "A test is a transition but no move"
 abbrev pub after : World → Option ℕ → State → State

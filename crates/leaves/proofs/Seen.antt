@@ -1,29 +1,24 @@
 -- What the truths of a state and its possible actions tell of the records of the sheet, they tell of the table that runs. Assumes nothing.
 use mathlib.Core.Path.{_≡_, refl, _∙_, ap}
-use mathlib.Core.Bool.{Bool, true, false, _||_}
+use mathlib.Core.Bool.{Bool, true, false}
 use mathlib.Core.List.{List}
 use Prim.Native.Nat.{ℕ, zero, suc, _-_, _<_}
 use native.Mathlib.Decide.{decLt}
 use native.Mathlib.Omega.{arith}
 use lib.ListN.{getD}
-use borrow.Author.Tests.{lt-ltb}
 use Rattle.records.specs.declared.Program.{Program}
-use Rattle.records.specs.Records.{actionAt}
 use Rattle.kinds.specs.Programs.{fieldA, fieldC}
 use Rattle.golog.specs.declared.State.{State}
-use Rattle.golog.specs.World.{World, holds, possible, special}
+use Rattle.golog.specs.World.{World, possibleBy}
 use Rattle.remaining.specs.Extended.{empty, virtual, extended}
 use Rattle.remaining.proofs.Started.{table-below, table-above}
-use Rattle.leaves.specs.Tallies.{possibleIn, SeesRecord, Sees}
+use Rattle.state.specs.Truths.{possibleIn}
+use Rattle.leaves.specs.Tallies.{SeesRecord, Sees}
 
--- an action of the table, and start and stop, which are above it
-module _ (W : World) (s : State) (actions : List ℕ) (na : ℕ) (truths : List Bool) where
-  pub possible-seen : (a : ℕ) → a < na → getD truths (actionAt actions a .precondition) false ≡ holds W (W .action a .precondition) s → possibleIn actions na truths a ≡ possible W a s
-  unfolding possible
-  possible-seen a l e = rw (lt-ltb a na l) (ap (λ (h : Bool). special a || h) e)
-
-  virtual-seen : (b : Bool) (n k : ℕ) → SeesRecord W s truths (possibleIn actions na truths) (getD (virtual b n) k empty)
-  unfolding possible fieldA fieldC
+module _ (W : World) (s : State) (actions : List ℕ) (truths : List Bool) where
+  -- start and stop are above the actions of the table
+  virtual-seen : (b : Bool) (n k : ℕ) → SeesRecord W s truths (possibleIn actions truths) (getD (virtual b n) k empty)
+  unfolding possibleBy fieldA fieldC
   virtual-seen true n zero = record { condition = λ t. absurd t; test = λ t. absurd t; act = λ t. refl }
   virtual-seen true n (suc zero) = record { condition = λ t. absurd t; test = λ t. absurd t; act = λ t. refl }
   virtual-seen true n (suc (suc zero)) = record { condition = λ t. absurd t; test = λ t. absurd t; act = λ t. absurd t }
@@ -32,11 +27,11 @@ module _ (W : World) (s : State) (actions : List ℕ) (na : ℕ) (truths : List 
   virtual-seen false n k = record { condition = λ t. absurd t; test = λ t. absurd t; act = λ t. absurd t }
 
   -- so what is seen of the records of the sheet is seen of the table that runs
-  pub table-seen : (b : Bool) (p : ℕ → Program) (n m : ℕ) → ((i : ℕ) → i < n → SeesRecord W s truths (possibleIn actions na truths) (p i)) →
-      Sees W s (extended b p n) m truths (possibleIn actions na truths) (s .running)
+  pub table-seen : (b : Bool) (p : ℕ → Program) (n m : ℕ) → ((i : ℕ) → i < n → SeesRecord W s truths (possibleIn actions truths) (p i)) →
+      Sees W s (extended b p n) m truths (possibleIn actions truths) (s .running)
   table-seen b p n m seen = record { runs = refl; each = λ i l. go i (decLt i n) }
     where
-      go : (i : ℕ) → Dec (i < n) → SeesRecord W s truths (possibleIn actions na truths) (extended b p n i)
+      go : (i : ℕ) → Dec (i < n) → SeesRecord W s truths (possibleIn actions truths) (extended b p n i)
       go i (yes l) = rw (table-below b p n i l) (seen i l)
       go i (no l) =
           let e : extended b p n i ≡ getD (virtual b n) (i - n) empty = ap (extended b p n) (omega arith) ∙ table-above b p n (i - n) in

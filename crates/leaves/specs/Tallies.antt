@@ -2,16 +2,16 @@
 -- "Steps and endings"). Assumes nothing.
 use Prim.Native.Nat.{ℕ, _+_, _-_, _<_, min}
 use mathlib.Core.Path.{_≡_}
-use mathlib.Core.Bool.{Bool, true, false, cond, _&&_, _||_}
+use mathlib.Core.Bool.{Bool, true, false, cond}
 use mathlib.Core.List.{List, _++_, map}
-use lib.Dec.{T, ltb}
+use lib.Dec.{T}
 use lib.ListN.{length, getD, drop, replicate}
 use Rattle.records.specs.declared.Program.{Program}
-use Rattle.records.specs.Records.{actionAt}
 use Rattle.records.specs.Table.{upTo}
 use Rattle.kinds.specs.Programs.{hasCondition, acts, tests}
 use Rattle.golog.specs.declared.State.{State}
-use Rattle.golog.specs.World.{World, holds, possible, special}
+use Rattle.golog.specs.World.{World, holds, possible}
+use Rattle.state.specs.Ranges.{InActions}
 use Rattle.remaining.specs.Leaves.{Leaf, leafAt}
 
 -- counts end here: a record that the root does not reach may be of any height, and so have more transitions than a number holds
@@ -34,10 +34,9 @@ finalsOf W s p m = map (λ (l : Leaf). l .final) (upTo (leafAt W s p) m) ++ repl
 unfoldable pub countsOf : World → State → (ℕ → Program) → (m : ℕ) → List ℕ
 countsOf W s p m = map cappedCount (upTo (leafAt W s p) m) ++ replicate (260 - m) 0
 
--- "An action is possible when its precondition holds", by the first na actions of their table and the truths of the formulas; "Start
--- and stop are always possible"
-abbrev pub possibleIn : (actions : List ℕ) (na : ℕ) (truths : List Bool) → ℕ → Bool
-possibleIn actions na truths a = special a || (ltb a na && getD truths (actionAt actions a .precondition) false)
+-- the action of a record that performs one is start, stop or in the table
+abbrev pub ReadsActions : (actions : List ℕ) → (ℕ → Program) → Type 0
+ReadsActions actions p = (i : ℕ) → T (acts (p i .kind)) → InActions actions (p i .a)
 
 -- `truths` and `can` say of a state what the record asks of it: the fields that its kind has, and no others
 pub record SeesRecord (W : World) (s : State) (truths : List Bool) (can : ℕ → Bool) (r : Program) : Type 0 where

@@ -3,29 +3,17 @@
 ghost use mathlib.Core.Path.{_≡_};
 ghost use mathlib.Core.Bool.{true, _&&_};
 ghost use Prim.Native.Nat.{_*_, _≤_, _<_, min};
+ghost use lib.Dec.{T};
 ghost use lib.ListN.{length, getD};
 ghost use Rattle.records.specs.Records.{programAt, TwoBytes, ProgramTable};
 ghost use Rattle.kinds.specs.Programs.{acts, countBy};
 ghost use Rattle.remaining.specs.Rest.{AllLower};
 ghost use Rattle.remaining.specs.Extended.{empty, virtual, extended};
-ghost use Rattle.leaves.specs.Tallies.{cap, extendedSize, possibleIn, Tallied};
+ghost use Rattle.state.specs.Truths.{possibleIn};
+ghost use Rattle.state.specs.Ranges.{InActions};
+ghost use Rattle.leaves.specs.Tallies.{cap, extendedSize, ReadsActions, Tallied};
 ghost use Rattle.leaves.specs.Endable.{finalBoundsOf, doubtBy, skipsOf, FinalsKnown};
 use records::Program;
-
-// Whether action a is possible, where `truths` has what the formulas say.
-fn possible_in(actions: &[u8], na: usize, truths: &[bool], a: usize) -> bool
-    requires { ⌜ 6 * na ≤ length (now actions) ⌝ }
-    ensures { λ r. ⌜ r ≡ possibleIn (now (actions .entry)) na (now (truths .entry)) a ⌝ }
-{
-    if 65533 < a {
-        return true;
-    }
-    if a < na {
-        let r = records::action_at(actions, a);
-        return records::flag_in(truths, r.precondition, false);
-    }
-    false
-}
 
 // The records above the first n, where there are interrupts.
 fn virtual_at(n: usize, k: usize) -> Program
@@ -94,12 +82,12 @@ fn capped(n: u64) -> u32
 }
 
 // Whether a record performs an action, and one that is possible.
-fn can_act(r: Program, actions: &[u8], na: usize, truths: &[bool]) -> bool
-    requires { ⌜ 6 * na ≤ length (now actions) ⌝ }
-    ensures { λ b. ⌜ b ≡ (acts (r .kind) && possibleIn (now (actions .entry)) na (now (truths .entry)) (r .a)) ⌝ }
+fn can_act(r: Program, actions: &[u8], truths: &[bool]) -> bool
+    requires { ⌜ (T (acts (r .kind)) → InActions (now actions) (r .a)) ⌝ }
+    ensures { λ b. ⌜ b ≡ (acts (r .kind) && possibleIn (now (actions .entry)) (now (truths .entry)) (r .a)) ⌝ }
 {
     if kinds::programs::acts(r.kind) {
-        return possible_in(actions, na, truths, r.a);
+        return state::possible(actions, truths, r.a);
     }
     false
 }
@@ -107,16 +95,15 @@ fn can_act(r: Program, actions: &[u8], na: usize, truths: &[bool]) -> bool
 fn count_at(
     r: Program,
     actions: &[u8],
-    na: usize,
     truths: &[bool],
     running: bool,
     finals: &[bool],
     counts: &[u32],
 ) -> u32
-    requires { ⌜ 6 * na ≤ length (now actions) ⌝ }
-    ensures { λ k. ⌜ k ≡ min cap (countBy r (possibleIn (now (actions .entry)) na (now (truths .entry)) (r .a)) (now (truths .entry)) running (now (finals .entry)) (now (counts .entry))) ⌝ }
+    requires { ⌜ (T (acts (r .kind)) → InActions (now actions) (r .a)) ⌝ }
+    ensures { λ k. ⌜ k ≡ min cap (countBy r (possibleIn (now (actions .entry)) (now (truths .entry)) (r .a)) (now (truths .entry)) running (now (finals .entry)) (now (counts .entry))) ⌝ }
 {
-    let can = can_act(r, actions, na, truths);
+    let can = can_act(r, actions, truths);
     capped(kinds::programs::count_by(r, can, truths, running, finals, counts))
 }
 
@@ -135,23 +122,22 @@ pub fn tallies(
     n: usize,
     interrupts: bool,
     actions: &[u8],
-    na: usize,
     truths: &[bool],
     running: bool,
     finals: &[bool],
 )
-    requires { ⌜ ProgramTable (now programs) n × (6 * na ≤ length (now actions)) × (length (now counts) ≡ 260) ⌝ }
-    requires { ⌜ AllLower (extended interrupts (programAt (now programs)) n)
+    requires { ⌜ ProgramTable (now programs) n × (length (now counts) ≡ 260) ⌝ }
+    requires { ⌜ AllLower (extended interrupts (programAt (now programs)) n) × ReadsActions (now actions) (extended interrupts (programAt (now programs)) n)
         × FinalsKnown (extended interrupts (programAt (now programs)) n) (extendedSize interrupts n) (now truths) running (now finals) ⌝ }
     ensures { λ _. ⌜ Tallied (extended interrupts (programAt (now (programs .entry))) n) (extendedSize interrupts n) (now (truths .entry))
-        (possibleIn (now (actions .entry)) na (now (truths .entry))) running (now (counts .entry)) (now (counts .exit)) ⌝ }
+        (possibleIn (now (actions .entry)) (now (truths .entry))) running (now (counts .entry)) (now (counts .exit)) ⌝ }
     ensures { λ _. ⌜ length (now (counts .exit)) ≡ 260 ⌝ }
 {
     let m = places_of(n, interrupts);
     let mut i = 0;
     while i < m {
         let r = record_at(programs, n, interrupts, i);
-        let k = count_at(r, actions, na, truths, running, finals, counts);
+        let k = count_at(r, actions, truths, running, finals, counts);
         counts[i] = k;
         i += 1;
     }

@@ -1,2 +1,2 @@
 pub mod Truths
-pub mod Performed
+pub mod Ranges

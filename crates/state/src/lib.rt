@@ -2,14 +2,19 @@
 ghost use mathlib.Core.Path.{_≡_};
 ghost use Prim.Native.Nat.{_+_, _*_, _≤_};
 ghost use lib.ListN.{length};
-ghost use Rattle.records.specs.Records.{formulaAt};
+ghost use Rattle.records.specs.Records.{formulaAt, effectAt, actionAt};
 ghost use Rattle.kinds.specs.Truth.{truthOf};
 ghost use Rattle.kinds.specs.Formulas.{LowerFormulas};
 ghost use Rattle.golog.specs.declared.State.{State};
-ghost use Rattle.state.specs.Truths.{truthsOf};
-ghost use Rattle.state.specs.Performed.{changesBy, givenBy, changedBy, performBy, Names, Performable};
+ghost use Rattle.golog.specs.World.{changes, given, changed, performBy};
+ghost use Rattle.state.specs.Truths.{truthsOf, saidBy, possibleIn};
+ghost use Rattle.state.specs.Ranges.{Names, InActions, Performable};
 use golog::State;
+use records::Action;
 use records::Effect;
+
+// The entry of a history for start; that for stop is above it, and those of actions are below.
+const START: usize = 65534;
 
 // What formula i says, where `lower` has what the formulas before it say.
 fn truth_at(formulas: &[u8], i: usize, values: &[u8], lower: &[bool]) -> bool
@@ -35,9 +40,21 @@ pub fn fill_truths(formulas: &[u8], n: usize, s: State, truths: &mut [bool])
     }
 }
 
+// Whether action a is possible, where `truths` has what the formulas say.
+pub fn possible(actions: &[u8], truths: &[bool], a: usize) -> bool
+    requires { ⌜ InActions (now actions) a ⌝ }
+    ensures { λ r. ⌜ r ≡ possibleIn (now (actions .entry)) (now (truths .entry)) a ⌝ }
+{
+    if START <= a {
+        return true;
+    }
+    let r = records::action_at(actions, a);
+    records::flag_in(truths, r.precondition, false)
+}
+
 // Whether an effect names fluent x and its condition holds.
-fn changes(e: Effect, truths: &[bool], x: usize) -> bool
-    ensures { λ r. ⌜ r ≡ changesBy e (now (truths .entry)) x ⌝ }
+fn changes_value(e: Effect, truths: &[bool], x: usize) -> bool
+    ensures { λ r. ⌜ r ≡ changes (saidBy (now (truths .entry))) e x ⌝ }
 {
     (e.fluent == x) & records::flag_in(truths, e.condition, false)
 }
@@ -45,14 +62,14 @@ fn changes(e: Effect, truths: &[bool], x: usize) -> bool
 // The new value of fluent x under an action's effects: the first one that changes it gives it.
 fn new_value(effects: &[u8], first: usize, count: usize, truths: &[bool], x: usize, old: u8) -> u8
     requires { ⌜ 4 * (first + count) ≤ length (now effects) ⌝ }
-    ensures { λ r. ⌜ r ≡ givenBy (now (effects .entry)) (now (truths .entry)) x old first count ⌝ }
+    ensures { λ v. ⌜ v ≡ given (saidBy (now (truths .entry))) (effectAt (now (effects .entry))) x old first count ⌝ }
 {
     let end = first + count;
     let mut value = old;
     let mut i = first;
     'effects: while i < end {
         let e = records::effect_at(effects, i);
-        if changes(e, truths, x) {
+        if changes_value(e, truths, x) {
             value = e.value as u8;
             break 'effects;
         }
@@ -62,22 +79,14 @@ fn new_value(effects: &[u8], first: usize, count: usize, truths: &[bool], x: usi
 }
 
 // The values after an action's effects, which name fluents below n.
-fn changed(
-    effects: &[u8],
-    first: usize,
-    count: usize,
-    n: usize,
-    truths: &[bool],
-    values: [u8; 32],
-) -> [u8; 32]
-    requires { ⌜ (4 * (first + count) ≤ length (now effects)) × (n ≤ 32) ⌝ }
-    requires { ⌜ Names (now effects) n first count ⌝ }
-    ensures { λ r. ⌜ r ≡ changedBy (now (effects .entry)) (now (truths .entry)) first count values ⌝ }
+fn new_values(effects: &[u8], r: Action, n: usize, truths: &[bool], values: [u8; 32]) -> [u8; 32]
+    requires { ⌜ (4 * (r .first + r .count) ≤ length (now effects)) × (n ≤ 32) × Names (now effects) n (r .first) (r .count) ⌝ }
+    ensures { λ v. ⌜ v ≡ changed (saidBy (now (truths .entry))) (effectAt (now (effects .entry))) r values ⌝ }
 {
     let mut new = values;
     let mut x = 0;
     while x < n {
-        new[x] = new_value(effects, first, count, truths, x, values[x]);
+        new[x] = new_value(effects, r.first, r.count, truths, x, values[x]);
         x += 1;
     }
     new
@@ -92,19 +101,17 @@ pub fn perform(
     a: usize,
     s: State,
 ) -> State
-    requires { ⌜ Performable (now effects) (now actions) n a ⌝ }
-    requires { ⌜ n ≤ 32 ⌝ }
-    ensures { λ r. ⌜ r ≡ performBy (now (effects .entry)) (now (actions .entry)) (now (truths .entry)) a s ⌝ }
+    requires { ⌜ Performable (now effects) (now actions) n a × (n ≤ 32) ⌝ }
+    ensures { λ r. ⌜ r ≡ performBy (saidBy (now (truths .entry))) (effectAt (now (effects .entry))) (actionAt (now (actions .entry))) a s ⌝ }
 {
     let values = s.values;
-    if 65533 < a {
+    if START <= a {
         return State {
             values,
-            running: a == 65534,
+            running: a == START,
         };
     }
-    let r = records::action_at(actions, a);
-    let new = changed(effects, r.first, r.count, n, truths, values);
+    let new = new_values(effects, records::action_at(actions, a), n, truths, values);
     State {
         values: new,
         running: s.running,

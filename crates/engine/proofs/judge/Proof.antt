@@ -150,8 +150,8 @@ returns c =
     let before : endableIn flags₁ ≡ endableIn flags = endable-kept (omega arith) K₁ in (
       judged O P st d flags₃ (n₃ ∙ n₂ ∙ n₁) K
           (truths-told O st _ told)
-          (subst₂ (λ (t f : List Bool). FinalsKnown (runs (now (at-start .args .s)) (at-start .args .m .layout) (at-start .args .m .interrupts))
-          (many (at-start .args .m .layout) (at-start .args .m .interrupts)) t (st .running) f)
+          (subst₂ (λ (t f : List Bool). FinalsKnown (runs (now (at-start .args .s)) (at-start .args .found .layout) (at-start .args .found .interrupts))
+          (many (at-start .args .found .layout) (at-start .args .found .interrupts)) t (st .running) f)
           (truths flags₃) (finals flags₃) (M .0))
           (λ i l. ap (λ (y : List Bool). getD y i true) (sym (finals flags₃)) ∙ M .1 .1 i l ∙ ap (λ (y : List Bool). getD y i true) (S .1 ∙ before)),
       K,

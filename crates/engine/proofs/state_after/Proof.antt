@@ -4,12 +4,13 @@ use Prim.Native.Nat.{ℕ}
 use native.Mathlib.Omega.{arith}
 use mathlib.Core.Option.{Option}
 use mathlib.Core.Path.{refl, sym, _∙_, ap}
-use Rattle.sheet.specs.Layout.{layoutOf, formulasIn, effectsIn, actionsIn}
+use Rattle.sheet.specs.Layout.{layoutOf, effectsIn, actionsIn}
 use Rattle.sheet.specs.declared.Layout.{Layout}
-use Rattle.golog.specs.World.{after}
+use Rattle.records.specs.Records.{effectAt, actionAt}
+use Rattle.golog.specs.World.{saysIn, performBy, after}
 use Rattle.demands.specs.Decoded.{worldOf}
-use Rattle.state.specs.Performed.{performBy}
-use Rattle.state.proofs.Performed.{perform-is}
+use Rattle.state.specs.Truths.{saidBy}
+use Rattle.state.proofs.Performed.{perform-same}
 use Rattle.engine.proofs.Codes.{is-test, is-move, action-of-code}
 use Rattle.engine.proofs.Actions.{performable, judged}
 use Rattle.sheet.proofs.Parts.{in-order}
@@ -62,9 +63,9 @@ returns-2 c =
     let O = at-start .pre .0 .0 in
     let l = layoutOf s in
     let truths = now (at-start .args .truths) in
-    let by = c .perform .ensures ∙ ap (λ (l : Layout). performBy (effectsIn s l) (actionsIn s l) truths e st) (O .layout-is) in
+    let by = c .perform .ensures ∙ ap (λ (l : Layout). performBy (saidBy truths) (effectAt (effectsIn s l)) (actionAt (actionsIn s l)) e st) (O .layout-is) in
     let action = judged s (O .accepted) e (action-of-code (now (at-start .args .s)) (at-start .args .entry) _ (at-start .pre .1) refl (at-if1 .if1 .left)) in
-    let is = perform-is (formulasIn s l) (effectsIn s l) (actionsIn s l) st (l .q) truths (at-start .pre .0 .1) e action in
+    let is = perform-same (effectsIn s l) (actionsIn s l) (saidBy truths) (saysIn (worldOf s) st) (l .q) (at-start .pre .0 .1) e st action in
     by ∙ is ∙ sym (ap (λ (x : Option ℕ). after (worldOf s) x st) (is-move e (at-if1 .if1 .left)))
 
 pub state-after-spec : {M : Type 1} → statement M

@@ -7,15 +7,16 @@ use mathlib.Core.Path.{_≡_, sym, _∙_, ap, subst, subst₂}
 use Prim.Native.Nat.{ℕ, _+_, _-_, _≤_}
 use lib.ListN.{length}
 use borrow.Rule.Slice.PartMut.{putMid, same-len-mid}
-use Rattle.leaves.specs.Tallies.{possibleIn, Tallied}
+use Rattle.state.specs.Truths.{possibleIn}
+use Rattle.leaves.specs.Tallies.{Tallied}
 use Rattle.leaves.specs.Endable.{FinalsKnown}
 use Rattle.sheet.specs.Layout.{actionsIn}
 use Rattle.engine.specs.Tables.{window, Only, truthsFrom, finalsFrom, truthsAt, finalsAt, countsFrom, countsAt}
-use Rattle.sheet.proofs.Parts.{in-order, actions-long, programs-long}
+use Rattle.sheet.proofs.Parts.{in-order, programs-long}
 use Rattle.sheet.proofs.Found.{in-sheet}
 use Rattle.engine.proofs.Tables.{counts-long}
 use Rattle.engine.proofs.Windows.{window-at, only-put, window-put}
-use Rattle.engine.proofs.Judging.{runs, many, seenBy, runs-lower, decides-by, surveyed}
+use Rattle.engine.proofs.Judging.{runs, many, seenBy, runs-lower, actions-read, decides-by, surveyed}
 use borrow.Author.Needs.{needs}
 use Rattle.engine.proofs.tally.Statement.{statement}
 use Rattle.engine.proofs.tally.Tie as tie
@@ -104,7 +105,7 @@ tallies-requires c κs =
     let O = at-start .pre .0 in
     let J = at-start .pre .1 in
     let d = at-start .args .d in
-    let m = at-start .args .m in
+    let m = at-start .args .found in
     let flags = now (at-start .args .flags) in
     let numbers = now (at-start .args .numbers) in
     let x = at-flags-from .flags-from .result in
@@ -114,9 +115,10 @@ tallies-requires c κs =
     let F = window-at (x + 512) (finalsFrom d) (x + 512 + 260) 260 flags (omega (arith, e)) (omega arith) in
     let N = window-at y (countsFrom d) (y + 260) 260 numbers (at-counts-from .counts-from .ensures .0) (omega arith) in
     let r = programs-long _ _ (in-sheet O) in (
-      (r, actions-long _ _ (in-sheet O), ap length N ∙ counts-long (J .prepared) d),
+      (r, ap length N ∙ counts-long (J .prepared) d),
       (
         runs-lower O,
+        actions-read O,
         subst₂ (λ (t f : List Bool). FinalsKnown (runs (now (at-start .args .s)) (m .layout) (m .interrupts)) (many (m .layout) (m .interrupts)) t (at-start .args .st .running) f) (sym T) (sym F)
             (decides-by O J),
       ),
@@ -136,8 +138,8 @@ returns c =
     let d = at-start .args .d in
     let st = at-start .args .st in
     let s = now (at-start .args .s) in
-    let l = at-start .args .m .layout in
-    let b = at-start .args .m .interrupts in
+    let l = at-start .args .found .layout in
+    let b = at-start .args .found .interrupts in
     let flags = now (at-start .args .flags) in
     let numbers = now (at-start .args .numbers) in
     let x = at-flags-from .flags-from .result in
@@ -151,7 +153,7 @@ returns c =
     let new = putMid y (y + 260 - y) numbers counts in
     let K : Only (countsFrom d) 260 numbers new = subst (λ (o : ℕ). Only o 260 numbers new) ey (only-put y (y + 260) 260 numbers counts (omega arith) fits long) in
     let e : countsAt d new ≡ counts = subst (λ (o : ℕ). window o 260 new ≡ counts) ey (window-put y (y + 260) 260 numbers counts (omega arith) fits long) in
-    let told = subst₂ (λ (t : List Bool) (k : List ℕ). Tallied (runs s l b) (many l b) t (possibleIn (actionsIn s l) (l .a) t) (st .running) k counts) T N (at-tallies .tallies .ensures .0) in (
+    let told = subst₂ (λ (t : List Bool) (k : List ℕ). Tallied (runs s l b) (many l b) t (possibleIn (actionsIn s l) t) (st .running) k counts) T N (at-tallies .tallies .ensures .0) in (
       surveyed O J new (same-len-mid y (y + 260 - y) numbers counts (at-tallies .tallies .kept .0)) K
           (subst (λ (k : List ℕ). Tallied (runs s l b) (many l b) (truthsAt d flags) (seenBy O J l) (st .running) (countsAt d numbers) k) (sym e) told),
       K,

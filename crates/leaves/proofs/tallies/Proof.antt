@@ -12,19 +12,20 @@ use Rattle.golog.specs.declared.State.{State}
 use Rattle.golog.specs.World.{World}
 use Rattle.remaining.specs.Extended.{extended}
 use Rattle.remaining.specs.Leaves.{leafAt}
-use Rattle.leaves.specs.Tallies.{cappedCount, extendedSize, possibleIn, Sees}
+use Rattle.state.specs.Truths.{possibleIn}
+use Rattle.leaves.specs.Tallies.{cappedCount, extendedSize, Sees}
 use Rattle.leaves.proofs.Filling.{next}
 use Rattle.leaves.proofs.tallies.Statement.{statement}
 use Rattle.leaves.proofs.tallies.Tie as tie
 
 abbrev Inv-loop : tie.InvT-loop
-Inv-loop counts₀ programs n interrupts actions na truths running finals m i₀ counts i =
+Inv-loop counts₀ programs n interrupts actions truths running finals m i₀ counts i =
     (i ≤ m) × (length counts ≡ 260)
-    × ((W : World) (s : State) → Sees W s (extended interrupts (programAt programs) n) (extendedSize interrupts n) truths (possibleIn actions na truths) running →
+    × ((W : World) (s : State) → Sees W s (extended interrupts (programAt programs) n) (extendedSize interrupts n) truths (possibleIn actions truths) running →
     Refilled (leafAt W s (extended interrupts (programAt programs) n)) cappedCount counts₀ counts i)
 
 abbrev μ-loop : tie.MeasureT-loop
-μ-loop counts₀ programs n interrupts actions na truths running finals m i₀ counts i = m - i
+μ-loop counts₀ programs n interrupts actions truths running finals m i₀ counts i = m - i
 
 places-of-requires : tie.Need-places-of-requires Inv-loop μ-loop
 places-of-requires c κs = search needs
@@ -37,13 +38,13 @@ abbrev start-from-loop : tie.At-loop Inv-loop μ-loop → tie.Start Inv-loop μ-
 start-from-loop c = start-from-places-of (c .before)
 
 loop-holds : tie.Need-loop-holds Inv-loop μ-loop
-loop-holds c = (omega arith, start-from-places-of c .pre .0 .2, λ W s S. refill-start _ cappedCount _)
+loop-holds c = (omega arith, start-from-places-of c .pre .0 .1, λ W s S. refill-start _ cappedCount _)
 
 record-at-requires : tie.Need-record-at-requires Inv-loop μ-loop
 record-at-requires c κs = search needs
 
 count-at-requires : tie.Need-count-at-requires Inv-loop μ-loop
-count-at-requires c κs = search needs
+count-at-requires c κs = λ t. rw (c .before .record-at .ensures .0) (start-from-loop (c .before .before .before) .pre .1 .1 _ (rw (← c .before .record-at .ensures .0) t))
 
 mul-counts : tie.Need-mul-counts Inv-loop μ-loop
 mul-counts c = search needs
@@ -67,13 +68,13 @@ loop-again c =
     let v = at-loop .loop .inv in (
       omega arith,
       simp length-set (v .1),
-      λ W s S. next W s _ (z .1 .0) _ (z .1 .1 W s _ S) (v .2 W s S) (omega (arith, at-places-of .places-of .ensures .0)) (S .each _ (omega (arith, at-places-of .places-of .ensures .0))) (S .runs)
+      λ W s S. next W s _ (z .1 .0) _ (z .1 .2 W s _ S) (v .2 W s S) (omega (arith, at-places-of .places-of .ensures .0)) (S .each _ (omega (arith, at-places-of .places-of .ensures .0))) (S .runs)
           (omega arith)
           (rw e at (c .count-at .ensures)),
     )
 
 same-length : tie.Need-same-length Inv-loop μ-loop
-same-length c = c .before .loop .inv .1 ∙ sym (start-from-loop (c .before) .pre .0 .2)
+same-length c = c .before .loop .inv .1 ∙ sym (start-from-loop (c .before) .pre .0 .1)
 
 returns : tie.Need-returns Inv-loop μ-loop
 returns c =

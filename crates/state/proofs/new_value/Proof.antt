@@ -4,12 +4,13 @@ use Prim.Native.Nat.{_+_, _-_}
 use mathlib.Core.Path.{_≡_, refl}
 use native.Mathlib.Omega.{arith}
 use borrow.Author.Needs.{needs}
+use Rattle.state.specs.Truths.{saidBy}
 use Rattle.state.proofs.Performed.{Passed, passed-none, passed-more, passed-found, passed-all}
 use Rattle.state.proofs.new_value.Statement.{statement}
 use Rattle.state.proofs.new_value.Tie as tie
 
 abbrev Inv-effects : tie.InvT-effects
-Inv-effects effects first count truths x old end value₀ i₀ value i = Passed effects truths x old first count value i × (end ≡ first + count)
+Inv-effects effects first count truths x old end value₀ i₀ value i = Passed (saidBy truths) effects x old first count value i × (end ≡ first + count)
 
 abbrev μ-effects : tie.MeasureT-effects
 μ-effects effects first count truths x old end value₀ i₀ value i = end - i
@@ -23,8 +24,8 @@ effects-holds c = (passed-none _ _ _ _ _ _, refl)
 effect-at-requires : tie.Need-effect-at-requires Inv-effects μ-effects
 effect-at-requires c κs = search needs
 
-changes-requires : tie.Need-changes-requires Inv-effects μ-effects
-changes-requires c κs = search needs
+changes-value-requires : tie.Need-changes-value-requires Inv-effects μ-effects
+changes-value-requires c κs = search needs
 
 cast-value : tie.Need-cast-value Inv-effects μ-effects
 cast-value c = search needs
@@ -37,7 +38,7 @@ effects-less c = search needs
 
 effects-again : tie.Need-effects-again Inv-effects μ-effects
 effects-again c = let p = c .before .before .before .before .effects .inv in (
-  passed-more _ _ _ _ (p .0) (omega arith) (c .before .before .effect-at .ensures .0) (c .before .changes .ensures)
+  passed-more _ _ _ _ (p .0) (omega arith) (c .before .before .effect-at .ensures .0) (c .before .changes-value .ensures)
       (c .if1 .left),
   p .1,
 )
@@ -50,7 +51,7 @@ returns-2 c =
     let at-effect-at = c .before .before .before in
     let at-effects = at-effect-at .before .before in
     let p = at-effects .effects .inv in
-    passed-found _ _ _ _ (p .0) (omega arith) (at-effect-at .effect-at .ensures .0) (c .before .before .changes .ensures) (c .before .if1 .taken)
+    passed-found _ _ _ _ (p .0) (omega arith) (at-effect-at .effect-at .ensures .0) (c .before .before .changes-value .ensures) (c .before .if1 .taken)
 
 pub new-value-spec : {M : Type 1} → statement M
 new-value-spec =
@@ -61,7 +62,7 @@ new-value-spec =
     add-end
     effects-holds
     effect-at-requires
-    changes-requires
+    changes-value-requires
     cast-value
     add-i
     effects-less

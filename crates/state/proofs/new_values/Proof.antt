@@ -4,17 +4,20 @@ use mathlib.Core.Path.{_≡_}
 use native.Mathlib.Omega.{arith}
 use borrow.Author.Needs.{needs}
 use lib.ListN.{getD, length}
-use Rattle.state.specs.Performed.{givenBy}
+use Rattle.records.specs.Records.{effectAt}
+use Rattle.golog.specs.World.{given}
+use Rattle.state.specs.Truths.{saidBy}
 use Rattle.records.proofs.Laid.{Laid, laid-none, laid-more}
 use Rattle.state.proofs.Performed.{changed-all}
-use Rattle.state.proofs.changed.Statement.{statement}
-use Rattle.state.proofs.changed.Tie as tie
+use Rattle.state.proofs.new_values.Statement.{statement}
+use Rattle.state.proofs.new_values.Tie as tie
 
 abbrev Inv-loop : tie.InvT-loop
-Inv-loop effects first count n truths values new₀ x₀ new x = (x ≤ n) × (length values ≡ 32) × Laid 0 (λ (y : ℕ). givenBy effects truths y (getD values y 0) first count) values new x
+Inv-loop effects r n truths values new₀ x₀ new x =
+    (x ≤ n) × (length values ≡ 32) × Laid 0 (λ (y : ℕ). given (saidBy truths) (effectAt effects) y (getD values y 0) (r .first) (r .count)) values new x
 
 abbrev μ-loop : tie.MeasureT-loop
-μ-loop effects first count n truths values new₀ x₀ new x = n - x
+μ-loop effects r n truths values new₀ x₀ new x = n - x
 
 loop-holds : tie.Need-loop-holds Inv-loop μ-loop
 loop-holds c = (omega arith, search needs, laid-none _ _ _)
@@ -40,10 +43,10 @@ loop-again c =
     (omega arith, at-loop .loop .inv .1, laid-more _ _ _ (at-loop .loop .inv .2) (omega arith) (omega arith) (c .new-value .ensures))
 
 returns : tie.Need-returns Inv-loop μ-loop
-returns c = changed-all _ _ _ _ _ (c .before .before .before .before .pre .1) (c .loop-test .left) (c .before .loop .inv .2)
+returns c = changed-all _ _ _ _ (c .before .before .before .before .pre .2) (c .loop-test .left) (c .before .loop .inv .2)
 
-pub changed-spec : {M : Type 1} → statement M
-changed-spec =
+pub new-values-spec : {M : Type 1} → statement M
+new-values-spec =
     tie.close
     (tie.spec
     Inv-loop
