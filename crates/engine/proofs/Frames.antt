@@ -8,7 +8,7 @@ use mathlib.Core.List.{List, List·Memᴰ}
 use mathlib.Core.Path.{_≡_, refl, sym, _∙_, ap, subst}
 use lib.Dec.{lit≤}
 use lib.ListN.{length}
-use Rattle.height.specs.Work.{levels, workWords}
+use Rattle.height.specs.Work.{header, levels, workWords}
 use Rattle.records.proofs.Truth.{part-few}
 use Rattle.sheet.specs.Layout.{layoutOf}
 use Rattle.sheet.specs.Check.{Accepts}
@@ -30,7 +30,7 @@ use Rattle.words.proofs.Standing.{at-unique}
 use Rattle.words.proofs.Moved.{at-kept}
 use Rattle.sheet.specs.declared.Inspection.{Inspection}
 use Rattle.sheet.specs.Inspection.{Of}
-use Rattle.engine.specs.Frames.{header, frameOf, frameAt, nodesAt, Frame, KeptFrames}
+use Rattle.engine.specs.Frames.{frameOf, frameAt, nodesAt, Frame, KeptFrames}
 
 -- where frames begin
 module _ (s : List ℕ) where

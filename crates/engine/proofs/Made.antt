@@ -6,6 +6,7 @@ use mathlib.Core.Bool.{Bool, true}
 use mathlib.Core.List.{List}
 use mathlib.Core.Option.{Option}
 use mathlib.Core.Path.{_≡_, refl, sym, _∙_, ap, subst}
+use Rattle.height.specs.Work.{header}
 use Rattle.sheet.specs.Layout.{programsIn}
 use Rattle.sheet.specs.Check.{Accepts}
 use Rattle.sheet.specs.declared.Layout.{Layout}
@@ -23,7 +24,7 @@ use Rattle.steps.specs.declared.Turn.the-variants as turn
 use Rattle.steps.proofs.Nth.{nth-member}
 use Rattle.engine.specs.Tables.{truthsAt, finalsAt, countsAt, Surveyed}
 use Rattle.sheet.specs.Inspection.{Of}
-use Rattle.engine.specs.Frames.{header, frameOf, frameAt, nodesAt, KeptFrames}
+use Rattle.engine.specs.Frames.{frameOf, frameAt, nodesAt, KeptFrames}
 use Rattle.engine.specs.Going.{Known, IsAction, moveOf, MakesNext, CanGoOn}
 use Rattle.sheet.specs.declared.Inspection.{Inspection}
 use Rattle.engine.specs.Turns.{Turns}

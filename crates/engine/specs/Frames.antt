@@ -4,7 +4,7 @@ use Prim.Native.Nat.{ℕ, _+_, _*_, _^_, _≤_, _<_}
 use mathlib.Core.Path.{_≡_}
 use mathlib.Core.List.{List}
 use lib.ListN.{length}
-use Rattle.height.specs.Work.{frameWords}
+use Rattle.height.specs.Work.{header, frameWords}
 use Rattle.golog.specs.Prog.{Prog}
 use Rattle.remaining.specs.Rest.{Rest, unfolded, nodes, high}
 use Rattle.demands.specs.Decoded.{boundOf}
@@ -12,10 +12,6 @@ use Rattle.demands.specs.Compact.{extendedRecords, levelsOf}
 use Rattle.words.specs.Words.{At, Kept}
 use Rattle.ends.specs.Ends.{InTable}
 use Rattle.engine.specs.Tables.{extendedSizeOf}
-
--- the words before a frame's nodes (document 01's 64)
-abbrev pub header : ℕ
-header = 64
 
 -- the words of a frame of a sheet
 abbrev pub frameOf : List ℕ → ℕ

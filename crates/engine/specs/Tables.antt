@@ -11,6 +11,7 @@ use Rattle.golog.specs.declared.State.{State}
 use Rattle.demands.specs.Decoded.{worldOf, interruptsIn}
 use Rattle.demands.specs.Compact.{extendedRecords}
 use Rattle.state.specs.Truths.{AreTruths}
+use Rattle.remaining.specs.Extended.{mostRecords}
 use Rattle.leaves.specs.Tallies.{extendedSize, finalsOf}
 use Rattle.leaves.specs.Endable.{Endable, Skips, FinalsKnown}
 use Rattle.steps.specs.Laid.{sourcesOf}
@@ -33,39 +34,49 @@ sets = 8
 abbrev pub setOf : ℕ → ℕ
 setOf d = d % sets
 
--- flags: whether each of 260 records may be final in some state; then for each set what the 512 formulas say and whether each record is
--- final
+-- the formulas that a sheet may have
+abbrev pub mostFormulas : ℕ
+mostFormulas = 512
+
+-- the flags of a set: what each formula says, and whether each record is final
+abbrev pub setFlags : ℕ
+setFlags = 772
+
+-- flags: whether each record may be final in some state; then those of each set
 abbrev pub flagPlaces : ℕ
 flagPlaces = 6436
 
 abbrev pub endableIn : List Bool → List Bool
-endableIn flags = take 260 flags
+endableIn flags = take mostRecords flags
 
 abbrev pub truthsFrom : (d : ℕ) → ℕ
-truthsFrom d = 260 + 772 * setOf d
+truthsFrom d = mostRecords + setFlags * setOf d
 
 abbrev pub finalsFrom : (d : ℕ) → ℕ
-finalsFrom d = 772 + 772 * setOf d
+finalsFrom d = mostRecords + mostFormulas + setFlags * setOf d
 
 abbrev pub truthsAt : (d : ℕ) → List Bool → List Bool
-truthsAt d flags = window (truthsFrom d) 512 flags
+truthsAt d flags = window (truthsFrom d) mostFormulas flags
 
 abbrev pub finalsAt : (d : ℕ) → List Bool → List Bool
-finalsAt d flags = window (finalsFrom d) 260 flags
+finalsAt d flags = window (finalsFrom d) mostRecords flags
 
--- numbers: from each of 261 places on, the first record whose finality depends on the state; then for each set how many transitions each
--- of 260 records has
+-- from how many places on a record is skipped to
+abbrev pub skipPlaces : ℕ
+skipPlaces = 261
+
+-- numbers: from each place on, the first record whose finality depends on the state; then for each set how many transitions each record has
 abbrev pub numberPlaces : ℕ
 numberPlaces = 2341
 
 abbrev pub skipsIn : List ℕ → List ℕ
-skipsIn numbers = take 261 numbers
+skipsIn numbers = take skipPlaces numbers
 
 abbrev pub countsFrom : (d : ℕ) → ℕ
-countsFrom d = 261 + 260 * setOf d
+countsFrom d = skipPlaces + mostRecords * setOf d
 
 abbrev pub countsAt : (d : ℕ) → List ℕ → List ℕ
-countsAt d numbers = window (countsFrom d) 260 numbers
+countsAt d numbers = window (countsFrom d) mostRecords numbers
 
 -- the records of a sheet that run
 abbrev pub extendedSizeOf : List ℕ → ℕ

@@ -1,12 +1,13 @@
 -- The transition at a cursor, laid out in words. The engine's own vocabulary. Assumes nothing.
 use Prim.Native.Nat.{ℕ, _+_}
 use mathlib.Core.List.{List}
+use Rattle.height.specs.Work.{header}
 use Rattle.golog.specs.declared.State.{State}
 use Rattle.demands.specs.Decoded.{worldOf}
 use Rattle.demands.specs.Compact.{extendedRecords}
 use Rattle.steps.specs.Stepped.{Stepped}
 use Rattle.steps.specs.declared.Turn.{Turn}
-use Rattle.engine.specs.Frames.{frameOf, frameAt, header}
+use Rattle.engine.specs.Frames.{frameOf, frameAt}
 use Rattle.engine.specs.Going.{CanGoOn}
 use Rattle.engine.specs.declared.Cursor.{Cursor}
 

@@ -16,13 +16,13 @@ ghost use Rattle.golog.specs.Transitions.{Configuration, Transition, isNone};
 ghost use Rattle.golog.specs.declared.State.{State};
 ghost use Rattle.demands.specs.Decoded.{worldOf, startingWith, initialOf, firstOf, boundOf};
 ghost use Rattle.remaining.specs.Rest.{Rest, AllLower};
-ghost use Rattle.remaining.specs.Extended.{extended, top};
+ghost use Rattle.remaining.specs.Extended.{mostRecords, extended, top};
 ghost use Rattle.leaves.specs.Tallies.{extendedSize};
 ghost use Rattle.leaves.specs.Endable.{Skips, FinalsKnown};
 ghost use Rattle.words.specs.Words.{At, Stands};
 ghost use Rattle.ends.specs.Ends.{Totalled};
 ghost use Rattle.state.specs.Truths.{AreTruths};
-ghost use Rattle.engine.specs.Tables.{window, Only, flagPlaces, endableIn, truthsFrom, finalsAt, numberPlaces, countsFrom, countsAt, Prepared, Judged, Surveyed, Filled};
+ghost use Rattle.engine.specs.Tables.{window, Only, mostFormulas, setFlags, flagPlaces, endableIn, truthsFrom, finalsAt, numberPlaces, countsFrom, countsAt, Prepared, Judged, Surveyed, Filled};
 ghost use Rattle.engine.specs.Frames.{Frame};
 ghost use Rattle.engine.specs.Going.{isFinal, Ahead, Tells, Known, IsAction, moveOf, CanGoOn, GoesOn};
 ghost use Rattle.engine.specs.Turns.{Turns};
@@ -36,23 +36,13 @@ use steps::Turn;
 // The code of a transition that is no move, above every entry of a history.
 const TEST: u32 = 65536;
 
-// The words of a frame before its nodes.
-pub const HEADER: usize = 64;
-
-// Places of the tables: formulas, records that run, and the records from each of which on one is skipped to.
-const FORMULAS: usize = 512;
-
-const RECORDS: usize = 260;
-
-const SKIPS: usize = 261;
-
 // How many sets of tables there are: those for a depth stand until a configuration so much deeper is surveyed.
 pub const SETS: usize = 8;
 
 // The places of the two slices that hold the tables.
-pub const FLAGS: usize = RECORDS + SETS * (FORMULAS + RECORDS);
+pub const FLAGS: usize = leaves::RECORDS + SETS * (sheet::MOST_FORMULAS + leaves::RECORDS);
 
-pub const NUMBERS: usize = SKIPS + SETS * RECORDS;
+pub const NUMBERS: usize = leaves::SKIPS + SETS * leaves::RECORDS;
 
 // How far the transitions of a configuration have been gone through: the number of the next one, and how many there are.
 pub struct Cursor {
@@ -114,7 +104,7 @@ pub fn initial_of(s: &[u8], found: Inspection) -> State
 // The record that runs, of n records.
 fn top_of(n: usize, interrupts: bool) -> usize
     requires { ⌜ (1 ≤ n) × (n ≤ 256) ⌝ }
-    ensures { λ r. ⌜ (r ≡ top interrupts n) × (r < 260) ⌝ }
+    ensures { λ r. ⌜ (r ≡ top interrupts n) × (r < mostRecords) ⌝ }
 {
     if interrupts { n + 3 } else { n - 1 }
 }
@@ -126,7 +116,7 @@ pub fn put_first(work: &mut [u32], s: &[u8], found: Inspection)
     ensures { λ _. ⌜ length (now (work .exit)) ≡ length (now (work .entry)) ⌝ }
 {
     let l = found.layout;
-    words::put_node(work, HEADER, 1, top_of(l.p, found.interrupts), 1);
+    words::put_node(work, height::HEADER, 1, top_of(l.p, found.interrupts), 1);
 }
 
 // Makes one table the same as another.
@@ -163,31 +153,31 @@ pub fn prepare(flags: &mut [bool], numbers: &mut [u32], s: &[u8], found: Inspect
     let t = &s[a..b];
     let endable = leaves::bounds(t, l.p, found.interrupts, true);
     let skips = leaves::skips(t, l.p, found.interrupts, &endable);
-    copy_flags(&mut flags[..RECORDS], &endable);
-    copy_numbers(&mut numbers[..SKIPS], &skips);
+    copy_flags(&mut flags[..leaves::RECORDS], &endable);
+    copy_numbers(&mut numbers[..leaves::SKIPS], &skips);
 }
 
 // Where the tables for depth d begin: among the flags what the formulas say, and behind it which records are final.
 fn flags_from(d: usize) -> usize
-    ensures { λ r. ⌜ (r ≡ truthsFrom d) × (r + 772 ≤ flagPlaces) ⌝ }
+    ensures { λ r. ⌜ (r ≡ truthsFrom d) × (r + setFlags ≤ flagPlaces) ⌝ }
 {
-    RECORDS + (FORMULAS + RECORDS) * (d % SETS)
+    leaves::RECORDS + (sheet::MOST_FORMULAS + leaves::RECORDS) * (d % SETS)
 }
 
 // Among the numbers how many transitions each record has.
 fn counts_from(d: usize) -> usize
-    ensures { λ r. ⌜ (r ≡ countsFrom d) × (r + 260 ≤ numberPlaces) ⌝ }
+    ensures { λ r. ⌜ (r ≡ countsFrom d) × (r + mostRecords ≤ numberPlaces) ⌝ }
 {
-    SKIPS + RECORDS * (d % SETS)
+    leaves::SKIPS + leaves::RECORDS * (d % SETS)
 }
 
 // Takes over for every record whether it may be final: so it is final, unless that depends on the state.
 fn settle(flags: &mut [bool], to: usize)
-    requires { ⌜ (260 ≤ to) × (to + 260 ≤ length (now flags)) ⌝ }
-    ensures { λ _. ⌜ Only to 260 (now (flags .entry)) (now (flags .exit)) × (window to 260 (now (flags .exit)) ≡ endableIn (now (flags .entry))) ⌝ }
+    requires { ⌜ (mostRecords ≤ to) × (to + mostRecords ≤ length (now flags)) ⌝ }
+    ensures { λ _. ⌜ Only to mostRecords (now (flags .entry)) (now (flags .exit)) × (window to mostRecords (now (flags .exit)) ≡ endableIn (now (flags .entry))) ⌝ }
 {
     let mut i = 0;
-    while i < RECORDS {
+    while i < leaves::RECORDS {
         flags[to + i] = flags[i];
         i += 1;
     }
@@ -195,11 +185,11 @@ fn settle(flags: &mut [bool], to: usize)
 
 // Whether a record is final, by the tables that begin at `from`: what the formulas say, and what is told of lower records.
 fn final_by(flags: &[bool], from: usize, r: Program, running: bool) -> bool
-    requires { ⌜ «from» + 772 ≤ length (now flags) ⌝ }
-    ensures { λ f. ⌜ f ≡ finalBy r (window «from» 512 (now (flags .entry))) running (window («from» + 512) 260 (now (flags .entry))) ⌝ }
+    requires { ⌜ «from» + setFlags ≤ length (now flags) ⌝ }
+    ensures { λ f. ⌜ f ≡ finalBy r (window «from» mostFormulas (now (flags .entry))) running (window («from» + mostFormulas) mostRecords (now (flags .entry))) ⌝ }
 {
-    let middle = from + FORMULAS;
-    let end = middle + RECORDS;
+    let middle = from + sheet::MOST_FORMULAS;
+    let end = middle + leaves::RECORDS;
     let truths = &flags[from..middle];
     let finals = &flags[middle..end];
     kinds::programs::final_by(r, truths, running, finals)
@@ -215,18 +205,18 @@ fn mark_finals(
     skips: &[u32],
     running: bool,
 )
-    requires { ⌜ ProgramTable (now programs) n × («from» + 772 ≤ length (now flags)) ⌝ }
+    requires { ⌜ ProgramTable (now programs) n × («from» + setFlags ≤ length (now flags)) ⌝ }
     requires { ⌜ AllLower (extended interrupts (programAt (now programs)) n)
-        × Skips (extended interrupts (programAt (now programs)) n) (extendedSize interrupts n) (window («from» + 512) 260 (now flags)) (now skips) ⌝ }
-    ensures { λ _. ⌜ FinalsKnown (extended interrupts (programAt (now (programs .entry))) n) (extendedSize interrupts n) (window «from» 512 (now (flags .exit))) running
-        (window («from» + 512) 260 (now (flags .exit))) ⌝ }
-    ensures { λ _. ⌜ Only («from» + 512) 260 (now (flags .entry)) (now (flags .exit)) ⌝ }
-    ensures { λ _. ⌜ ((i : ℕ) → extendedSize interrupts n ≤ i → getD (window («from» + 512) 260 (now (flags .exit))) i true
-        ≡ getD (window («from» + 512) 260 (now (flags .entry))) i true) ⌝ }
+        × Skips (extended interrupts (programAt (now programs)) n) (extendedSize interrupts n) (window («from» + mostFormulas) mostRecords (now flags)) (now skips) ⌝ }
+    ensures { λ _. ⌜ FinalsKnown (extended interrupts (programAt (now (programs .entry))) n) (extendedSize interrupts n) (window «from» mostFormulas (now (flags .exit))) running
+        (window («from» + mostFormulas) mostRecords (now (flags .exit))) ⌝ }
+    ensures { λ _. ⌜ Only («from» + mostFormulas) mostRecords (now (flags .entry)) (now (flags .exit)) ⌝ }
+    ensures { λ _. ⌜ ((i : ℕ) → extendedSize interrupts n ≤ i → getD (window («from» + mostFormulas) mostRecords (now (flags .exit))) i true
+        ≡ getD (window («from» + mostFormulas) mostRecords (now (flags .entry))) i true) ⌝ }
 {
     let size = leaves::places_of(n, interrupts);
     let none = size as u32;
-    let to = from + FORMULAS;
+    let to = from + sheet::MOST_FORMULAS;
     let mut i = records::wide32(records::number_in(skips, 0, none));
     while i < size {
         let r = leaves::record_at(programs, n, interrupts, i);
@@ -240,7 +230,7 @@ fn mark_finals(
 fn judge(flags: &mut [bool], numbers: &[u32], s: &[u8], found: Inspection, st: State, d: usize)
     requires { ⌜ Of (now s) found × Prepared (now s) (now flags) (now numbers) ⌝ }
     ensures { λ _. ⌜ Judged (now (s .entry)) st d (now (flags .exit)) (now (numbers .entry)) ⌝ }
-    ensures { λ _. ⌜ Only (truthsFrom d) 772 (now (flags .entry)) (now (flags .exit)) ⌝ }
+    ensures { λ _. ⌜ Only (truthsFrom d) setFlags (now (flags .entry)) (now (flags .exit)) ⌝ }
 {
     let l = found.layout;
     let formulas = l.formulas;
@@ -248,7 +238,7 @@ fn judge(flags: &mut [bool], numbers: &[u32], s: &[u8], found: Inspection, st: S
     let programs = l.programs;
     let end = l.end;
     let from = flags_from(d);
-    let to = from + FORMULAS;
+    let to = from + sheet::MOST_FORMULAS;
     state::fill_truths(&s[formulas..effects], l.q, st, &mut flags[from..to]);
     settle(flags, to);
     mark_finals(
@@ -257,7 +247,7 @@ fn judge(flags: &mut [bool], numbers: &[u32], s: &[u8], found: Inspection, st: S
         &s[programs..end],
         l.p,
         found.interrupts,
-        &numbers[..SKIPS],
+        &numbers[..leaves::SKIPS],
         st.running,
     );
 }
@@ -279,26 +269,26 @@ pub fn is_final(
     ensures { λ _. ⌜ Filled d d (now (flags .entry)) (now (flags .exit)) (now (numbers .entry)) (now (numbers .entry)) ⌝ }
 {
     judge(flags, numbers, s, found, st, d);
-    let from = flags_from(d) + FORMULAS;
-    let to = from + RECORDS;
-    ends::final_rest(&flags[from..to], work, d * found.frame + HEADER)
+    let from = flags_from(d) + sheet::MOST_FORMULAS;
+    let to = from + leaves::RECORDS;
+    ends::final_rest(&flags[from..to], work, d * found.frame + height::HEADER)
 }
 
 // Fills in how many transitions each record has in a state, in the tables for depth d.
 fn tally(numbers: &mut [u32], flags: &[bool], s: &[u8], found: Inspection, st: State, d: usize)
     requires { ⌜ Of (now s) found × Judged (now s) st d (now flags) (now numbers) ⌝ }
     ensures { λ _. ⌜ Surveyed (now (s .entry)) st d (now (flags .entry)) (now (numbers .exit)) ⌝ }
-    ensures { λ _. ⌜ Only (countsFrom d) 260 (now (numbers .entry)) (now (numbers .exit)) ⌝ }
+    ensures { λ _. ⌜ Only (countsFrom d) mostRecords (now (numbers .entry)) (now (numbers .exit)) ⌝ }
 {
     let l = found.layout;
     let actions = l.actions;
     let programs = l.programs;
     let end = l.end;
     let from = flags_from(d);
-    let middle = from + FORMULAS;
-    let to = middle + RECORDS;
+    let middle = from + sheet::MOST_FORMULAS;
+    let to = middle + leaves::RECORDS;
     let first = counts_from(d);
-    let last = first + RECORDS;
+    let last = first + leaves::RECORDS;
     leaves::tallies(
         &mut numbers[first..last],
         &s[programs..end],
@@ -316,13 +306,13 @@ fn total(flags: &[bool], numbers: &[u32], work: &[u32], d: usize, at: usize) -> 
     requires { ⌜ (length (now flags) ≡ flagPlaces) × (length (now numbers) ≡ numberPlaces) × Stands (now work) at × (length (now work) < 2 ^ 32) ⌝ }
     ensures { λ r. ⌜ ((g : Rest) → At g (now (work .entry)) at → Totalled (finalsAt d (now (flags .entry))) (endableIn (now (flags .entry))) (countsAt d (now (numbers .entry))) g r) ⌝ }
 {
-    let from = flags_from(d) + FORMULAS;
-    let to = from + RECORDS;
+    let from = flags_from(d) + sheet::MOST_FORMULAS;
+    let to = from + leaves::RECORDS;
     let first = counts_from(d);
-    let last = first + RECORDS;
+    let last = first + leaves::RECORDS;
     ends::total_rest(
         &flags[from..to],
-        &flags[..RECORDS],
+        &flags[..leaves::RECORDS],
         &numbers[first..last],
         work,
         at,
@@ -347,7 +337,7 @@ pub fn survey(
 {
     judge(flags, numbers, s, found, st, d);
     tally(numbers, flags, s, found, st, d);
-    let x = total(flags, numbers, work, d, d * found.frame + HEADER);
+    let x = total(flags, numbers, work, d, d * found.frame + height::HEADER);
     Findings {
         done: x.done,
         soon: x.soon,
@@ -411,11 +401,11 @@ fn lay_next(
         running: st.running,
     };
     let from = flags_from(d);
-    let middle = from + FORMULAS;
-    let to = middle + RECORDS;
+    let middle = from + sheet::MOST_FORMULAS;
+    let to = middle + leaves::RECORDS;
     let first = counts_from(d);
-    let last = first + RECORDS;
-    let at = d * found.frame + HEADER;
+    let last = first + leaves::RECORDS;
+    let at = d * found.frame + height::HEADER;
     steps::step_rest(
         &s[programs..end],
         v,
@@ -463,7 +453,7 @@ pub fn next(
         return none_made(st, k);
     };
     let from = flags_from(d);
-    let to = from + FORMULAS;
+    let to = from + sheet::MOST_FORMULAS;
     let state = state_after(s, found, &flags[from..to], entry, st);
     Taken {
         made: true,

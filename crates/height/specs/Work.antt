@@ -25,9 +25,13 @@ pub record FrameLimits (h d : ℕ) : Type 0 where
   pub levels : h ≤ 18
   pub bound : d ≤ 64
 
--- the words of one frame: a header of 64 and three for each node of a remaining program
+-- the words before a frame's nodes
+abbrev pub header : ℕ
+header = 64
+
+-- the words of one frame: a header, and three for each node of a remaining program
 abbrev pub frameWords : (h d : ℕ) → ℕ
-frameWords h d = 64 + 3 * (1 + 2 * h * d)
+frameWords h d = header + 3 * (1 + 2 * h * d)
 
 -- u32 words that planning and replay require
 abbrev pub workWords : (h d : ℕ) → ℕ

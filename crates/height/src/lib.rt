@@ -9,6 +9,9 @@ ghost use Rattle.height.specs.Height.{heightOver, heightOf, plain, inter
 ghost use Rattle.height.specs.Work.{FrameLimits, frameWords};
 use records::Program;
 
+// The words of a frame before its nodes.
+pub const HEADER: usize = 64;
+
 fn larger(a: u32, b: u32) -> u32
     ensures { λ r. ⌜ r ≡ max a b ⌝ }
 {
@@ -89,7 +92,7 @@ pub fn frame_words(h: usize, d: usize) -> usize
     requires { ⌜ FrameLimits h d ⌝ }
     ensures { λ r. ⌜ (r ≡ frameWords h d) × (r ≤ 6979) ⌝ }
 {
-    64 + 3 * (1 + 2 * h * d)
+    HEADER + 3 * (1 + 2 * h * d)
 }
 
 // The words that planning and replay require, from those of one frame.

@@ -1,6 +1,6 @@
 -- Which records may be final in some state, and which are in every one: what can be told without looking at one, so that only the
 -- others are looked at in each. Assumes nothing.
-use Prim.Native.Nat.{ℕ, _-_, _≤_, _<_}
+use Prim.Native.Nat.{ℕ, _+_, _-_, _≤_, _<_}
 use mathlib.Core.Path.{_≡_}
 use mathlib.Core.Bool.{Bool, true, false, not, _&&_}
 use mathlib.Core.List.{List, _++_}
@@ -11,6 +11,7 @@ use Rattle.records.specs.Lowest.{lowestFrom}
 use Rattle.kinds.specs.Programs.{finalBoundBy}
 use Rattle.golog.specs.declared.State.{State}
 use Rattle.golog.specs.World.{World}
+use Rattle.remaining.specs.Extended.{mostRecords}
 use Rattle.remaining.specs.Leaves.{leafOf}
 use Rattle.leaves.specs.Tallies.{Sees}
 
@@ -29,7 +30,7 @@ finalBoundAt most p i lower = finalBoundBy (p i) most lower
 -- the table of the first m records of p, and in the places after them what nil is. With `most` it is `Endable`, without it is `Sure`
 -- (proofs/Marking.antt)
 unfoldable pub finalBoundsOf : (most : Bool) (p : ℕ → Program) (m : ℕ) → List Bool
-finalBoundsOf most p m = upTo (finalBoundAt most p) m ++ replicate (260 - m) true
+finalBoundsOf most p m = upTo (finalBoundAt most p) m ++ replicate (mostRecords - m) true
 
 -- record i is as final as `endable` says, in every state
 abbrev pub Settled : (p : ℕ → Program) (endable : List Bool) (i : ℕ) → Type 0
@@ -51,7 +52,7 @@ skipFrom endable sure m i = lowestFrom (λ (a : ℕ). not (doubtBy endable sure 
 -- so for each of the first m records of p, and m in the places after them. Where `endable` is `Endable`, these are `Skips`
 -- (proofs/Skipping.antt)
 unfoldable pub skipsOf : (p : ℕ → Program) (m : ℕ) (endable : List Bool) → List ℕ
-skipsOf p m endable = upTo (λ (i : ℕ) (lower : List ℕ). skipFrom endable (finalBoundsOf false p m) m i) m ++ replicate (261 - m) m
+skipsOf p m endable = upTo (λ (i : ℕ) (lower : List ℕ). skipFrom endable (finalBoundsOf false p m) m i) m ++ replicate (mostRecords + 1 - m) m
 
 -- the table says of each of the first m records whether it is final in the state s; places after them are left open
 abbrev pub AreFinal : World → State → (p : ℕ → Program) (m : ℕ) (finals : List Bool) → Type 0

@@ -12,6 +12,7 @@ use Rattle.kinds.specs.Programs.{hasCondition, acts, tests}
 use Rattle.golog.specs.declared.State.{State}
 use Rattle.golog.specs.World.{World, holds, possible}
 use Rattle.state.specs.Ranges.{InActions}
+use Rattle.remaining.specs.Extended.{mostRecords}
 use Rattle.remaining.specs.Leaves.{Leaf, leafAt}
 
 -- counts end here: a record that the root does not reach may be of any height, and so have more transitions than a number holds
@@ -28,11 +29,11 @@ extendedSize interrupts n = n + cond interrupts 4 0
 
 -- whether each of the first m records of p is final, and in the places after them what nil is
 unfoldable pub finalsOf : World → State → (ℕ → Program) → (m : ℕ) → List Bool
-finalsOf W s p m = map (λ (l : Leaf). l .final) (upTo (leafAt W s p) m) ++ replicate (260 - m) true
+finalsOf W s p m = map (λ (l : Leaf). l .final) (upTo (leafAt W s p) m) ++ replicate (mostRecords - m) true
 
 -- how many transitions each of them has
 unfoldable pub countsOf : World → State → (ℕ → Program) → (m : ℕ) → List ℕ
-countsOf W s p m = map cappedCount (upTo (leafAt W s p) m) ++ replicate (260 - m) 0
+countsOf W s p m = map cappedCount (upTo (leafAt W s p) m) ++ replicate (mostRecords - m) 0
 
 -- the action of a record that performs one is start, stop or in the table
 abbrev pub ReadsActions : (actions : List ℕ) → (ℕ → Program) → Type 0

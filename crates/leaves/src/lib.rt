@@ -8,12 +8,21 @@ ghost use lib.ListN.{length, getD};
 ghost use Rattle.records.specs.Records.{programAt, TwoBytes, ProgramTable};
 ghost use Rattle.kinds.specs.Programs.{acts, countBy};
 ghost use Rattle.remaining.specs.Rest.{AllLower};
-ghost use Rattle.remaining.specs.Extended.{empty, virtual, extended};
+ghost use Rattle.remaining.specs.Extended.{mostRecords, empty, virtual, extended};
 ghost use Rattle.state.specs.Truths.{possibleIn};
 ghost use Rattle.state.specs.Ranges.{InActions};
 ghost use Rattle.leaves.specs.Tallies.{cap, extendedSize, ReadsActions, Tallied};
 ghost use Rattle.leaves.specs.Endable.{finalBoundsOf, doubtBy, skipsOf, FinalsKnown};
 use records::Program;
+
+// How many program records can run: those of a sheet, and four more.
+pub const RECORDS: usize = 260;
+
+// The places from which on one is skipped to: each record, and behind them.
+pub const SKIPS: usize = 261;
+
+// Counts end here.
+const CAP: u64 = 1000000;
 
 // The records above the first n, where there are interrupts.
 fn virtual_at(n: usize, k: usize) -> Program
@@ -24,13 +33,13 @@ fn virtual_at(n: usize, k: usize) -> Program
     match k {
         0 => Program {
             kind: 1,
-            a: 65534,
+            a: golog::START,
             b: 0,
             c: 0,
         },
         1 => Program {
             kind: 1,
-            a: 65535,
+            a: golog::STOP,
             b: 0,
             c: 0,
         },
@@ -78,7 +87,7 @@ pub fn record_at(programs: &[u8], n: usize, interrupts: bool, i: usize) -> Progr
 fn capped(n: u64) -> u32
     ensures { λ r. ⌜ r ≡ min cap n ⌝ }
 {
-    if n < 1000000 { n as u32 } else { 1000000 }
+    if n < CAP { n as u32 } else { CAP as u32 }
 }
 
 // Whether a record performs an action, and one that is possible.
@@ -109,7 +118,7 @@ fn count_at(
 
 pub fn places_of(n: usize, interrupts: bool) -> usize
     requires { ⌜ n ≤ 256 ⌝ }
-    ensures { λ r. ⌜ (r ≡ extendedSize interrupts n) × (r ≤ 260) ⌝ }
+    ensures { λ r. ⌜ (r ≡ extendedSize interrupts n) × (r ≤ mostRecords) ⌝ }
 {
     if interrupts { n + 4 } else { n }
 }
@@ -126,12 +135,12 @@ pub fn tallies(
     running: bool,
     finals: &[bool],
 )
-    requires { ⌜ ProgramTable (now programs) n × (length (now counts) ≡ 260) ⌝ }
+    requires { ⌜ ProgramTable (now programs) n × (length (now counts) ≡ mostRecords) ⌝ }
     requires { ⌜ AllLower (extended interrupts (programAt (now programs)) n) × ReadsActions (now actions) (extended interrupts (programAt (now programs)) n)
         × FinalsKnown (extended interrupts (programAt (now programs)) n) (extendedSize interrupts n) (now truths) running (now finals) ⌝ }
     ensures { λ _. ⌜ Tallied (extended interrupts (programAt (now (programs .entry))) n) (extendedSize interrupts n) (now (truths .entry))
         (possibleIn (now (actions .entry)) (now (truths .entry))) running (now (counts .entry)) (now (counts .exit)) ⌝ }
-    ensures { λ _. ⌜ length (now (counts .exit)) ≡ 260 ⌝ }
+    ensures { λ _. ⌜ length (now (counts .exit)) ≡ mostRecords ⌝ }
 {
     let m = places_of(n, interrupts);
     let mut i = 0;
@@ -144,12 +153,12 @@ pub fn tallies(
 }
 
 // With `most`, which records of the table that runs may be final in some state; without, which are in every one.
-pub fn bounds(programs: &[u8], n: usize, interrupts: bool, most: bool) -> [bool; 260]
+pub fn bounds(programs: &[u8], n: usize, interrupts: bool, most: bool) -> [bool; RECORDS]
     requires { ⌜ ProgramTable (now programs) n ⌝ }
     ensures { λ r. ⌜ r ≡ finalBoundsOf most (extended interrupts (programAt (now (programs .entry))) n) (extendedSize interrupts n) ⌝ }
 {
     let m = places_of(n, interrupts);
-    let mut marks = [true; 260];
+    let mut marks = [true; RECORDS];
     let mut i = 0;
     while i < m {
         let r = record_at(programs, n, interrupts, i);
@@ -168,13 +177,13 @@ fn doubt_at(endable: &[bool], sure: &[bool], i: usize) -> bool
 }
 
 // From each record on, the first whose finality depends on the state, where `endable` has those that may be final in some.
-pub fn skips(programs: &[u8], n: usize, interrupts: bool, endable: &[bool]) -> [u32; 261]
+pub fn skips(programs: &[u8], n: usize, interrupts: bool, endable: &[bool]) -> [u32; SKIPS]
     requires { ⌜ ProgramTable (now programs) n ⌝ }
     ensures { λ r. ⌜ r ≡ skipsOf (extended interrupts (programAt (now (programs .entry))) n) (extendedSize interrupts n) (now (endable .entry)) ⌝ }
 {
     let m = places_of(n, interrupts);
     let sure = bounds(programs, n, interrupts, false);
-    let mut skips = [m as u32; 261];
+    let mut skips = [m as u32; SKIPS];
     let mut first = m as u32;
     let mut i = m;
     while 0 < i {

@@ -39,14 +39,14 @@ pub enum Sized {
 
 // Checks a sheet: the words of work that planning and replay require, or a number and a place.
 pub fn check(s: &[u8]) -> Checked
-    ensures { λ r. ⌜ r ≡ checkOf (now (s .entry)) ⌝ }
+    ensures answer { λ r. ⌜ r ≡ checkOf (now (s .entry)) ⌝ }
 {
     sheet::check(s)
 }
 
 // How many fluents a sheet has, and its bound: so many entries of trace are enough for planning.
 pub fn sizes(s: &[u8]) -> Sized
-    ensures { λ r. ⌜ r ≡ sizesOf (now (s .entry)) ⌝ }
+    ensures answer { λ r. ⌜ r ≡ sizesOf (now (s .entry)) ⌝ }
 {
     match sheet::inspect(s) {
         Inspected::Accepted { found } => {
@@ -62,17 +62,17 @@ pub fn sizes(s: &[u8]) -> Sized
 
 // The notes of a sheet: the caller's own bytes ahead of the first record; under a number, the empty part at the slice's start.
 pub fn notes<'a>(s: &'a [u8], number: &mut u32, place: &mut usize) -> &'a [u8]
-    ensures { λ r. ⌜ now r ≡ notesOf (now (s .entry)) ⌝ }
-    ensures { λ r. ⌜ ptr r ≡ ptr (s .entry) ⌝ }
-    ensures { λ r. ⌜ now (number .exit) ≡ numberOf (checkOf (now (s .entry))) ⌝ }
-    ensures { λ r. ⌜ now (place .exit) ≡ placeOf (checkOf (now (s .entry))) ⌝ }
+    ensures answer { λ r. ⌜ now r ≡ notesOf (now (s .entry)) ⌝ }
+    ensures borrowed { λ r. ⌜ ptr r ≡ ptr (s .entry) ⌝ }
+    ensures number { λ _. ⌜ now (number .exit) ≡ numberOf (checkOf (now (s .entry))) ⌝ }
+    ensures place { λ _. ⌜ now (place .exit) ≡ placeOf (checkOf (now (s .entry))) ⌝ }
 {
     sheet::notes(s, number, place)
 }
 
 // Fluent x of a sheet: its domain size and initial value, or a number and a place.
 pub fn look_up(s: &[u8], x: usize) -> Looked
-    ensures { λ r. ⌜ r ≡ lookOf (now (s .entry)) x ⌝ }
+    ensures answer { λ r. ⌜ r ≡ lookOf (now (s .entry)) x ⌝ }
 {
     view::look_up(s, x)
 }
@@ -110,9 +110,9 @@ fn reply_of(o: Outcome) -> Replayed
 // Plans on a sheet of which so much was found.
 fn plan_found(s: &[u8], found: Inspection, work: &mut [u32], trace: &mut [u16]) -> Planned
     requires { ⌜ Of (now s) found ⌝ }
-    ensures { λ r. ⌜ r ≡ answerOf (now (s .entry)) (length (now (work .entry))) (length (now (trace .entry))) ⌝ }
-    ensures { λ _. ⌜ now (trace .exit) ≡ traceOf (now (s .entry)) (length (now (work .entry))) (now (trace .entry)) ⌝ }
-    ensures { λ _. ⌜ now (work .exit) ≡ planWork (now (s .entry)) (now (work .entry)) (length (now (trace .entry))) ⌝ }
+    ensures answer { λ r. ⌜ r ≡ answerOf (now (s .entry)) (length (now (work .entry))) (length (now (trace .entry))) ⌝ }
+    ensures trace { λ _. ⌜ now (trace .exit) ≡ traceOf (now (s .entry)) (length (now (work .entry))) (now (trace .entry)) ⌝ }
+    ensures work { λ _. ⌜ now (work .exit) ≡ planWork (now (s .entry)) (now (work .entry)) (length (now (trace .entry))) ⌝ }
 {
     let l = found.layout;
     let d = l.d;
@@ -129,9 +129,9 @@ fn plan_found(s: &[u8], found: Inspection, work: &mut [u32], trace: &mut [u16]) 
 
 // Plans: a history of moves that some run of at most D transitions makes and that ends final, or why there is none.
 pub fn plan(s: &[u8], work: &mut [u32], trace: &mut [u16]) -> Planned
-    ensures { λ r. ⌜ r ≡ answerOf (now (s .entry)) (length (now (work .entry))) (length (now (trace .entry))) ⌝ }
-    ensures { λ _. ⌜ now (trace .exit) ≡ traceOf (now (s .entry)) (length (now (work .entry))) (now (trace .entry)) ⌝ }
-    ensures { λ _. ⌜ now (work .exit) ≡ planWork (now (s .entry)) (now (work .entry)) (length (now (trace .entry))) ⌝ }
+    ensures answer { λ r. ⌜ r ≡ answerOf (now (s .entry)) (length (now (work .entry))) (length (now (trace .entry))) ⌝ }
+    ensures trace { λ _. ⌜ now (trace .exit) ≡ traceOf (now (s .entry)) (length (now (work .entry))) (now (trace .entry)) ⌝ }
+    ensures work { λ _. ⌜ now (work .exit) ≡ planWork (now (s .entry)) (now (work .entry)) (length (now (trace .entry))) ⌝ }
 {
     match sheet::inspect(s) {
         Inspected::Accepted { found } => plan_found(s, found, work, trace),
@@ -142,8 +142,8 @@ pub fn plan(s: &[u8], work: &mut [u32], trace: &mut [u16]) -> Planned
 // Replays on a sheet of which so much was found. A history of more moves than the bound is answered at once.
 fn replay_found(s: &[u8], found: Inspection, history: &[u16], work: &mut [u32]) -> Replayed
     requires { ⌜ Of (now s) found ⌝ }
-    ensures { λ r. ⌜ r ≡ replyOf (now (s .entry)) (now (history .entry)) (length (now (work .entry))) ⌝ }
-    ensures { λ _. ⌜ now (work .exit) ≡ replayWork (now (s .entry)) (now (work .entry)) ⌝ }
+    ensures answer { λ r. ⌜ r ≡ replyOf (now (s .entry)) (now (history .entry)) (length (now (work .entry))) ⌝ }
+    ensures work { λ _. ⌜ now (work .exit) ≡ replayWork (now (s .entry)) (now (work .entry)) ⌝ }
 {
     let l = found.layout;
     let d = l.d;
@@ -166,8 +166,8 @@ fn replay_found(s: &[u8], found: Inspection, history: &[u16], work: &mut [u32]) 
 
 // Replays a history: whether some run of at most D transitions makes exactly these moves and ends final.
 pub fn replay(s: &[u8], history: &[u16], work: &mut [u32]) -> Replayed
-    ensures { λ r. ⌜ r ≡ replyOf (now (s .entry)) (now (history .entry)) (length (now (work .entry))) ⌝ }
-    ensures { λ _. ⌜ now (work .exit) ≡ replayWork (now (s .entry)) (now (work .entry)) ⌝ }
+    ensures answer { λ r. ⌜ r ≡ replyOf (now (s .entry)) (now (history .entry)) (length (now (work .entry))) ⌝ }
+    ensures work { λ _. ⌜ now (work .exit) ≡ replayWork (now (s .entry)) (now (work .entry)) ⌝ }
 {
     match sheet::inspect(s) {
         Inspected::Accepted { found } => replay_found(s, found, history, work),

@@ -8,6 +8,10 @@ use lib.ListN.{getD}
 use Rattle.records.specs.declared.Program.{Program}
 use Rattle.golog.specs.World.{start, stop}
 
+-- no more records than these: the 256 that a sheet may have, and four
+abbrev pub mostRecords : ℕ
+mostRecords = 260
+
 -- a record of kind 0, nil
 abbrev pub empty : Program
 empty = record { kind = 0; a = 0; b = 0; c = 0 }

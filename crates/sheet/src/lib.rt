@@ -19,7 +19,7 @@ const MAGIC: usize = 0x5142;
 // The most fluents, formulas, effects, actions, program records and transitions that a sheet may count.
 const MOST_FLUENTS: usize = 32;
 
-const MOST_FORMULAS: usize = 512;
+pub const MOST_FORMULAS: usize = 512;
 
 const MOST_EFFECTS: usize = 512;
 

@@ -13,9 +13,6 @@ use golog::State;
 use records::Action;
 use records::Effect;
 
-// The entry of a history for start; that for stop is above it, and those of actions are below.
-const START: usize = 65534;
-
 // What formula i says, where `lower` has what the formulas before it say.
 fn truth_at(formulas: &[u8], i: usize, values: &[u8], lower: &[bool]) -> bool
     requires { ⌜ 6 * i + 6 ≤ length (now formulas) ⌝ }
@@ -45,7 +42,7 @@ pub fn possible(actions: &[u8], truths: &[bool], a: usize) -> bool
     requires { ⌜ InActions (now actions) a ⌝ }
     ensures { λ r. ⌜ r ≡ possibleIn (now (actions .entry)) (now (truths .entry)) a ⌝ }
 {
-    if START <= a {
+    if golog::START <= a {
         return true;
     }
     let r = records::action_at(actions, a);
@@ -105,10 +102,10 @@ pub fn perform(
     ensures { λ r. ⌜ r ≡ performBy (saidBy (now (truths .entry))) (effectAt (now (effects .entry))) (actionAt (now (actions .entry))) a s ⌝ }
 {
     let values = s.values;
-    if START <= a {
+    if golog::START <= a {
         return State {
             values,
-            running: a == START,
+            running: a == golog::START,
         };
     }
     let new = new_values(effects, records::action_at(actions, a), n, truths, values);

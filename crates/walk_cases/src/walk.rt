@@ -34,19 +34,19 @@ fn tell(
     numbers: &mut [u32],
     work: &[u32],
     s: &[u8],
-    m: Inspection,
+    found: Inspection,
     st: State,
     d: usize,
 ) -> Cursor
-    requires { ⌜ Of (now s) m × Prepared (now s) (now flags) (now numbers) ⌝ }
+    requires { ⌜ Of (now s) found × Prepared (now s) (now flags) (now numbers) ⌝ }
     requires { ⌜ ((left : ℕ) × (p : Prog) × Frame (now s) left (now work) d p) ⌝ }
     ensures { λ r. ⌜ ((left : ℕ) (p : Prog) → Frame (now (s .entry)) left (now (work .entry)) d p
         → Ahead (now (s .entry)) (p, st) r (transitionsOf (now (s .entry)) (p, st))) ⌝ }
     ensures { λ _. ⌜ Surveyed (now (s .entry)) st d (now (flags .exit)) (now (numbers .exit)) ⌝ }
 {
-    let f = engine::survey(flags, numbers, work, s, m, st, d);
+    let f = engine::survey(flags, numbers, work, s, found, st, d);
     report::configuration(d, st, f);
-    let from = d * m.frame + engine::HEADER;
+    let from = d * found.frame + height::HEADER;
     report::nodes(work, from, words::size_at(work, from));
     f.first
 }
@@ -57,13 +57,13 @@ fn make(
     flags: &[bool],
     numbers: &[u32],
     s: &[u8],
-    m: Inspection,
+    found: Inspection,
     st: State,
     d: usize,
     k: Cursor,
     n: usize,
 ) -> Taken
-    requires { ⌜ Of (now s) m × Surveyed (now s) st d (now flags) (now numbers) × CanGoOn (now s) st (now work) d k ⌝ }
+    requires { ⌜ Of (now s) found × Surveyed (now s) st d (now flags) (now numbers) × CanGoOn (now s) st (now work) d k ⌝ }
     ensures { λ r. ⌜ ((g : CanGoOn (now (s .entry)) st (now (work .entry)) d k) → r .made ≡ true
         → ((p : Prog) × Frame (now (s .entry)) (g .left) (now (work .exit)) (d + 1) p)) ⌝ }
     ensures { λ _. ⌜ length (now (work .exit)) ≡ length (now (work .entry)) ⌝ }
@@ -71,14 +71,14 @@ fn make(
     let mut cursor = k;
     let mut i = 0;
     while i < n {
-        let x = engine::next(work, flags, numbers, s, m, st, d, cursor);
+        let x = engine::next(work, flags, numbers, s, found, st, d, cursor);
         if !x.made {
             return x;
         }
         cursor = x.cursor;
         i += 1;
     }
-    engine::next(work, flags, numbers, s, m, st, d, cursor)
+    engine::next(work, flags, numbers, s, found, st, d, cursor)
 }
 
 // Walks on from the configuration of frame 0 and the state, while transitions are left and there is the one chosen.
@@ -88,19 +88,19 @@ fn walk(
     numbers: &mut [u32],
     s: &[u8],
     choices: &[u8],
-    m: Inspection,
+    found: Inspection,
     first: State,
 )
-    requires { ⌜ Of (now s) m × Prepared (now s) (now flags) (now numbers) ⌝ }
+    requires { ⌜ Of (now s) found × Prepared (now s) (now flags) (now numbers) ⌝ }
     requires { ⌜ ((p : Prog) × Frame (now s) (boundOf (now s)) (now work) 0 p) ⌝ }
 {
-    let l = m.layout;
+    let l = found.layout;
     let mut st = first;
     let mut d = 0;
     while d < l.d {
-        let k = tell(flags, numbers, work, s, m, st, d);
+        let k = tell(flags, numbers, work, s, found, st, d);
         let n = choice(choices, d);
-        let x = make(work, flags, numbers, s, m, st, d, k, n);
+        let x = make(work, flags, numbers, s, found, st, d, k, n);
         if !x.made {
             return;
         }
@@ -108,7 +108,7 @@ fn walk(
         st = x.state;
         d += 1;
     }
-    tell(flags, numbers, work, s, m, st, d);
+    tell(flags, numbers, work, s, found, st, d);
 }
 
 // Walks from the first configuration of a sheet of which so much was found.

@@ -5,9 +5,9 @@ use mathlib.Core.Bool.{Bool}
 use mathlib.Core.List.{List}
 use mathlib.Core.Path.{refl, sym, _∙_, ap, subst}
 use Prim.Native.Nat.{ℕ, _+_}
+use Rattle.height.specs.Work.{header}
 use Rattle.words.specs.Words.{At, Stands}
 use Rattle.ends.specs.Ends.{finalByTable}
-use Rattle.engine.specs.Frames.{header}
 use Rattle.engine.specs.Tables.{finalsFrom}
 use Rattle.engine.proofs.Frames.{frame-by, frame-holds}
 use Rattle.engine.proofs.Tables.{filled}

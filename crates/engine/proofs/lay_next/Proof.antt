@@ -5,10 +5,11 @@ use mathlib.Core.Bool.{Bool}
 use mathlib.Core.List.{List}
 use mathlib.Core.Path.{_≡_, sym, _∙_, ap, subst}
 use Prim.Native.Nat.{ℕ, _+_}
+use Rattle.height.specs.Work.{header}
 use Rattle.sheet.specs.Layout.{programsIn}
 use Rattle.steps.specs.Laid.{sourcesOf}
 use Rattle.steps.specs.Stepped.{CanStep, StepsRest}
-use Rattle.engine.specs.Frames.{header, frameAt, frameOf, nodesAt}
+use Rattle.engine.specs.Frames.{frameAt, frameOf, nodesAt}
 use Rattle.engine.specs.Tables.{truthsFrom, finalsFrom, countsFrom, truthsAt, finalsAt, countsAt}
 use Rattle.sheet.proofs.Parts.{in-order, programs-long}
 use Rattle.sheet.proofs.Found.{in-sheet}

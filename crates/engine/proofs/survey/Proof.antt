@@ -3,8 +3,8 @@ use denote.Ref.{now}
 use native.Mathlib.Omega.{arith}
 use mathlib.Core.Path.{sym, _∙_, subst}
 use Prim.Native.Nat.{ℕ, _+_}
+use Rattle.height.specs.Work.{header}
 use Rattle.words.specs.Words.{At, Stands}
-use Rattle.engine.specs.Frames.{header}
 use Rattle.engine.proofs.Frames.{frame-by, frame-holds}
 use Rattle.engine.proofs.Tables.{filled}
 use Rattle.engine.proofs.Telling.{tells}
