@@ -1,4 +1,4 @@
--- Performing as golog has it (document 01, "Moves"), with what conditions say read from a list of truths in the old values,
+-- Own vocabulary: performing as golog has it (document 01, "Moves"), with what conditions say read from a list of truths in the old values,
 -- and actions and effects from their tables. Assumes nothing.
 use Prim.Native.Nat.{ℕ, zero, suc, _+_, _*_, _≤_, _<_}
 use mathlib.Core.Bool.{Bool, false, cond, _&&_}
