@@ -1,5 +1,5 @@
--- The thirteen worked cases of document 01 (its example of three sections) as a list of equations about whole sheets in bytes; beside
--- them further rows, for the kinds that no case has, and document 01's edges of the check. Assumes nothing.
+-- To be believed: the thirteen worked cases of document 01 (its example of three sections) as a list of equations about whole sheets in
+-- bytes; beside them further rows, for the kinds that no case has, and document 01's edges of the check. Assumes nothing.
 use Prim.Native.Nat.{ℕ, zero, suc, _+_, _*_}
 use mathlib.Core.Bool.{true, false}
 use mathlib.Core.List.{List, [], _∷_, _++_, flatten}

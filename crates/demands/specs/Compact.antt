@@ -1,5 +1,5 @@
--- A sheet's program as the engine holds it: one record, of the sheet's table or of the four above it. That it stands for what runs is
--- proved in proofs/Held.antt. Assumes nothing.
+-- To be believed: `levelsOf`, the h of the work figure. The rest is how the engine keeps a sheet's program: as one record, of the sheet's
+-- table or of the four above it; that it stands for what runs is proved in proofs/Compact.antt. Assumes nothing.
 use Prim.Native.Nat.{ℕ}
 use mathlib.Core.List.{List}
 use Rattle.records.specs.declared.Program.{Program}

@@ -1,5 +1,5 @@
--- A sheet's bytes read as a world, a program, initial values and a bound (document 01, "The sheet, read from its end" and "Moves").
--- Assumes nothing.
+-- To be believed: a sheet's bytes read as a world, a program, initial values and a bound (document 01, "The sheet, read from its end" and
+-- "Moves"). Assumes nothing.
 use Prim.Native.Nat.{ℕ, _-_}
 use mathlib.Core.Bool.{Bool, false}
 use mathlib.Core.List.{List, _++_}

@@ -1,4 +1,4 @@
--- Which entries of a history a sheet knows (document 01, "Steps and endings"). Assumes nothing.
+-- To be believed: which entries of a history a sheet knows (document 01, "Steps and endings"). Assumes nothing.
 use mathlib.Core.List.{List}
 use mathlib.Core.Logic.{_⊎_}
 use mathlib.Core.Path.{_≡_}

@@ -1,4 +1,5 @@
--- Planning and replay on bytes: the sheet is checked, then searched. Assumes nothing.
+-- To be believed: what the demands say of a sheet's runs. And planning and replay on bytes, computed: the sheet is checked, then searched;
+-- that they answer by those runs is proved in proofs/Demands.antt. Assumes nothing.
 use Prim.Native.Nat.{ℕ}
 use mathlib.Core.Bool.{Bool}
 use mathlib.Core.List.{List}

@@ -1,4 +1,5 @@
--- Two sheets that differ in the bound alone (document 01: "Raising the bound alone puts a higher D .. into the trailer"). Assumes nothing.
+-- To be believed: two sheets that differ in the bound alone (document 01: "Raising the bound alone puts a higher D .. into the trailer").
+-- Assumes nothing.
 use mathlib.Core.Path.{_≡_}
 use Prim.Native.Nat.{ℕ, _+_, _-_, _/_, _%_}
 use mathlib.Core.List.{List}

@@ -1,6 +1,6 @@
--- Finality and the number of transitions of a remaining program, by tables of those of its records (document 01, "Steps and endings"),
--- and whether it may be final in some state, now or after one transition. That they are those of the meaning is in proofs/Tabled.antt
--- and proofs/Endings.antt. Assumes nothing.
+-- Own vocabulary: finality and the number of transitions of a remaining program, by tables of those of its records (document 01, "Steps and
+-- endings"), and whether it may be final in some state, now or after one transition. That they are those of the meaning is in
+-- proofs/Tabled.antt and proofs/Endings.antt. Assumes nothing.
 use mathlib.Core.Path.{_≡_}
 use Prim.Native.Nat.{ℕ, _+_, _*_, _≤_, _<_}
 use mathlib.Core.Bool.{Bool, true, false, not, cond, _&&_, _||_}

@@ -1,4 +1,4 @@
--- A frame: a remaining program in words, with room for those that follow it (document 01, "Work area"). The engine's own vocabulary.
+-- Own vocabulary: a frame: a remaining program in words, with room for those that follow it (document 01, "Work area").
 -- Assumes nothing.
 use Prim.Native.Nat.{ℕ, _+_, _*_, _^_, _≤_, _<_}
 use mathlib.Core.Path.{_≡_}

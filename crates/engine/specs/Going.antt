@@ -1,4 +1,5 @@
--- Going through a configuration's transitions in listed order, from a cursor on: what strategies know of the engine. Assumes nothing.
+-- Own vocabulary: going through a configuration's transitions in listed order, from a cursor on: what strategies know of the engine.
+-- Assumes nothing.
 use Prim.Native.Nat.{ℕ, suc, _+_, _-_, _<_}
 use mathlib.Core.Path.{_≡_}
 use mathlib.Core.Bool.{Bool, true, false, cond}

@@ -1,6 +1,6 @@
--- The tables by which a configuration is surveyed, in two lent slices: what is told once of the sheet, and sets of what is told of a state.
--- A set serves the configuration at one depth of a search; there are eight, so that what was told at a depth stands until one eight
--- deeper is surveyed. The engine's own vocabulary: nothing above it looks into them. Assumes nothing.
+-- Own vocabulary: the tables by which a configuration is surveyed, in two lent slices: what is told once of the sheet, and sets of what is
+-- told of a state. A set serves the configuration at one depth of a search; there are eight, so that what was told at a depth stands until
+-- one eight deeper is surveyed. Nothing above the engine looks into them. Assumes nothing.
 use Prim.Native.Nat.{ℕ, _+_, _*_, _%_, _≤_, _<_}
 use mathlib.Core.Path.{_≡_}
 use mathlib.Core.Bool.{Bool, true}

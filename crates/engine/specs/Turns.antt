@@ -1,4 +1,4 @@
--- The transition at a cursor, laid out in words. The engine's own vocabulary. Assumes nothing.
+-- Own vocabulary: the transition at a cursor, laid out in words. Assumes nothing.
 use Prim.Native.Nat.{ℕ, _+_}
 use mathlib.Core.List.{List}
 use Rattle.height.specs.Work.{header}

@@ -1,4 +1,4 @@
--- The world of three tables' bytes. Assumes nothing.
+-- To be believed: the world of three tables' bytes. Assumes nothing.
 use Prim.Native.Nat.{ℕ}
 use mathlib.Core.List.{List}
 use Rattle.records.specs.Records.{formulaAt, effectAt, actionAt}

@@ -1,4 +1,4 @@
--- Programs: the paper's constructs as a tree, unfolded from a table of records. Assumes nothing.
+-- To be believed: programs: the paper's constructs as a tree, unfolded from a table of records. Assumes nothing.
 use Prim.Native.Nat.{ℕ}
 use mathlib.Core.Bool.{Bool, true, false}
 use mathlib.Core.List.{List, [], _∷_}

@@ -1,5 +1,5 @@
--- The paper's Final and Trans, axiom by axiom (000, sections 4.1 and 5), with the move that a transition makes: the action's number,
--- none for a test. Assumes nothing.
+-- To be believed: the paper's Final and Trans, axiom by axiom (000, sections 4.1 and 5), with the move that a transition makes: the
+-- action's number, none for a test. Assumes nothing.
 use Prim.Native.Nat.{ℕ}
 use mathlib.Core.Logic.{_⊎_}
 use mathlib.Core.Option.{Option, none, some}

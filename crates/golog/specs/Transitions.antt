@@ -1,5 +1,5 @@
--- Final and Trans computed: whether a configuration is final, and its transitions in listed order, those of a before those of b.
--- The theorems of proofs/Exact.antt say that they are the paper's. Assumes nothing.
+-- To be believed: what a configuration is. Below it Final and Trans computed: whether a configuration is final, and its transitions in
+-- listed order, those of a before those of b. The theorems of proofs/Exact.antt say that they are the paper's. Assumes nothing.
 use Prim.Native.Nat.{ℕ}
 use mathlib.Core.Bool.{Bool, true, false, not, _&&_, _||_}
 use mathlib.Core.List.{List, [], _∷_, _++_, map}

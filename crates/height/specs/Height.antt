@@ -1,5 +1,6 @@
--- The height of program records, computed (document 01: "Height is the most links from program record to program record on a path down from
--- the root"). That it is so is proved in proofs/Paths.antt. Assumes nothing.
+-- Own vocabulary: the height of program records, and whether any has kind 11, computed (document 01: "Height is the most links from program
+-- record to program record on a path down from the root"). That they are so is proved in proofs/Paths.antt and proofs/Levels.antt.
+-- Assumes nothing.
 use Prim.Native.Nat.{ℕ, suc, _-_, max}
 use mathlib.Core.List.{List, [], _∷_}
 use mathlib.Core.Bool.{Bool, not}

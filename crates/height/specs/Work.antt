@@ -1,4 +1,4 @@
--- The work figure (document 01, "Work area"). That h as it is computed is the one meant is proved in proofs/Levels.antt.
+-- To be believed: the work figure (document 01, "Work area"). That h as it is computed is the one meant is proved in proofs/Levels.antt.
 -- Assumes nothing.
 use mathlib.Core.Path.{_≡_}
 use mathlib.Core.Logic.{_⊎_}

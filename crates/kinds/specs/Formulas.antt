@@ -1,6 +1,6 @@
--- The engine's own vocabulary: what the fields of a formula are, a column for each, a place for each of the kinds 0 true, 1 false,
--- 2 fluent x has value a, 3 fluent x is less than a, 4 fluents x and a have equal values, 5 not a, 6 a and b, 7 a or b. That these roles
--- are document 01's rule is proved in proofs/FormulaFields.antt. The functions of these names are in src/formulas.rt. Assumes nothing.
+-- Own vocabulary: what the fields of a formula are, a column for each, a place for each of the kinds 0 true, 1 false, 2 fluent x has
+-- value a, 3 fluent x is less than a, 4 fluents x and a have equal values, 5 not a, 6 a and b, 7 a or b. That these roles are document 01's
+-- rule is proved in proofs/FormulaFields.antt. The functions of these names are in src/formulas.rt. Assumes nothing.
 use Prim.Native.Nat.{ℕ, _<_}
 use mathlib.Core.Bool.{Bool, true, false, _&&_}
 use mathlib.Core.List.{List, [], _∷_}

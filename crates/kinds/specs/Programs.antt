@@ -1,6 +1,6 @@
--- The engine's own vocabulary: what each kind of program record is and does, a column for each question, a place for each of the kinds
--- 0 nil, 1 act, 2 test, 3 a;b, 4 a|b, 5 star, 6 if, 7 while, 8 together, 9 over, 10 concurrent iteration, 11 interrupt. That the fields'
--- roles are document 01's rule is proved in proofs/ProgramFields.antt; that no kind does more, or less, than the columns say, in
+-- Own vocabulary: what each kind of program record is and does, a column for each question, a place for each of the kinds 0 nil, 1 act,
+-- 2 test, 3 a;b, 4 a|b, 5 star, 6 if, 7 while, 8 together, 9 over, 10 concurrent iteration, 11 interrupt. That the fields' roles are
+-- document 01's rule is proved in proofs/ProgramFields.antt; that no kind does more, or less, than the columns say, in
 -- remaining/proofs/Same.antt. The functions of these names are in src/programs.rt. Assumes nothing.
 use Prim.Native.Nat.{ℕ, _+_}
 use mathlib.Core.Bool.{Bool, true, false, not, cond, _&&_, _||_}

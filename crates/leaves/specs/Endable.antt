@@ -1,5 +1,5 @@
--- Which records may be final in some state, and which are in every one: what can be told without looking at one, so that only the
--- others are looked at in each. Assumes nothing.
+-- Own vocabulary: which records may be final in some state, and which are in every one: what can be told without looking at one, so that
+-- only the others are looked at in each. Assumes nothing.
 use Prim.Native.Nat.{ℕ, _+_, _-_, _≤_, _<_}
 use mathlib.Core.Path.{_≡_}
 use mathlib.Core.Bool.{Bool, true, false, not, _&&_}

@@ -1,4 +1,4 @@
--- Two tables of a state, a place for each program record: whether the record is final, and how many transitions it has (document 01,
+-- Own vocabulary: two tables of a state, a place for each program record: whether the record is final, and how many transitions it has (document 01,
 -- "Steps and endings"). Assumes nothing.
 use Prim.Native.Nat.{ℕ, _+_, _-_, _<_, min}
 use mathlib.Core.Path.{_≡_}

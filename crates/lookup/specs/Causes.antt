@@ -1,4 +1,4 @@
--- The causes of a look-up's numbers (document 01, "Who can cause which number"). Assumes nothing.
+-- To be believed: the causes of a look-up's numbers (document 01, "Who can cause which number"). Assumes nothing.
 use mathlib.Core.Path.{_≡_}
 use mathlib.Core.List.{List}
 use mathlib.Core.Logic.{_⊎_}

@@ -1,4 +1,5 @@
--- What a look-up answers (document 01: "looks up one fluent (its domain size and initial value)"; number 12). Assumes nothing.
+-- To be believed: what a look-up answers (document 01: "looks up one fluent (its domain size and initial value)"; number 12).
+-- Assumes nothing.
 use Prim.Native.Nat.{ℕ}
 use mathlib.Core.List.{List}
 use mathlib.Core.Bool.{cond}

@@ -1,5 +1,5 @@
--- The causes of the numbers that planning and replay give (document 01, "Who can cause which number"). That a call answers by the first
--- of them, and without a number exactly where there is none, is proved in proofs/Exactly.antt. Assumes nothing.
+-- To be believed: the causes of the numbers that planning and replay give (document 01, "Who can cause which number"). That a call answers
+-- by the first of them, and without a number exactly where there is none, is proved in proofs/Exactly.antt. Assumes nothing.
 use mathlib.Core.Path.{_≡_}
 use mathlib.Core.List.{List}
 use mathlib.Core.Logic.{_⊎_}

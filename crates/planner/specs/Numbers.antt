@@ -1,5 +1,5 @@
--- Document 01's number, place and values of the answers of planning, replay and `sizes`, case by case: number 0 where there is none, and
--- "beside it every other result is 0". Assumes nothing.
+-- To be believed: document 01's number, place and values of the answers of planning, replay and `sizes`, case by case: number 0 where there
+-- is none, and "beside it every other result is 0". Assumes nothing.
 use Prim.Native.Nat.{ℕ}
 use Rattle.planner.specs.declared.Planned.{Planned}
 use Rattle.planner.specs.declared.Planned.the-variants as planned

@@ -1,4 +1,4 @@
--- A search's outcome as an answer: document 01's numbers 13 and 14, and yes or no. Assumes nothing.
+-- Own vocabulary: a search's outcome as an answer: document 01's numbers 13 and 14, and yes or no. Assumes nothing.
 use mathlib.Core.Bool.{Bool, true, false}
 use Rattle.sheet.specs.Check.{refusalOf}
 use Rattle.search.specs.declared.Outcome.{Outcome}

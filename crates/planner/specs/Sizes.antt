@@ -1,4 +1,5 @@
--- What is told of a sheet's sizes (document 01: "counts F, Q, E, A, P and the bound D"): F and D of an accepted sheet. Assumes nothing.
+-- To be believed: what is told of a sheet's sizes (document 01: "counts F, Q, E, A, P and the bound D"): F and D of an accepted sheet.
+-- Assumes nothing.
 use Prim.Native.Nat.{ℕ}
 use mathlib.Core.List.{List}
 use Rattle.sheet.specs.Layout.{layoutOf}

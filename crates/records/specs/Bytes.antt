@@ -1,4 +1,4 @@
--- Numbers in a list of bytes, and parts of it. Assumes nothing.
+-- To be believed: numbers in a list of bytes, and parts of it (document 01: "little-endian"). Assumes nothing.
 use Prim.Native.Nat.{ℕ, _+_, _-_, _*_}
 use mathlib.Core.List.{List}
 use lib.ListN.{getD, take, drop}

@@ -1,5 +1,5 @@
--- The lowest number at which a rule fails (document 01: "the lowest faulty record"), as it is meant and as it is computed. That the
--- two are one is proved in proofs/Lowest.antt. Assumes nothing.
+-- To be believed: the lowest number at which a rule fails (document 01: "the lowest faulty record"), as it is meant; below it as it is
+-- computed. That the two are one is proved in proofs/Lowest.antt. Assumes nothing.
 use Prim.Native.Nat.{ℕ, zero, suc, _<_}
 use mathlib.Core.Bool.{Bool, cond}
 

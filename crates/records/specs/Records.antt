@@ -1,4 +1,4 @@
--- Record i of each table, from the table's bytes (document 01, "The sheet, read from its end"). Assumes nothing.
+-- To be believed: record i of each table, from the table's bytes (document 01, "The sheet, read from its end"). Assumes nothing.
 use Prim.Native.Nat.{ℕ, _+_, _*_, _≤_, _<_}
 use mathlib.Core.List.{List}
 use lib.ListN.{length, getD}

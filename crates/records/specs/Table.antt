@@ -1,4 +1,4 @@
--- A table whose entries are made upwards, each from its number and the entries before it. Assumes nothing.
+-- To be believed: a table whose entries are made upwards, each from its number and the entries before it. Assumes nothing.
 use Prim.Native.Nat.{ℕ, zero, suc}
 use mathlib.Core.List.{List, [], _∷_, _++_}
 use lib.ListN.{getD}

@@ -1,5 +1,5 @@
--- What runs as ONE record: where there are interrupts, four more stand above the table (document 01: "what runs is: start; (root over
--- stop)"). Assumes nothing.
+-- Own vocabulary: what runs as ONE record: where there are interrupts, four more stand above the table (document 01: "what runs is: start;
+-- (root over stop)"). Assumes nothing.
 use Prim.Native.Nat.{ℕ, _+_, _-_}
 use mathlib.Core.Bool.{Bool, true, false, cond}
 use mathlib.Core.List.{List, [], _∷_}

@@ -1,5 +1,6 @@
--- Finality and transitions of what a planner holds. A record's are made upwards, of those of its parts, by one shape for all kinds: its
--- own transition, then those of a, then those of b, each under a condition and in a construct. Assumes nothing.
+-- Own vocabulary: finality and transitions of a remaining program. A record's are made upwards, of those of its parts, by one shape for all
+-- kinds: its own transition, then those of a, then those of b, each under a condition and in a construct. That they are golog's is proved
+-- in proofs/Same.antt. Assumes nothing.
 use Prim.Native.Nat.{ℕ}
 use mathlib.Core.Bool.{Bool, true, cond, _&&_}
 use mathlib.Core.List.{List, [], _∷_, _++_, map}

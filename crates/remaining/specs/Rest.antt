@@ -1,5 +1,5 @@
--- The remaining program as a planner can hold it: record numbers at the leaves, not unfolded, and around them what stepping put there.
--- Assumes nothing.
+-- Own vocabulary: the remaining program over record numbers: records at the leaves, not unfolded, and around them what transitions put
+-- there. Assumes nothing.
 use Prim.Native.Nat.{ℕ, _+_, _*_, _≤_, _<_, max}
 use mathlib.Core.Bool.{cond}
 use mathlib.Core.List.{List·Memᴰ}

@@ -1,6 +1,6 @@
--- The rule that a fluent, an effect and an action keeps, as a test that computes (document 01, "The sheet, read from its end"); those of
--- formulas and program records, which go by kind, are in kinds. nf, nq, ne are the numbers of fluents, formulas and effects.
--- Assumes nothing.
+-- Own vocabulary: the rule that a fluent, an effect and an action keeps, as a test that computes (document 01, "The sheet, read from its
+-- end"); those of formulas and program records, which go by kind, are in kinds. nf, nq, ne are the numbers of fluents, formulas and
+-- effects. That they decide the rules as they are meant (Kept.antt) is proved in proofs/Kept.antt. Assumes nothing.
 use Prim.Native.Nat.{ℕ, _+_}
 use mathlib.Core.Bool.{Bool, _&&_}
 use lib.Dec.{leb, ltb}

@@ -1,4 +1,4 @@
--- Whether record i of a table keeps its rule. Assumes nothing.
+-- Own vocabulary: whether record i of a table keeps its rule, as a test that computes. Assumes nothing.
 use Prim.Native.Nat.{ℕ}
 use mathlib.Core.Bool.{Bool}
 use mathlib.Core.List.{List}

@@ -1,6 +1,6 @@
--- The bounded search that a strategy makes, for any transition system: the guided search, but at the bound it asks only whether there is
--- a transition at all. Free and with no moves to make it is plain planning, closed it finds a plan exactly where replay does:
--- proofs/Outcomes.antt. And verdicts on rows of transitions, one after the other. Assumes nothing.
+-- Own vocabulary: the bounded search that a strategy makes, for any transition system: the guided search, but at the bound it asks only
+-- whether there is a transition at all. Free and with no moves to make it is plain planning, closed it finds a plan exactly where replay
+-- does: proofs/Bounded.antt. And verdicts on rows of transitions, one after the other. Assumes nothing.
 use Prim.Native.Nat.{ℕ, zero, suc}
 use mathlib.Core.Bool.{Bool, true, false}
 use mathlib.Core.List.{List}

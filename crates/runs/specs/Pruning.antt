@@ -1,5 +1,5 @@
--- What a search may leave out, for any transition system: where the bound ran out in some run before, only a plan could still change its
--- verdict. The law is in proofs/Pruned.antt. A strategy's own vocabulary. Assumes nothing.
+-- Own vocabulary: what a search may leave out, for any transition system: where the bound ran out in some run before, only a plan could
+-- still change its verdict. The law is in proofs/Pruned.antt. Assumes nothing.
 use Prim.Native.Nat.{ℕ, zero, suc}
 use mathlib.Core.Bool.{Bool, false}
 use mathlib.Core.List.{List, List·Memᴰ}

@@ -1,5 +1,5 @@
--- A transition's move in the search: whether the guide lets it pass, what it leaves to be made, and what it puts into the trace. The
--- search's own vocabulary. Assumes nothing.
+-- Own vocabulary: a transition's move in the search: whether the guide lets it pass, what it leaves to be made, and what it puts into the
+-- trace. Assumes nothing.
 use Prim.Native.Nat.{ℕ}
 use mathlib.Core.Bool.{Bool, true, cond}
 use mathlib.Core.List.{List, [], _∷_}

@@ -1,4 +1,4 @@
--- What a search answers and leaves in the trace, for a verdict. Assumes nothing.
+-- Own vocabulary: what a search answers and leaves in the trace, for a verdict. Assumes nothing.
 use Prim.Native.Nat.{ℕ, _+_}
 use mathlib.Core.Bool.{Bool, true, false}
 use mathlib.Core.List.{List, [], _∷_}

@@ -1,4 +1,4 @@
--- What the functions of the search ask and answer, over the engine's face. The search's own vocabulary. Assumes nothing.
+-- Own vocabulary: what the functions of the search ask and answer, over the engine's face. Assumes nothing.
 use Prim.Native.Nat.{ℕ, _+_, _-_, _≤_}
 use mathlib.Core.Bool.{Bool, true, false}
 use mathlib.Core.List.{List}

@@ -1,5 +1,5 @@
--- The causes of the numbers 1 to 9, and the places (document 01, "Who can cause which number"). That the check answers by the first of
--- them, and else with the figure, is proved in proofs/Exactly.antt. Assumes nothing.
+-- To be believed: the causes of the numbers 1 to 9, and the places (document 01, "Who can cause which number"). That the check answers by
+-- the first of them, and else with the figure, is proved in proofs/Exactly.antt. Assumes nothing.
 use mathlib.Core.Path.{_≡_}
 use mathlib.Core.List.{List}
 use mathlib.Core.Logic.{_⊎_}

@@ -1,5 +1,6 @@
--- What a check of a sheet answers (document 01, "Who can cause which number"): the causes in rising order, a place for 4 to 8.
--- Assumes nothing.
+-- To be believed: when a sheet is accepted, and the number, place and figure of a check's answer. The answer itself is computed here too
+-- (document 01, "Who can cause which number": the causes in rising order, a place for 4 to 8); that it goes by the first cause of
+-- Causes.antt is proved in proofs/Exactly.antt. Assumes nothing.
 use mathlib.Core.Path.{_≡_}
 use Prim.Native.Nat.{ℕ, _-_}
 use mathlib.Core.List.{List}

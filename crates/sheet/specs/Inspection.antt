@@ -1,5 +1,5 @@
--- What a check found of a sheet and is kept for the calls that go on with it: where the tables lie, whether there are interrupts, the
--- words of a frame and of the work area. The engine's own vocabulary. Assumes nothing.
+-- Own vocabulary: what a check found of a sheet and is kept for the calls that go on with it: where the tables lie, whether there are
+-- interrupts, the words of a frame and of the work area. Assumes nothing.
 use Prim.Native.Nat.{ℕ}
 use mathlib.Core.Path.{_≡_}
 use mathlib.Core.Bool.{cond}

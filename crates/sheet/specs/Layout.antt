@@ -1,4 +1,4 @@
--- Where the five tables lie, one after the other, each a part of the sheet (document 01: "Tables follow in this order").
+-- To be believed: where the five tables lie, one after the other, each a part of the sheet (document 01: "Tables follow in this order").
 -- Assumes nothing.
 use mathlib.Core.Path.{_≡_}
 use Prim.Native.Nat.{ℕ, _+_, _-_, _*_, _≤_}

@@ -1,4 +1,4 @@
--- The notes (document 01: "Bytes before that point are notes, never interpreted"). Assumes nothing.
+-- To be believed: the notes (document 01: "Bytes before that point are notes, never interpreted"). Assumes nothing.
 use Prim.Native.Nat.{ℕ, _-_, _≤_}
 use mathlib.Core.List.{List, _++_}
 use lib.ListN.{length, take, drop}

@@ -1,4 +1,4 @@
--- The trailer of a sheet, and what numbers 2 and 3 ask of it (document 01, "The sheet, read from its end"). Assumes nothing.
+-- To be believed: the trailer of a sheet, and what numbers 2 and 3 ask of it (document 01, "The sheet, read from its end"). Assumes nothing.
 use Prim.Native.Nat.{ℕ, _+_, _-_, _*_, _≤_}
 use mathlib.Core.List.{List}
 use mathlib.Core.Bool.{Bool, _&&_}

@@ -1,5 +1,5 @@
--- What is known of an action before it is performed: it has a record, whose range of effects lies in their table. The engine's own
--- vocabulary. Assumes nothing.
+-- Own vocabulary: what is known of an action before it is performed: it has a record, whose range of effects lies in their table. Assumes
+-- nothing.
 use Prim.Native.Nat.{ℕ, _+_, _*_, _≤_, _<_}
 use mathlib.Core.List.{List}
 use lib.ListN.{length}

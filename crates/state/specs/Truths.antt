@@ -1,4 +1,4 @@
--- What the formulas of a table say of values, as a table over what stood in it before. Assumes nothing.
+-- Own vocabulary: what the formulas of a table say of values, as a table over what stood in it before. Assumes nothing.
 use Prim.Native.Nat.{ℕ, _<_}
 use mathlib.Core.Path.{_≡_}
 use mathlib.Core.Bool.{Bool, false}

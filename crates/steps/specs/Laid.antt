@@ -1,4 +1,4 @@
--- The k-th transition of a program record, laid out in words: what is asked and what is answered. Assumes nothing.
+-- Own vocabulary: the k-th transition of a program record, laid out in words: what is asked and what is answered. Assumes nothing.
 use mathlib.Core.Path.{_≡_}
 use mathlib.Core.Bool.{Bool, cond}
 use mathlib.Core.List.{List}

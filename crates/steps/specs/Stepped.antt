@@ -1,4 +1,4 @@
--- The k-th transition of a remaining program, laid out in words: what is asked and what is answered. Assumes nothing.
+-- Own vocabulary: the k-th transition of a remaining program, laid out in words: what is asked and what is answered. Assumes nothing.
 use mathlib.Core.Path.{_≡_}
 use mathlib.Core.Bool.{Bool, _&&_}
 use mathlib.Core.List.{List}

@@ -1,5 +1,5 @@
--- What a view holds, and what it finds (document 01: "a small view that looks at the caller's sheet and copies nothing").
--- Assumes nothing.
+-- Own vocabulary: what a view holds, and what it finds (document 01: "a small view that looks at the caller's sheet and copies nothing").
+-- That a look-up through it answers `lookOf` is the contract of `view::look_up`. Assumes nothing.
 use Prim.Native.Nat.{ℕ, _-_, _/_, min}
 use mathlib.Core.List.{List}
 use mathlib.Core.Bool.{cond}

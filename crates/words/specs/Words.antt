@@ -1,6 +1,6 @@
--- The remaining program in a frame's words (document 01, "Work area": three words a node). A node's words are its tag, its record and its
--- number of nodes; its left part stands right after it, its right part after that. All three words are pinned, so that equal remaining
--- programs are equal word for word. Assumes nothing.
+-- Own vocabulary: the remaining program in a frame's words (document 01, "Work area": three words a node). A node's words are its tag, its
+-- record and its number of nodes; its left part stands right after it, its right part after that. All three words are pinned, so that
+-- equal remaining programs are equal word for word. Assumes nothing.
 use mathlib.Core.Path.{_≡_}
 use mathlib.Core.List.{List}
 use Prim.Native.Nat.{ℕ, _+_, _*_, _^_, _≤_, _<_}
