@@ -3,7 +3,7 @@
 use mathlib.Core.Path.{_≡_, refl, sym, ap, ap₂, _∙_}
 use mathlib.Core.Bool.{Bool, true, false, not, cond, _&&_, _||_}
 use mathlib.Core.List.{List}
-use Prim.Native.Nat.{ℕ, _+_, _*_, _≤_, _<_}
+use Prim.Native.Nat.{ℕ, _+_, _*_, _^_, _<_}
 use native.Mathlib.Omega.{arith}
 use lib.Dec.{eqb}
 use lib.ListN.{getD}
@@ -11,6 +11,7 @@ use borrow.Author.Tests.{eq-eqb, ne-eqb}
 use Rattle.records.proofs.Truth.{part-few}
 use Rattle.remaining.specs.Rest.{Rest, gone, leaf, node, nodes}
 use Rattle.remaining.specs.Leaves.{goesRight}
+use Rattle.words.proofs.Standing.{nodes-pos}
 use Rattle.ends.specs.Ends.{finalByTable, countByTable, soonByTable, joined, Totalled}
 use Rattle.ends.specs.declared.Totals.{Totals}
 
@@ -52,10 +53,10 @@ module _ (finals endable : List Bool) (counts : List ℕ) where
     endable-is = final-gone endable e;
     count-is = ap (countByTable finals counts) (sym e);
     soon-is = ap (soonByTable finals endable counts) (sym e);
-    few = omega arith;
+    few = omega (arith, nodes-pos gone, ap nodes e);
   }
 
-  pub total-leaf : {g : Rest} {n i j : ℕ} {x y : Bool} → g ≡ leaf j → i ≡ j → n ≡ getD counts i 0 → n < 4294967296 → x ≡ getD finals i true → y ≡ getD endable i true
+  pub total-leaf : {g : Rest} {n i j : ℕ} {x y : Bool} → g ≡ leaf j → i ≡ j → n ≡ getD counts i 0 → n < 2 ^ 32 → x ≡ getD finals i true → y ≡ getD endable i true
       → Totalled finals endable counts g (record { done = x; endable = y; count = n; soon = not (eqb n 0) })
   unfolding countByTable soonByTable nodes
   total-leaf {n = n} {j = j} e ei en small ex ey =
@@ -69,7 +70,7 @@ module _ (finals endable : List Bool) (counts : List ℕ) where
       }
 
   module _ {g l r : Rest} {tag : ℕ} (e : g ≡ node tag l r) {x y : Totals} (F : Totalled finals endable counts l x) (G : Totalled finals endable counts r y) where
-    pub total-few : x .count + y .count ≤ 4294967295 * nodes g
+    pub total-few : x .count + y .count < 2 ^ 32 * nodes g
     unfolding nodes
     total-few = omega (arith, ap nodes e, F .few, G .few)
 

@@ -15,10 +15,10 @@ use Rattle.remaining.proofs.Counts.{node-count}
 use Rattle.leaves.specs.Tallies.{finalsOf, countsOf}
 use Rattle.leaves.specs.Endable.{AreFinal}
 use Rattle.leaves.proofs.Entries.{finals-at, counts-exact}
-use Rattle.ends.specs.Ends.{finalByTable, countByTable, InTable}
+use Rattle.ends.specs.Ends.{finalByTable, countByTable, mostLevels, InTable}
 
 module _ {p : ℕ → Program} {m : ℕ} where
-  pub within-leaf : {i : ℕ} → InTable p m (leaf i) → (i < m) × (high p (leaf i) ≤ 18)
+  pub within-leaf : {i : ℕ} → InTable p m (leaf i) → (i < m) × (high p (leaf i) ≤ mostLevels)
   unfolding largest
   within-leaf H = (H .number, H .height)
 

@@ -2,7 +2,7 @@
 -- endings"), and whether it may be final in some state, now or after one transition. That they are those of the meaning is in
 -- proofs/Tabled.antt and proofs/Endings.antt. Assumes nothing.
 use mathlib.Core.Path.{_≡_}
-use Prim.Native.Nat.{ℕ, _+_, _*_, _≤_, _<_}
+use Prim.Native.Nat.{ℕ, _+_, _*_, _^_, _≤_, _<_}
 use mathlib.Core.Bool.{Bool, true, false, not, cond, _&&_, _||_}
 use mathlib.Core.List.{List}
 use lib.Dec.{eqb}
@@ -48,9 +48,13 @@ pub record Totalled (finals endable : List Bool) (counts : List ℕ) (g : Rest) 
   pub endable-is : t .endable ≡ finalByTable endable g
   pub count-is : t .count ≡ countByTable finals counts g
   pub soon-is : t .soon ≡ soonByTable finals endable counts g
-  pub few : t .count ≤ 4294967295 * nodes g
+  pub few : t .count < 2 ^ 32 * nodes g
+
+-- the height of the table that runs: 16, and 2 for the interrupts (document 01, "Work area": h)
+abbrev pub mostLevels : ℕ
+mostLevels = 18
 
 -- its records are among the first m of the table p, and low enough for their counts to be exact
 pub record InTable (p : ℕ → Program) (m : ℕ) (g : Rest) : Type 0 where
   pub number : largest (λ (i : ℕ). i) g < m
-  pub height : high p g ≤ 18
+  pub height : high p g ≤ mostLevels

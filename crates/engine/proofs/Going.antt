@@ -31,23 +31,23 @@ drop-nth [] k h = cc
 drop-nth (a ∷ xs) zero {x} h = let e : a ≡ x = cc in ap (λ (y : _). y ∷ xs) e
 drop-nth (a ∷ xs) (suc k) h = drop-nth xs k h
 
--- the transitions of a remaining program as it is held
-abbrev pub heldMoves : List ℕ → State → Rest → List RestTransition
-heldMoves s st g = restTransitions (worldOf s) st (extendedRecords s) g
+-- the transitions of a remaining program over the records of a sheet
+abbrev pub restTransitionsOf : List ℕ → State → Rest → List RestTransition
+restTransitionsOf s st g = restTransitions (worldOf s) st (extendedRecords s) g
 
 -- the transition that one of them stands for
-abbrev pub stepOf : List ℕ → State → RestTransition → Transition
-stepOf s st x = (x .0, (unfolded (extendedRecords s) (x .1), after (worldOf s) (x .0) st))
+abbrev pub transitionOf : List ℕ → State → RestTransition → Transition
+transitionOf s st x = (x .0, (unfolded (extendedRecords s) (x .1), after (worldOf s) (x .0) st))
 
 module _ {s w : List ℕ} {left d : ℕ} {p : Prog} (accepted : Accepts s) (F : Frame s left w d p) (st : State) where
-  pub listed : map (stepOf s st) (heldMoves s st (F .rest)) ≡ transitionsOf s (p, st)
+  pub listed : map (transitionOf s st) (restTransitionsOf s st (F .rest)) ≡ transitionsOf s (p, st)
   listed = rest-steps (worldOf s) st (extendedRecords s) (all-lower s accepted) (F .rest) ∙ ap (λ (q : Prog). transitions (worldOf s) q st) (F .stands-for)
 
-  pub listed-length : length (heldMoves s st (F .rest)) ≡ length (transitionsOf s (p, st))
-  listed-length = sym (length-map (heldMoves s st (F .rest)) (stepOf s st)) ∙ ap length listed
+  pub listed-length : length (restTransitionsOf s st (F .rest)) ≡ length (transitionsOf s (p, st))
+  listed-length = sym (length-map (restTransitionsOf s st (F .rest)) (transitionOf s st)) ∙ ap length listed
 
-  pub listed-nth : (k : ℕ) (x : RestTransition) → getElem? (heldMoves s st (F .rest)) k ≡ some x → getElem? (transitionsOf s (p, st)) k ≡ some (stepOf s st x)
-  listed-nth k x h = subst (λ (xs : List Transition). getElem? xs k ≡ some (stepOf s st x)) listed (nth-map (stepOf s st) (heldMoves s st (F .rest)) k h)
+  pub listed-nth : (k : ℕ) (x : RestTransition) → getElem? (restTransitionsOf s st (F .rest)) k ≡ some x → getElem? (transitionsOf s (p, st)) k ≡ some (transitionOf s st x)
+  listed-nth k x h = subst (λ (xs : List Transition). getElem? xs k ≡ some (transitionOf s st x)) listed (nth-map (transitionOf s st) (restTransitionsOf s st (F .rest)) k h)
 
 module _ {s : List ℕ} {c : Configuration} {k : Cursor} where
   ahead-length : {xs : List Transition} → Ahead s c k xs → length xs ≡ k .end - k .next

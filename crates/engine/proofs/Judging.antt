@@ -6,7 +6,6 @@ use Prim.Native.Nat.{ℕ, _-_, _≤_}
 use native.Mathlib.Omega.{arith}
 use lib.ListN.{length, getD, drop, replicate, length-drop, length-replicate, List·getD-eq-default, length-map}
 use lib.Seq.{ext-getD, getD-drop}
-use Rattle.records.specs.Records.{programAt}
 use Rattle.records.specs.declared.Program.{Program}
 use Rattle.records.specs.Table.{upTo}
 use Rattle.records.proofs.Fills.{getD-same, default-at, length-up}
@@ -14,7 +13,7 @@ use Rattle.sheet.specs.Layout.{layoutOf, formulasIn, effectsIn, actionsIn, prog
 use Rattle.sheet.specs.declared.Layout.{Layout}
 use Rattle.sheet.proofs.Accepted.{laid}
 use Rattle.golog.specs.declared.State.{State}
-use Rattle.remaining.specs.Extended.{extended}
+use Rattle.remaining.specs.Extended.{tableOf}
 use Rattle.remaining.specs.Leaves.{leafAt}
 use Rattle.remaining.specs.Rest.{AllLower}
 use Rattle.demands.specs.Decoded.{worldOf, interruptsIn}
@@ -22,8 +21,8 @@ use Rattle.demands.specs.Compact.{extendedRecords}
 use Rattle.demands.proofs.Compact.{all-lower}
 use Rattle.state.specs.Truths.{truthsOf, possibleIn, AreTruths}
 use Rattle.state.proofs.Truths.{are-truths}
-use Rattle.leaves.specs.Tallies.{extendedSize, cappedCount, countsOf, ReadsActions, Tallied}
-use Rattle.leaves.specs.Endable.{Endable, finalBoundsOf, skipsOf, Skips, FinalsKnown}
+use Rattle.leaves.specs.Tallies.{extendedSize, cappedCount, countsOf, Tallied}
+use Rattle.leaves.specs.Endable.{Endable, finalBoundsOf, skipsOf, Skips, FinalsKnown, Tallyable}
 use Rattle.leaves.proofs.Marking.{bounds-above, bounds-after, places-few}
 use Rattle.leaves.proofs.Skipping.{skips-settled}
 use Rattle.leaves.proofs.Entries.{finals-whole, counts-whole}
@@ -37,7 +36,7 @@ use Rattle.engine.proofs.Tables.{finals-long, counts-long, endable-kept
 
 -- the table that runs and its number of records, by the names of a layout
 abbrev pub runs : List ℕ → Layout → (interrupts : Bool) → ℕ → Program
-runs s l b = extended b (programAt (programsIn s l)) (l .p)
+runs s l b = tableOf (programsIn s l) (l .p) b
 
 abbrev pub many : Layout → (interrupts : Bool) → ℕ
 many l b = extendedSize b (l .p)
@@ -48,9 +47,6 @@ few-places {s} O = places-few (interruptsIn s) _ (laid s (O .accepted) .p)
 module _ {s : List ℕ} {m : Inspection} (O : Of s m) where
   pub runs-lower : AllLower (runs s (m .layout) (m .interrupts))
   runs-lower = by-found O (λ (l : Layout) (b : Bool). AllLower (runs s l b)) (all-lower s (O .accepted))
-
-  pub actions-read : ReadsActions (actionsIn s (m .layout)) (runs s (m .layout) (m .interrupts))
-  actions-read = by-found O (λ (l : Layout) (b : Bool). ReadsActions (actionsIn s l) (runs s l b)) (acts-read s (O .accepted))
 
   -- what the formulas say in a state
   pub truths-told :
@@ -128,11 +124,11 @@ module _ {s : List ℕ} {m : Inspection} (O : Of s m) where
         }
 
   module _ {st : State} {d : ℕ} {flags : List Bool} {numbers : List ℕ} (J : Judged s st d flags numbers) where
-    abbrev pub seenBy : Layout → ℕ → Bool
-    seenBy l = possibleIn (actionsIn s l) (truthsAt d flags)
-
-    pub decides-by : FinalsKnown (runs s (m .layout) (m .interrupts)) (many (m .layout) (m .interrupts)) (truthsAt d flags) (st .running) (finalsAt d flags)
-    decides-by = by-found O (λ (l : Layout) (b : Bool). FinalsKnown (runs s l b) (many l b) (truthsAt d flags) (st .running) (finalsAt d flags)) (J .decides)
+    -- what is asked before transitions are counted
+    pub tallyable : Tallyable (runs s (m .layout) (m .interrupts)) (many (m .layout) (m .interrupts)) (actionsIn s (m .layout)) (truthsAt d flags) (st .running) (finalsAt d flags)
+    tallyable =
+        by-found O (λ (l : Layout) (b : Bool). Tallyable (runs s l b) (many l b) (actionsIn s l) (truthsAt d flags) (st .running) (finalsAt d flags))
+        (record { lower = all-lower s (O .accepted); acts-known = acts-read s (O .accepted); finals-known = J .decides })
 
     -- behind the records no transition is counted
     nil-counts : drop (extendedSizeOf s) (countsAt d numbers) ≡ replicate (260 - extendedSizeOf s) 0
@@ -153,12 +149,12 @@ module _ {s : List ℕ} {m : Inspection} (O : Of s m) where
     -- counted in a state
     pub surveyed :
         (numbers′ : List ℕ) → length numbers′ ≡ length numbers → Only (countsFrom d) 260 numbers numbers′
-        → Tallied (runs s (m .layout) (m .interrupts)) (many (m .layout) (m .interrupts)) (truthsAt d flags) (seenBy (m .layout)) (st .running) (countsAt d numbers) (countsAt d numbers′)
+        → Tallied (runs s (m .layout) (m .interrupts)) (many (m .layout) (m .interrupts)) (actionsIn s (m .layout)) (truthsAt d flags) (st .running) (countsAt d numbers) (countsAt d numbers′)
         → Surveyed s st d flags numbers′
     surveyed numbers′ n K T =
         let W = worldOf s in
         let P = J .prepared in
-        let T₂ = of-found O (λ (l : Layout) (b : Bool). Tallied (runs s l b) (many l b) (truthsAt d flags) (seenBy l) (st .running) (countsAt d numbers) (countsAt d numbers′)) T in
+        let T₂ = of-found O (λ (l : Layout) (b : Bool). Tallied (runs s l b) (many l b) (actionsIn s l) (truthsAt d flags) (st .running) (countsAt d numbers) (countsAt d numbers′)) T in
         let S = sees s (O .accepted) st (truthsAt d flags) (J .truths-are) in
         let c = T₂ W st S ∙ counts-whole W st (extendedRecords s) (extendedSizeOf s) (countsAt d numbers) nil-counts in
         let here : (i : ℕ) → extendedSizeOf s ≤ i → getD (countsAt d numbers′) i 0 ≡ 0 = λ i l. ap (λ (x : List ℕ). getD x i 0) c ∙ counts-after i l in
@@ -175,7 +171,7 @@ module _ {s : List ℕ} {m : Inspection} (O : Of s m) where
           truths-are = J .truths-are;
           tabled =
               record {
-                counted = record { can = seenBy (layoutOf s); sees = S; lower = all-lower s (O .accepted); counts-are = c };
+                counted = record { can = possibleIn (actionsIn s (layoutOf s)) (truthsAt d flags); sees = S; lower = all-lower s (O .accepted); counts-are = c };
                 finals-are = J .finals-are;
               };
         }

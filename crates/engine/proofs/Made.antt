@@ -35,7 +35,7 @@ use Rattle.engine.proofs.Codes.{decoded}
 use Rattle.engine.proofs.Actions.{acts-known}
 use Rattle.engine.proofs.Moves.{rest-known}
 use Rattle.engine.proofs.Frames.{in-frame, step-room, next-frame}
-use Rattle.engine.proofs.Going.{stepOf, listed-length, listed-nth, ahead-next}
+use Rattle.engine.proofs.Going.{transitionOf, listed-length, listed-nth, ahead-next}
 
 -- the transition made, with the code e and the state st, at the cursor k
 abbrev pub madeAt : Cursor → (e : ℕ) → State → Taken
@@ -107,7 +107,7 @@ module _
         → MakesNext s (g .program, st) (g .left) w′ (d + 1) (madeAt k e st′) (g .ahead)
     made-next {st′} after-it =
         let x : RestTransition = (built .move, built .rest) in
-        let first = ahead-next (g .listed) (stepOf s st x) (listed-nth accepted (g .frame) st (k .next) x (built .nth)) in
+        let first = ahead-next (g .listed) (transitionOf s st x) (listed-nth accepted (g .frame) st (k .next) x (built .nth)) in
         subst (MakesNext s (g .program, st) (g .left) w′ (d + 1) (madeAt k e st′)) (sym first)
         record {
           made-is = refl;

@@ -22,7 +22,7 @@ use Rattle.ends.proofs.Endings.{soon-in}
 use Rattle.engine.specs.Tables.{finalsAt, endableIn, countsAt, extendedSizeOf, Surveyed}
 use Rattle.engine.specs.Frames.{Frame}
 use Rattle.engine.specs.Going.{transitionsOf, isFinal, NoneEnds, Tells}
-use Rattle.engine.proofs.Going.{heldMoves, stepOf, listed, listed-length}
+use Rattle.engine.proofs.Going.{restTransitionsOf, transitionOf, listed, listed-length}
 
 module _ {s w : List ℕ} {left d : ℕ} {p : Prog} (accepted : Accepts s) (F : Frame s left w d p) (st : State) where
   pub final-told :
@@ -46,7 +46,7 @@ module _ {s w : List ℕ} {left d : ℕ} {p : Prog} (accepted : Accepts s) (F : 
     none-told z x k =
         let W = worldOf s in
         let c = S .tabled .counted in
-        let y = Memᴰ·of-map (stepOf s st) (heldMoves s st (F .rest)) (subst (List·Memᴰ x) (sym (listed accepted F st)) k) in
+        let y = Memᴰ·of-map (transitionOf s st) (restTransitionsOf s st (F .rest)) (subst (List·Memᴰ x) (sym (listed accepted F st)) k) in
         let t = after W (y .0 .0) st in
         let e = ap₂ (λ (l : List Bool) (k : List ℕ). soonByTable l (endableIn flags) k (F .rest)) (S .tabled .finals-are) (c .counts-are) in
         let soon = soon-in W (extendedRecords s) (extendedSizeOf s) (endableIn flags) (S .prepared .endable) (c .lower) st (F .rest) (F .roomy .within) in

@@ -6,6 +6,7 @@ use mathlib.Core.Path.{_≡_}
 use mathlib.Core.Bool.{Bool, true}
 use mathlib.Core.List.{List}
 use lib.ListN.{length, getD, take, drop}
+use Rattle.records.specs.declared.Program.{Program}
 use Rattle.sheet.specs.Layout.{layoutOf, programsIn}
 use Rattle.golog.specs.declared.State.{State}
 use Rattle.demands.specs.Decoded.{worldOf, interruptsIn}
@@ -41,6 +42,21 @@ mostFormulas = 512
 -- the flags of a set: what each formula says, and whether each record is final
 abbrev pub setFlags : ℕ
 setFlags = 772
+
+-- where that set begins at place o
+abbrev pub truthsOn : (o : ℕ) → List Bool → List Bool
+truthsOn o flags = window o mostFormulas flags
+
+abbrev pub finalsOn : (o : ℕ) → List Bool → List Bool
+finalsOn o flags = window (o + mostFormulas) mostRecords flags
+
+-- which of the first m records of p are final is known by that set
+abbrev pub FinalsOn : (p : ℕ → Program) (m o : ℕ) (running : Bool) (flags : List Bool) → Type 0
+FinalsOn p m o running flags = FinalsKnown p m (truthsOn o flags) running (finalsOn o flags)
+
+-- of records from number m on a table says what another said
+abbrev pub SameFrom : (m : ℕ) (finals finals′ : List Bool) → Type 0
+SameFrom m finals finals′ = (i : ℕ) → m ≤ i → getD finals′ i true ≡ getD finals i true
 
 -- flags: whether each record may be final in some state; then those of each set
 abbrev pub flagPlaces : ℕ

@@ -8,7 +8,7 @@ ghost use Prim.Native.Nat.{ℕ, _+_, _*_, _^_, _≤_, _<_};
 ghost use lib.ListN.{length, getD};
 ghost use Rattle.sheet.specs.Layout.{layoutOf};
 ghost use Rattle.sheet.specs.Inspection.{Of};
-ghost use Rattle.records.specs.Records.{programAt, ProgramTable};
+ghost use Rattle.records.specs.Records.{ProgramTable};
 ghost use Rattle.kinds.specs.Programs.{finalBy};
 ghost use Rattle.golog.specs.World.{after};
 ghost use Rattle.golog.specs.Prog.{Prog};
@@ -16,13 +16,14 @@ ghost use Rattle.golog.specs.Transitions.{Configuration, Transition, isNone};
 ghost use Rattle.golog.specs.declared.State.{State};
 ghost use Rattle.demands.specs.Decoded.{worldOf, startingWith, initialOf, firstOf, boundOf};
 ghost use Rattle.remaining.specs.Rest.{Rest, AllLower};
-ghost use Rattle.remaining.specs.Extended.{mostRecords, extended, top};
+ghost use Rattle.remaining.specs.Extended.{mostRecords, tableOf, top};
 ghost use Rattle.leaves.specs.Tallies.{extendedSize};
-ghost use Rattle.leaves.specs.Endable.{Skips, FinalsKnown};
+ghost use Rattle.leaves.specs.Endable.{Skips};
 ghost use Rattle.words.specs.Words.{At, Stands};
 ghost use Rattle.ends.specs.Ends.{Totalled};
 ghost use Rattle.state.specs.Truths.{AreTruths};
-ghost use Rattle.engine.specs.Tables.{window, Only, mostFormulas, setFlags, flagPlaces, endableIn, truthsFrom, finalsAt, numberPlaces, countsFrom, countsAt, Prepared, Judged, Surveyed, Filled};
+ghost use Rattle.engine.specs.Tables.{window, Only, mostFormulas, setFlags, truthsOn, finalsOn, FinalsOn, SameFrom, flagPlaces, numberPlaces};
+ghost use Rattle.engine.specs.Tables.{endableIn, truthsFrom, finalsAt, countsFrom, countsAt, Prepared, Judged, Surveyed, Filled};
 ghost use Rattle.engine.specs.Frames.{Frame};
 ghost use Rattle.engine.specs.Going.{isFinal, Ahead, Tells, Known, IsAction, moveOf, CanGoOn, GoesOn};
 ghost use Rattle.engine.specs.Turns.{Turns};
@@ -32,9 +33,6 @@ use records::Program;
 use sheet::Inspection;
 use steps::Setting;
 use steps::Turn;
-
-// The code of a transition that is no move, above every entry of a history.
-const TEST: u32 = 65536;
 
 // How many sets of tables there are: those for a depth stand until a configuration so much deeper is surveyed.
 pub const SETS: usize = 8;
@@ -112,8 +110,8 @@ fn top_of(n: usize, interrupts: bool) -> usize
 // Puts what runs at first, whatever the state, into frame 0 of a work area that is as long as required.
 pub fn put_first(work: &mut [u32], s: &[u8], found: Inspection)
     requires { ⌜ Of (now s) found × (length (now work) ≡ found .words) ⌝ }
-    ensures { λ _. ⌜ Frame (now (s .entry)) (boundOf (now (s .entry))) (now (work .exit)) 0 (firstOf (now (s .entry)) .0) ⌝ }
-    ensures { λ _. ⌜ length (now (work .exit)) ≡ length (now (work .entry)) ⌝ }
+    ensures frame { λ _. ⌜ Frame (now (s .entry)) (boundOf (now (s .entry))) (now (work .exit)) 0 (firstOf (now (s .entry)) .0) ⌝ }
+    ensures places { λ _. ⌜ length (now (work .exit)) ≡ length (now (work .entry)) ⌝ }
 {
     let l = found.layout;
     words::put_node(work, height::HEADER, 1, top_of(l.p, found.interrupts), 1);
@@ -174,7 +172,8 @@ fn counts_from(d: usize) -> usize
 // Takes over for every record whether it may be final: so it is final, unless that depends on the state.
 fn settle(flags: &mut [bool], to: usize)
     requires { ⌜ (mostRecords ≤ to) × (to + mostRecords ≤ length (now flags)) ⌝ }
-    ensures { λ _. ⌜ Only to mostRecords (now (flags .entry)) (now (flags .exit)) × (window to mostRecords (now (flags .exit)) ≡ endableIn (now (flags .entry))) ⌝ }
+    ensures written { λ _. ⌜ Only to mostRecords (now (flags .entry)) (now (flags .exit)) ⌝ }
+    ensures finals { λ _. ⌜ window to mostRecords (now (flags .exit)) ≡ endableIn (now (flags .entry)) ⌝ }
 {
     let mut i = 0;
     while i < leaves::RECORDS {
@@ -186,7 +185,7 @@ fn settle(flags: &mut [bool], to: usize)
 // Whether a record is final, by the tables that begin at `from`: what the formulas say, and what is told of lower records.
 fn final_by(flags: &[bool], from: usize, r: Program, running: bool) -> bool
     requires { ⌜ «from» + setFlags ≤ length (now flags) ⌝ }
-    ensures { λ f. ⌜ f ≡ finalBy r (window «from» mostFormulas (now (flags .entry))) running (window («from» + mostFormulas) mostRecords (now (flags .entry))) ⌝ }
+    ensures { λ f. ⌜ f ≡ finalBy r (truthsOn «from» (now (flags .entry))) running (finalsOn «from» (now (flags .entry))) ⌝ }
 {
     let middle = from + sheet::MOST_FORMULAS;
     let end = middle + leaves::RECORDS;
@@ -206,13 +205,11 @@ fn mark_finals(
     running: bool,
 )
     requires { ⌜ ProgramTable (now programs) n × («from» + setFlags ≤ length (now flags)) ⌝ }
-    requires { ⌜ AllLower (extended interrupts (programAt (now programs)) n)
-        × Skips (extended interrupts (programAt (now programs)) n) (extendedSize interrupts n) (window («from» + mostFormulas) mostRecords (now flags)) (now skips) ⌝ }
-    ensures { λ _. ⌜ FinalsKnown (extended interrupts (programAt (now (programs .entry))) n) (extendedSize interrupts n) (window «from» mostFormulas (now (flags .exit))) running
-        (window («from» + mostFormulas) mostRecords (now (flags .exit))) ⌝ }
-    ensures { λ _. ⌜ Only («from» + mostFormulas) mostRecords (now (flags .entry)) (now (flags .exit)) ⌝ }
-    ensures { λ _. ⌜ ((i : ℕ) → extendedSize interrupts n ≤ i → getD (window («from» + mostFormulas) mostRecords (now (flags .exit))) i true
-        ≡ getD (window («from» + mostFormulas) mostRecords (now (flags .entry))) i true) ⌝ }
+    requires { ⌜ AllLower (tableOf (now programs) n interrupts) ⌝ }
+    requires { ⌜ Skips (tableOf (now programs) n interrupts) (extendedSize interrupts n) (finalsOn «from» (now flags)) (now skips) ⌝ }
+    ensures finals { λ _. ⌜ FinalsOn (tableOf (now (programs .entry)) n interrupts) (extendedSize interrupts n) «from» running (now (flags .exit)) ⌝ }
+    ensures written { λ _. ⌜ Only («from» + mostFormulas) mostRecords (now (flags .entry)) (now (flags .exit)) ⌝ }
+    ensures behind { λ _. ⌜ SameFrom (extendedSize interrupts n) (finalsOn «from» (now (flags .entry))) (finalsOn «from» (now (flags .exit))) ⌝ }
 {
     let size = leaves::places_of(n, interrupts);
     let none = size as u32;
@@ -229,8 +226,8 @@ fn mark_finals(
 // Fills in what the formulas say in a state, and which records are final, in the tables for depth d.
 fn judge(flags: &mut [bool], numbers: &[u32], s: &[u8], found: Inspection, st: State, d: usize)
     requires { ⌜ Of (now s) found × Prepared (now s) (now flags) (now numbers) ⌝ }
-    ensures { λ _. ⌜ Judged (now (s .entry)) st d (now (flags .exit)) (now (numbers .entry)) ⌝ }
-    ensures { λ _. ⌜ Only (truthsFrom d) setFlags (now (flags .entry)) (now (flags .exit)) ⌝ }
+    ensures tables { λ _. ⌜ Judged (now (s .entry)) st d (now (flags .exit)) (now (numbers .entry)) ⌝ }
+    ensures written { λ _. ⌜ Only (truthsFrom d) setFlags (now (flags .entry)) (now (flags .exit)) ⌝ }
 {
     let l = found.layout;
     let formulas = l.formulas;
@@ -264,9 +261,9 @@ pub fn is_final(
 ) -> bool
     requires { ⌜ Of (now s) found × Prepared (now s) (now flags) (now numbers) ⌝ }
     requires { ⌜ ((left : ℕ) × (p : Prog) × Frame (now s) left (now work) d p) ⌝ }
-    ensures { λ r. ⌜ ((left : ℕ) (p : Prog) → Frame (now (s .entry)) left (now (work .entry)) d p → r ≡ isFinal (now (s .entry)) (p, st)) ⌝ }
-    ensures { λ _. ⌜ Prepared (now (s .entry)) (now (flags .exit)) (now (numbers .entry)) ⌝ }
-    ensures { λ _. ⌜ Filled d d (now (flags .entry)) (now (flags .exit)) (now (numbers .entry)) (now (numbers .entry)) ⌝ }
+    ensures answer { λ r. ⌜ ((left : ℕ) (p : Prog) → Frame (now (s .entry)) left (now (work .entry)) d p → r ≡ isFinal (now (s .entry)) (p, st)) ⌝ }
+    ensures tables { λ _. ⌜ Prepared (now (s .entry)) (now (flags .exit)) (now (numbers .entry)) ⌝ }
+    ensures written { λ _. ⌜ Filled d d (now (flags .entry)) (now (flags .exit)) (now (numbers .entry)) (now (numbers .entry)) ⌝ }
 {
     judge(flags, numbers, s, found, st, d);
     let from = flags_from(d) + sheet::MOST_FORMULAS;
@@ -277,8 +274,8 @@ pub fn is_final(
 // Fills in how many transitions each record has in a state, in the tables for depth d.
 fn tally(numbers: &mut [u32], flags: &[bool], s: &[u8], found: Inspection, st: State, d: usize)
     requires { ⌜ Of (now s) found × Judged (now s) st d (now flags) (now numbers) ⌝ }
-    ensures { λ _. ⌜ Surveyed (now (s .entry)) st d (now (flags .entry)) (now (numbers .exit)) ⌝ }
-    ensures { λ _. ⌜ Only (countsFrom d) mostRecords (now (numbers .entry)) (now (numbers .exit)) ⌝ }
+    ensures tables { λ _. ⌜ Surveyed (now (s .entry)) st d (now (flags .entry)) (now (numbers .exit)) ⌝ }
+    ensures written { λ _. ⌜ Only (countsFrom d) mostRecords (now (numbers .entry)) (now (numbers .exit)) ⌝ }
 {
     let l = found.layout;
     let actions = l.actions;
@@ -331,9 +328,9 @@ pub fn survey(
 ) -> Findings
     requires { ⌜ Of (now s) found × Prepared (now s) (now flags) (now numbers) ⌝ }
     requires { ⌜ ((left : ℕ) × (p : Prog) × Frame (now s) left (now work) d p) ⌝ }
-    ensures { λ r. ⌜ ((left : ℕ) (p : Prog) → Frame (now (s .entry)) left (now (work .entry)) d p → Tells (now (s .entry)) (p, st) r) ⌝ }
-    ensures { λ _. ⌜ Surveyed (now (s .entry)) st d (now (flags .exit)) (now (numbers .exit)) ⌝ }
-    ensures { λ _. ⌜ Filled d d (now (flags .entry)) (now (flags .exit)) (now (numbers .entry)) (now (numbers .exit)) ⌝ }
+    ensures answer { λ r. ⌜ ((left : ℕ) (p : Prog) → Frame (now (s .entry)) left (now (work .entry)) d p → Tells (now (s .entry)) (p, st) r) ⌝ }
+    ensures tables { λ _. ⌜ Surveyed (now (s .entry)) st d (now (flags .exit)) (now (numbers .exit)) ⌝ }
+    ensures written { λ _. ⌜ Filled d d (now (flags .entry)) (now (flags .exit)) (now (numbers .entry)) (now (numbers .exit)) ⌝ }
 {
     judge(flags, numbers, s, found, st, d);
     tally(numbers, flags, s, found, st, d);
@@ -354,7 +351,7 @@ fn state_after(s: &[u8], found: Inspection, truths: &[bool], entry: u32, st: Sta
     requires { ⌜ Known (IsAction (now s)) (moveOf entry) ⌝ }
     ensures { λ r. ⌜ r ≡ after (worldOf (now (s .entry))) (moveOf entry) st ⌝ }
 {
-    if entry == TEST {
+    if entry == steps::TEST {
         return st;
     }
     let l = found.layout;

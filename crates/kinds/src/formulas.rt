@@ -4,6 +4,9 @@ ghost use Rattle.kinds.specs.Truth.{truthOf};
 ghost use Rattle.kinds.specs.Formulas.{fieldX, fieldA, fieldB, fieldOk, formulaOk};
 use records::Formula;
 
+// The last kind of formula.
+const LAST_KIND: usize = 7;
+
 // What a field of a formula is: a fluent, one of its values, a number up to its size, a lower formula.
 pub enum Field {
     Unused,
@@ -64,7 +67,7 @@ fn field_ok(nf: usize, size: usize, i: usize, field: Field, x: usize) -> bool
 pub fn formula_ok(nf: usize, size: usize, i: usize, r: Formula) -> bool
     ensures { λ ok. ⌜ ok ≡ formulaOk nf size i r ⌝ }
 {
-    (r.kind <= 7)
+    (r.kind <= LAST_KIND)
         & field_ok(nf, size, i, field_x(r.kind), r.x)
         & field_ok(nf, size, i, field_a(r.kind), r.a)
         & field_ok(nf, size, i, field_b(r.kind), r.b)

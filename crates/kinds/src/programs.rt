@@ -2,11 +2,14 @@
 // column that is asked for. Tables are read in the arms, so that a kind reads no more than it uses.
 ghost use mathlib.Core.Path.{_≡_};
 ghost use mathlib.Core.Bool.{true, not, cond, _&&_, _||_};
-ghost use Prim.Native.Nat.{_+_, _<_};
+ghost use Prim.Native.Nat.{_+_, _^_, _<_};
 ghost use lib.ListN.{getD};
 ghost use Rattle.kinds.specs.Programs.{fieldA, fieldB, fieldC, fieldOk, programOk, isRecord, hasA, hasB, acts};
 ghost use Rattle.kinds.specs.Programs.{finalBy, finalBoundBy, hasOwn, usesA, tagA, loops, tagB, countBy, firstBy};
 use records::Program;
+
+// The last kind of program record.
+const LAST_KIND: usize = 11;
 
 // What a field of a program record is.
 pub enum Field {
@@ -74,7 +77,7 @@ fn field_ok(nq: usize, na: usize, i: usize, field: Field, x: usize) -> bool
 pub fn program_ok(nq: usize, na: usize, i: usize, r: Program) -> bool
     ensures { λ ok. ⌜ ok ≡ programOk nq na i r ⌝ }
 {
-    (r.kind <= 11)
+    (r.kind <= LAST_KIND)
         & field_ok(nq, na, i, field_a(r.kind), r.a)
         & field_ok(nq, na, i, field_b(r.kind), r.b)
         & field_ok(nq, na, i, field_c(r.kind), r.c)
@@ -131,6 +134,12 @@ fn both_final(finals: &[bool], a: usize, b: usize) -> bool
     records::flag_in(finals, a, true) & records::flag_in(finals, b, true)
 }
 
+fn either_final(finals: &[bool], a: usize, b: usize) -> bool
+    ensures { λ r. ⌜ r ≡ (getD (now (finals .entry)) a true || getD (now (finals .entry)) b true) ⌝ }
+{
+    records::flag_in(finals, a, true) | records::flag_in(finals, b, true)
+}
+
 fn choice(h: bool, fa: bool, fb: bool) -> bool
     ensures { λ r. ⌜ r ≡ (h && fa || not h && fb) ⌝ }
 {
@@ -146,7 +155,7 @@ pub fn final_by(r: Program, truths: &[bool], running: bool, finals: &[bool]) -> 
         1 => false,
         2 => false,
         3 => both_final(finals, r.a, r.b),
-        4 => records::flag_in(finals, r.a, true) | records::flag_in(finals, r.b, true),
+        4 => either_final(finals, r.a, r.b),
         6 => choice(
             records::flag_in(truths, r.c, false),
             records::flag_in(finals, r.a, true),
@@ -169,11 +178,8 @@ pub fn final_bound_by(r: Program, most: bool, marks: &[bool]) -> bool
         1 => false,
         2 => false,
         3 => both_final(marks, r.a, r.b),
-        4 => records::flag_in(marks, r.a, true) | records::flag_in(marks, r.b, true),
-        6 => {
-            both_final(marks, r.a, r.b)
-                | most & (records::flag_in(marks, r.a, true) | records::flag_in(marks, r.b, true))
-        }
+        4 => either_final(marks, r.a, r.b),
+        6 => both_final(marks, r.a, r.b) | most & either_final(marks, r.a, r.b),
         7 => most | records::flag_in(marks, r.a, true),
         8 => both_final(marks, r.a, r.b),
         9 => both_final(marks, r.a, r.b),
@@ -248,7 +254,7 @@ fn one_if(b: bool) -> u64
 
 // How many transitions part a has, where they count.
 fn part(counts: &[u32], a: usize, goes: bool) -> u64
-    ensures { λ r. ⌜ (r ≡ cond goes (getD (now (counts .entry)) a 0) 0) × (r < 4294967296) ⌝ }
+    ensures { λ r. ⌜ (r ≡ cond goes (getD (now (counts .entry)) a 0) 0) × (r < 2 ^ 32) ⌝ }
 {
     if goes {
         records::number_in(counts, a, 0) as u64
@@ -303,7 +309,7 @@ pub fn count_by(
 
 // How many of them are those of its part a: they come first.
 pub fn first_by(r: Program, truths: &[bool], running: bool, counts: &[u32]) -> usize
-    ensures { λ k. ⌜ (k ≡ firstBy r (now (truths .entry)) running (now (counts .entry))) × (k < 4294967296) ⌝ }
+    ensures { λ k. ⌜ (k ≡ firstBy r (now (truths .entry)) running (now (counts .entry))) × (k < 2 ^ 32) ⌝ }
 {
     let goes = uses_a(r.kind, records::flag_in(truths, r.c, false), running);
     part(counts, r.a, goes) as usize

@@ -5,7 +5,7 @@ use mathlib.Core.Bool.{Bool, true, false, not, _&&_}
 use mathlib.Core.List.{List}
 use Prim.Native.Nat.{ℕ, _-_, _≤_, _<_}
 use native.Mathlib.Omega.{arith}
-use lib.ListN.{length, getD, length-append, length-replicate, List·getD-eq-default}
+use lib.ListN.{getD, List·getD-eq-default}
 use Rattle.records.specs.declared.Program.{Program}
 use Rattle.records.specs.Table.{upTo, entryOf}
 use Rattle.records.proofs.Fills.{default-at, length-up, up-at}
@@ -31,10 +31,6 @@ module _ (most : Bool) (p : ℕ → Program) (m : ℕ) where
   pub bounds-after : (i : ℕ) → m ≤ i → getD (finalBoundsOf most p m) i true ≡ true
   unfolding finalBoundsOf
   bounds-after i l = default-at true (upTo (finalBoundAt most p) m) (260 - m) i ∙ List·getD-eq-default (upTo (finalBoundAt most p) m) true (omega (arith, length-up (finalBoundAt most p) m))
-
-  pub length-bounds : m ≤ 260 → length (finalBoundsOf most p m) ≡ 260
-  unfolding finalBoundsOf
-  length-bounds l = simp (length-append, length-up, length-replicate) (omega arith)
 
 -- the table that runs has a place for each record
 pub places-few : (interrupts : Bool) (n : ℕ) → n ≤ 256 → extendedSize interrupts n ≤ 260

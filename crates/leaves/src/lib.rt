@@ -2,17 +2,16 @@
 // every state at once, whether it may be final, whether it surely is, and which records depend on the state.
 ghost use mathlib.Core.Path.{_≡_};
 ghost use mathlib.Core.Bool.{true, _&&_};
-ghost use Prim.Native.Nat.{_*_, _≤_, _<_, min};
+ghost use Prim.Native.Nat.{_≤_, _<_, min};
 ghost use lib.Dec.{T};
 ghost use lib.ListN.{length, getD};
-ghost use Rattle.records.specs.Records.{programAt, TwoBytes, ProgramTable};
-ghost use Rattle.kinds.specs.Programs.{acts, countBy};
-ghost use Rattle.remaining.specs.Rest.{AllLower};
-ghost use Rattle.remaining.specs.Extended.{mostRecords, empty, virtual, extended};
+ghost use Rattle.records.specs.Records.{TwoBytes, ProgramTable};
+ghost use Rattle.kinds.specs.Programs.{acts};
+ghost use Rattle.remaining.specs.Extended.{mostRecords, empty, virtual, tableOf};
 ghost use Rattle.state.specs.Truths.{possibleIn};
 ghost use Rattle.state.specs.Ranges.{InActions};
-ghost use Rattle.leaves.specs.Tallies.{cap, extendedSize, ReadsActions, Tallied};
-ghost use Rattle.leaves.specs.Endable.{finalBoundsOf, doubtBy, skipsOf, FinalsKnown};
+ghost use Rattle.leaves.specs.Tallies.{cap, extendedSize, countIn, Tallied};
+ghost use Rattle.leaves.specs.Endable.{finalBoundsOf, doubtBy, skipsOf, Tallyable};
 use records::Program;
 
 // How many program records can run: those of a sheet, and four more.
@@ -27,8 +26,8 @@ const CAP: u64 = 1000000;
 // The records above the first n, where there are interrupts.
 fn virtual_at(n: usize, k: usize) -> Program
     requires { ⌜ (1 ≤ n) × (n ≤ 256) ⌝ }
-    ensures { λ r. ⌜ r ≡ getD (virtual true n) k empty ⌝ }
-    ensures { λ r. ⌜ TwoBytes r ⌝ }
+    ensures record { λ r. ⌜ r ≡ getD (virtual true n) k empty ⌝ }
+    ensures fields { λ r. ⌜ TwoBytes r ⌝ }
 {
     match k {
         0 => Program {
@@ -67,8 +66,8 @@ fn virtual_at(n: usize, k: usize) -> Program
 // Record i of the table that runs.
 pub fn record_at(programs: &[u8], n: usize, interrupts: bool, i: usize) -> Program
     requires { ⌜ ProgramTable (now programs) n ⌝ }
-    ensures { λ r. ⌜ r ≡ extended interrupts (programAt (now (programs .entry))) n i ⌝ }
-    ensures { λ r. ⌜ TwoBytes r ⌝ }
+    ensures record { λ r. ⌜ r ≡ tableOf (now (programs .entry)) n interrupts i ⌝ }
+    ensures fields { λ r. ⌜ TwoBytes r ⌝ }
 {
     if i < n {
         return records::program_at(programs, i);
@@ -110,7 +109,7 @@ fn count_at(
     counts: &[u32],
 ) -> u32
     requires { ⌜ (T (acts (r .kind)) → InActions (now actions) (r .a)) ⌝ }
-    ensures { λ k. ⌜ k ≡ min cap (countBy r (possibleIn (now (actions .entry)) (now (truths .entry)) (r .a)) (now (truths .entry)) running (now (finals .entry)) (now (counts .entry))) ⌝ }
+    ensures { λ k. ⌜ k ≡ countIn r (now (actions .entry)) (now (truths .entry)) running (now (finals .entry)) (now (counts .entry)) ⌝ }
 {
     let can = can_act(r, actions, truths);
     capped(kinds::programs::count_by(r, can, truths, running, finals, counts))
@@ -136,11 +135,10 @@ pub fn tallies(
     finals: &[bool],
 )
     requires { ⌜ ProgramTable (now programs) n × (length (now counts) ≡ mostRecords) ⌝ }
-    requires { ⌜ AllLower (extended interrupts (programAt (now programs)) n) × ReadsActions (now actions) (extended interrupts (programAt (now programs)) n)
-        × FinalsKnown (extended interrupts (programAt (now programs)) n) (extendedSize interrupts n) (now truths) running (now finals) ⌝ }
-    ensures { λ _. ⌜ Tallied (extended interrupts (programAt (now (programs .entry))) n) (extendedSize interrupts n) (now (truths .entry))
-        (possibleIn (now (actions .entry)) (now (truths .entry))) running (now (counts .entry)) (now (counts .exit)) ⌝ }
-    ensures { λ _. ⌜ length (now (counts .exit)) ≡ mostRecords ⌝ }
+    requires { ⌜ Tallyable (tableOf (now programs) n interrupts) (extendedSize interrupts n) (now actions) (now truths) running (now finals) ⌝ }
+    ensures counts { λ _. ⌜ Tallied (tableOf (now (programs .entry)) n interrupts) (extendedSize interrupts n) (now (actions .entry)) (now (truths .entry))
+        running (now (counts .entry)) (now (counts .exit)) ⌝ }
+    ensures places { λ _. ⌜ length (now (counts .exit)) ≡ mostRecords ⌝ }
 {
     let m = places_of(n, interrupts);
     let mut i = 0;
@@ -155,7 +153,7 @@ pub fn tallies(
 // With `most`, which records of the table that runs may be final in some state; without, which are in every one.
 pub fn bounds(programs: &[u8], n: usize, interrupts: bool, most: bool) -> [bool; RECORDS]
     requires { ⌜ ProgramTable (now programs) n ⌝ }
-    ensures { λ r. ⌜ r ≡ finalBoundsOf most (extended interrupts (programAt (now (programs .entry))) n) (extendedSize interrupts n) ⌝ }
+    ensures { λ r. ⌜ r ≡ finalBoundsOf most (tableOf (now (programs .entry)) n interrupts) (extendedSize interrupts n) ⌝ }
 {
     let m = places_of(n, interrupts);
     let mut marks = [true; RECORDS];
@@ -179,7 +177,7 @@ fn doubt_at(endable: &[bool], sure: &[bool], i: usize) -> bool
 // From each record on, the first whose finality depends on the state, where `endable` has those that may be final in some.
 pub fn skips(programs: &[u8], n: usize, interrupts: bool, endable: &[bool]) -> [u32; SKIPS]
     requires { ⌜ ProgramTable (now programs) n ⌝ }
-    ensures { λ r. ⌜ r ≡ skipsOf (extended interrupts (programAt (now (programs .entry))) n) (extendedSize interrupts n) (now (endable .entry)) ⌝ }
+    ensures { λ r. ⌜ r ≡ skipsOf (tableOf (now (programs .entry)) n interrupts) (extendedSize interrupts n) (now (endable .entry)) ⌝ }
 {
     let m = places_of(n, interrupts);
     let sure = bounds(programs, n, interrupts, false);

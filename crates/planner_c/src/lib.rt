@@ -17,8 +17,9 @@ use sheet::Checked;
 
 #[no_mangle]
 pub extern "C" fn planner_raw_check(sheet: &[u8], words: &mut usize, place: &mut usize) -> u32
-    ensures { λ r. ⌜ r ≡ numberOf (checkOf (now (sheet .entry))) ⌝ }
-    ensures { λ _. ⌜ (now (words .exit) ≡ wordsOf (checkOf (now (sheet .entry)))) × (now (place .exit) ≡ placeOf (checkOf (now (sheet .entry)))) ⌝ }
+    ensures number { λ r. ⌜ r ≡ numberOf (checkOf (now (sheet .entry))) ⌝ }
+    ensures words { λ _. ⌜ now (words .exit) ≡ wordsOf (checkOf (now (sheet .entry))) ⌝ }
+    ensures place { λ _. ⌜ now (place .exit) ≡ placeOf (checkOf (now (sheet .entry))) ⌝ }
 {
     match planner::check(sheet) {
         Checked::Accepted { words: w } => {
@@ -41,9 +42,10 @@ pub extern "C" fn planner_raw_sizes(
     bound: &mut usize,
     place: &mut usize,
 ) -> u32
-    ensures { λ r. ⌜ r ≡ sizesNumber (sizesOf (now (sheet .entry))) ⌝ }
-    ensures { λ _. ⌜ (now (fluents .exit) ≡ sizesFluents (sizesOf (now (sheet .entry)))) × (now (bound .exit) ≡ sizesBound (sizesOf (now (sheet .entry))))
-        × (now (place .exit) ≡ sizesPlace (sizesOf (now (sheet .entry)))) ⌝ }
+    ensures number { λ r. ⌜ r ≡ sizesNumber (sizesOf (now (sheet .entry))) ⌝ }
+    ensures fluents { λ _. ⌜ now (fluents .exit) ≡ sizesFluents (sizesOf (now (sheet .entry))) ⌝ }
+    ensures bound { λ _. ⌜ now (bound .exit) ≡ sizesBound (sizesOf (now (sheet .entry))) ⌝ }
+    ensures place { λ _. ⌜ now (place .exit) ≡ sizesPlace (sizesOf (now (sheet .entry))) ⌝ }
 {
     match planner::sizes(sheet) {
         Sized::Known {
@@ -73,12 +75,12 @@ pub extern "C" fn planner_raw_plan(
     t: &mut usize,
     place: &mut usize,
 ) -> u32
-    ensures { λ r. ⌜ r ≡ planNumber (answerOf (now (sheet .entry)) (length (now (work .entry))) (length (now (trace .entry)))) ⌝ }
-    ensures { λ _. ⌜ (now (n .exit) ≡ planMoves (answerOf (now (sheet .entry)) (length (now (work .entry))) (length (now (trace .entry)))))
-        × (now (t .exit) ≡ planTransitions (answerOf (now (sheet .entry)) (length (now (work .entry))) (length (now (trace .entry)))))
-        × (now (place .exit) ≡ planPlace (answerOf (now (sheet .entry)) (length (now (work .entry))) (length (now (trace .entry))))) ⌝ }
-    ensures { λ _. ⌜ (now (trace .exit) ≡ traceOf (now (sheet .entry)) (length (now (work .entry))) (now (trace .entry)))
-        × (now (work .exit) ≡ planWork (now (sheet .entry)) (now (work .entry)) (length (now (trace .entry)))) ⌝ }
+    ensures number { λ r. ⌜ r ≡ planNumber (answerOf (now (sheet .entry)) (length (now (work .entry))) (length (now (trace .entry)))) ⌝ }
+    ensures moves { λ _. ⌜ now (n .exit) ≡ planMoves (answerOf (now (sheet .entry)) (length (now (work .entry))) (length (now (trace .entry)))) ⌝ }
+    ensures transitions { λ _. ⌜ now (t .exit) ≡ planTransitions (answerOf (now (sheet .entry)) (length (now (work .entry))) (length (now (trace .entry)))) ⌝ }
+    ensures place { λ _. ⌜ now (place .exit) ≡ planPlace (answerOf (now (sheet .entry)) (length (now (work .entry))) (length (now (trace .entry)))) ⌝ }
+    ensures trace { λ _. ⌜ now (trace .exit) ≡ traceOf (now (sheet .entry)) (length (now (work .entry))) (now (trace .entry)) ⌝ }
+    ensures work { λ _. ⌜ now (work .exit) ≡ planWork (now (sheet .entry)) (now (work .entry)) (length (now (trace .entry))) ⌝ }
 {
     match planner::plan(sheet, work, trace) {
         Planned::Found {
@@ -107,10 +109,10 @@ pub extern "C" fn planner_raw_replay(
     yes: &mut u32,
     place: &mut usize,
 ) -> u32
-    ensures { λ r. ⌜ r ≡ replyNumber (replyOf (now (sheet .entry)) (now (history .entry)) (length (now (work .entry)))) ⌝ }
-    ensures { λ _. ⌜ (now (yes .exit) ≡ replyYes (replyOf (now (sheet .entry)) (now (history .entry)) (length (now (work .entry)))))
-        × (now (place .exit) ≡ replyPlace (replyOf (now (sheet .entry)) (now (history .entry)) (length (now (work .entry))))) ⌝ }
-    ensures { λ _. ⌜ now (work .exit) ≡ replayWork (now (sheet .entry)) (now (work .entry)) ⌝ }
+    ensures number { λ r. ⌜ r ≡ replyNumber (replyOf (now (sheet .entry)) (now (history .entry)) (length (now (work .entry)))) ⌝ }
+    ensures yes { λ _. ⌜ now (yes .exit) ≡ replyYes (replyOf (now (sheet .entry)) (now (history .entry)) (length (now (work .entry)))) ⌝ }
+    ensures place { λ _. ⌜ now (place .exit) ≡ replyPlace (replyOf (now (sheet .entry)) (now (history .entry)) (length (now (work .entry)))) ⌝ }
+    ensures work { λ _. ⌜ now (work .exit) ≡ replayWork (now (sheet .entry)) (now (work .entry)) ⌝ }
 {
     match planner::replay(sheet, history, work) {
         Replayed::Yes => {
@@ -139,9 +141,10 @@ pub extern "C" fn planner_raw_look_up(
     initial: &mut usize,
     place: &mut usize,
 ) -> u32
-    ensures { λ r. ⌜ r ≡ lookNumber (lookOf (now (sheet .entry)) fluent) ⌝ }
-    ensures { λ _. ⌜ (now (size .exit) ≡ lookSize (lookOf (now (sheet .entry)) fluent)) × (now (initial .exit) ≡ lookInitial (lookOf (now (sheet .entry)) fluent))
-        × (now (place .exit) ≡ lookPlace (lookOf (now (sheet .entry)) fluent)) ⌝ }
+    ensures number { λ r. ⌜ r ≡ lookNumber (lookOf (now (sheet .entry)) fluent) ⌝ }
+    ensures size { λ _. ⌜ now (size .exit) ≡ lookSize (lookOf (now (sheet .entry)) fluent) ⌝ }
+    ensures initial { λ _. ⌜ now (initial .exit) ≡ lookInitial (lookOf (now (sheet .entry)) fluent) ⌝ }
+    ensures place { λ _. ⌜ now (place .exit) ≡ lookPlace (lookOf (now (sheet .entry)) fluent) ⌝ }
 {
     match planner::look_up(sheet, fluent) {
         Looked::Found {
@@ -165,8 +168,9 @@ pub extern "C" fn planner_raw_look_up(
 // How many bytes of notes stand at the sheet's start.
 #[no_mangle]
 pub extern "C" fn planner_raw_notes(sheet: &[u8], bytes: &mut usize, place: &mut usize) -> u32
-    ensures { λ r. ⌜ r ≡ numberOf (checkOf (now (sheet .entry))) ⌝ }
-    ensures { λ _. ⌜ (now (bytes .exit) ≡ length (notesOf (now (sheet .entry)))) × (now (place .exit) ≡ placeOf (checkOf (now (sheet .entry)))) ⌝ }
+    ensures number { λ r. ⌜ r ≡ numberOf (checkOf (now (sheet .entry))) ⌝ }
+    ensures bytes { λ _. ⌜ now (bytes .exit) ≡ length (notesOf (now (sheet .entry))) ⌝ }
+    ensures place { λ _. ⌜ now (place .exit) ≡ placeOf (checkOf (now (sheet .entry))) ⌝ }
 {
     let mut number = 0u32;
     let part = planner::notes(sheet, &mut number, place);

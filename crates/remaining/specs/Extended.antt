@@ -6,6 +6,7 @@ use mathlib.Core.List.{List, [], _∷_}
 use lib.Dec.{ltb}
 use lib.ListN.{getD}
 use Rattle.records.specs.declared.Program.{Program}
+use Rattle.records.specs.Records.{programAt}
 use Rattle.golog.specs.World.{start, stop}
 
 -- no more records than these: the 256 that a sheet may have, and four
@@ -29,6 +30,10 @@ virtual false n = []
 -- the first n records of p, and then those; none beyond
 unfoldable pub extended : (interrupts : Bool) → (ℕ → Program) → (n : ℕ) → ℕ → Program
 extended interrupts p n i = cond (ltb i n) (p i) (getD (virtual interrupts n) (i - n) empty)
+
+-- so of the n records in a table's bytes: the table that runs
+abbrev pub tableOf : (programs : List ℕ) (n : ℕ) (interrupts : Bool) → ℕ → Program
+tableOf programs n interrupts = extended interrupts (programAt programs) n
 
 -- the record that runs
 abbrev pub top : (interrupts : Bool) → (n : ℕ) → ℕ

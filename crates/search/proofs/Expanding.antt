@@ -37,6 +37,15 @@ pub record Searched
   pub preserves : Preserves s w w′ v flags flags′ numbers numbers′
   pub same : stale ≡ false → SameTables (q .depth) flags flags′ numbers numbers′
 
+-- the same, by other names of what it left
+pub as-left :
+    {s w w′ w″ moves trace trace′ trace″ : List ℕ} {t : Task} {q v : Visit} {cut : Bool} {p : Prog} {flags flags′ flags″ : List Bool} {numbers numbers′ numbers″ : List ℕ}
+    {o o′ : Outcome} {stale stale′ : Bool}
+    → w′ ≡ w″ → trace′ ≡ trace″ → flags′ ≡ flags″ → numbers′ ≡ numbers″ → stale ≡ stale′ → o ≡ o′
+    → Searched s w w″ moves trace trace″ t q v cut p flags flags″ numbers numbers″ o′ stale′
+    → Searched s w w′ moves trace trace′ t q v cut p flags flags′ numbers numbers′ o stale
+as-left ew et ef en es eo Q = rw (ew, et, ef, en, es, eo) Q
+
 module _
     (trace : List ℕ) {s w moves : List ℕ} {t : Task} {q v : Visit} {x : Taken} {cut : Bool} {p : Prog} {flags flags₂ : List Bool} {numbers numbers₂ : List ℕ} {a : Seen}
     (Y : Follows moves q x v) (R : Ready s w moves (length trace) t v p) (A : LookedAt s w moves t v cut flags flags₂ numbers numbers₂ a) where

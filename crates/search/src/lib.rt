@@ -190,20 +190,15 @@ fn expand(
         if guide::lets_pass(moves, q.used, t.free, x.entry) {
             let v = follow(moves, q, x);
             let a = look(flags, numbers, work, s, moves, t, v, cut);
-            let seen = a.outcome;
-            if a.known {
-                if guide::note(trace, q.n, x.entry, seen) {
-                    return seen;
-                }
-                cut = is_more(seen);
-            } else {
-                let o = expand(work, trace, flags, numbers, s, moves, t, v, cut, a.cursor);
-                if guide::note(trace, q.n, x.entry, o) {
-                    return o;
-                }
-                cut = is_more(o);
+            let mut o = a.outcome;
+            if !a.known {
+                o = expand(work, trace, flags, numbers, s, moves, t, v, cut, a.cursor);
                 stale = engine::SETS <= q.left;
             }
+            if guide::note(trace, q.n, x.entry, o) {
+                return o;
+            }
+            cut = is_more(o);
         }
     }
     unfound(cut)

@@ -5,7 +5,7 @@ use mathlib.Core.Path.{_≡_, refl, sym, ap, ap₂, subst, _∙_}
 use mathlib.Core.Bool.{Bool, true, false, cond}
 use mathlib.Core.Option.{some}
 use mathlib.Core.List.{List, [], _∷_, _++_}
-use Prim.Native.Nat.{ℕ, zero, suc, _+_, _*_, _-_, _≤_, _<_}
+use Prim.Native.Nat.{ℕ, zero, suc, _+_, _*_, _-_, _^_, _≤_, _<_}
 use native.Mathlib.Omega.{arith}
 use lib.Dec.{T, eqb}
 use lib.ListN.{length, getD, getElem?}
@@ -25,6 +25,7 @@ use Rattle.remaining.proofs.Nodes.{step-nodes}
 use Rattle.words.specs.Words.{Put, Room}
 use Rattle.words.proofs.Written.{kept-less, kept-trans, kept-put}
 use Rattle.words.proofs.Moved.{put-gone}
+use Rattle.ends.specs.Ends.{mostLevels}
 use Rattle.leaves.specs.Tallies.{extendedSize, countsOf}
 use Rattle.leaves.proofs.Entries.{counts-exact, first-exact}
 use Rattle.steps.specs.Laid.{codeOf, Sources, Counted, CanLay, Built, Lays, past, Wrapped}
@@ -52,11 +53,12 @@ cond-less false k x h = absurd (omega arith)
 -- r is record i of the table that runs, low enough for its counts to be exact
 pub record IsRecord (v : Sources) (i : ℕ) (r : Program) : Type 0 where
   pub inside : i < v .many
-  pub low : rise (v .records) i ≤ 18
+  pub low : rise (v .records) i ≤ mostLevels
   pub is : r ≡ v .records i
 
 -- r has no transition of its own: `first` of its transitions are part a's, the others part b's
-pub record OfParts (v : Sources) (r : Program) (first : ℕ) : Type 0 where
+pub record OfParts (v : Sources) (i : ℕ) (r : Program) (first : ℕ) : Type 0 where
+  pub of : IsRecord v i r
   pub other : hasOwn (r .kind) ≡ false
   pub first-by : first ≡ firstBy r (v .truths) (v .running) (v .counts)
 
@@ -65,15 +67,15 @@ is-record can e = record { inside = can .inside; low = can .low; is = e }
 
 pub of-parts :
     {v : Sources} {i first : ℕ} {r : Program} {own : Bool}
-    → IsRecord v i r → own ≡ hasOwn (r .kind) → own ≡ false → first ≡ firstBy r (v .truths) (v .running) (v .counts) → OfParts v r first
-of-parts I e n f = record { other = sym e ∙ n; first-by = f }
+    → IsRecord v i r → own ≡ hasOwn (r .kind) → own ≡ false → first ≡ firstBy r (v .truths) (v .running) (v .counts) → OfParts v i r first
+of-parts I e n f = record { of = I; other = sym e ∙ n; first-by = f }
 
 module _ {W : World} {s : State} {v : Sources} (C : Counted W s v) where
   abbrev p : ℕ → Program
   p = v .records
 
   -- a record's count is exact
-  pub count-is : (i : ℕ) → i < v .many → rise (v .records) i ≤ 18 → getD (v .counts) i 0 ≡ length (leafOf W s (v .records) i .transitions)
+  pub count-is : (i : ℕ) → i < v .many → rise (v .records) i ≤ mostLevels → getD (v .counts) i 0 ≡ length (leafOf W s (v .records) i .transitions)
   count-is i h l = ap (λ (c : List ℕ). getD c i 0) (C .counts-are) ∙ counts-exact W s p (C .lower) (v .many) i h l
 
   module _ {i : ℕ} {r : Program} (I : IsRecord v i r) where
@@ -131,7 +133,7 @@ module _ {W : World} {s : State} {v : Sources} (C : Counted W s v) where
         let u : T (hasB (r .kind)) = uses-b (r .kind) _ _ _ t in
         subst (λ (r : Program). T (hasB (r .kind)) → (r .b < i) × (rise p (r .b) < rise p i)) (sym (I .is)) (λ u. (lower-b p (C .lower) i u, rise-b p (C .lower) i u)) u
 
-    module _ {first : ℕ} (P : OfParts v r first) where
+    module _ {first : ℕ} (P : OfParts v i r first) where
       parts-are : leafOf W s p i .transitions ≡ parts
       unfolding own
       parts-are = steps-are ∙ ap (λ (b : Bool). only b ((ownMove r, gone) ∷ []) ++ parts) (no-own (r .kind) _ _ (P .other))
@@ -169,11 +171,8 @@ module _ {W : World} {s : State} {v : Sources} (C : Counted W s v) where
 
         pub a-room : {w w₁ : List ℕ} {to at e n : ℕ} → Room w to (1 + 2 * rise (v .records) i) → Lays (leafOf W s (v .records) (r .a) .transitions) k at w w₁ e n → Room w₁ to (n + 2)
         a-room {w} {w₁} {to} {at} {e} {n} R L =
-            record {
-              inside = omega (arith, R .inside, L .kept .len, leaf-few W s p (C .lower) (r .a) k at e n w₁ (L .built), a-lower (a-goes .0) .1);
-              small =
-                  omega (arith, R .small, L .kept .len);
-            }
+            let few = leaf-few W s p (C .lower) (r .a) k at e n w₁ (L .built) in
+            record { inside = omega (arith, R .inside, L .kept .len, few, a-lower (a-goes .0) .1); small = omega (arith, R .small, L .kept .len) }
 
         pub a-lays : {w w₁ w′ : List ℕ} {to x tag e n n′ : ℕ} → tag ≡ tagA (r .kind) → x ≡ past (eqb tag 0) 3 → Lays (leafOf W s (v .records) (r .a) .transitions) k (to + x) w w₁ e n
             → Wrapped (wrapA (tagA (r .kind)) (siblingA r i)) (to + past (eqb (tagA (r .kind)) 0) 3) to n n′ w₁ w′ → Lays (leafOf W s (v .records) i .transitions) k to w w′ e n′
@@ -214,11 +213,8 @@ module _ {W : World} {s : State} {v : Sources} (C : Counted W s v) where
 
         pub b-room : {w w₁ : List ℕ} {to at e n : ℕ} → Room w to (1 + 2 * rise (v .records) i) → Lays (leafOf W s (v .records) (r .b) .transitions) (k - first) at w w₁ e n → Room w₁ to (n + 2)
         b-room {w} {w₁} {to} {at} {e} {n} R L =
-            record {
-              inside = omega (arith, R .inside, L .kept .len, leaf-few W s p (C .lower) (r .b) (k - first) at e n w₁ (L .built), b-lower (b-goes .0) .1);
-              small =
-                  omega (arith, R .small, L .kept .len);
-            }
+            let few = leaf-few W s p (C .lower) (r .b) (k - first) at e n w₁ (L .built) in
+            record { inside = omega (arith, R .inside, L .kept .len, few, b-lower (b-goes .0) .1); small = omega (arith, R .small, L .kept .len) }
 
         pub b-lays : {w w₁ w′ : List ℕ} {to x tag e n n′ : ℕ} → tag ≡ tagB (r .kind) → x ≡ past (eqb tag 0) 6 → Lays (leafOf W s (v .records) (r .b) .transitions) (k - first) (to + x) w w₁ e n
             → Wrapped (wrapB (tagB (r .kind)) (r .a)) (to + past (eqb (tagB (r .kind)) 0) 6) to n n′ w₁ w′ → Lays (leafOf W s (v .records) i .transitions) k to w w′ e n′
@@ -250,6 +246,6 @@ module _ {W : World} {s : State} {v : Sources} (C : Counted W s v) where
     }
 
 -- the records of a sheet with the four more are few
-pub many-few : (interrupts : Bool) (n i : ℕ) → n ≤ 256 → i < extendedSize interrupts n → i < 65536
+pub many-few : (interrupts : Bool) (n i : ℕ) → n ≤ 256 → i < extendedSize interrupts n → i < 2 ^ 32
 many-few true n i h l = omega arith
 many-few false n i h l = omega arith

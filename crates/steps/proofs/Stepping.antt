@@ -15,16 +15,16 @@ use Rattle.golog.specs.World.{World}
 use Rattle.golog.specs.Transitions.{isNone}
 use Rattle.remaining.specs.Rest.{Rest, gone, leaf, node, nodes, largest, high}
 use Rattle.remaining.specs.Leaves.{RestTransition, goesRight, wrapRight, restFinal, restTransitions}
-use Rattle.words.specs.Words.{At, Stands, Kept, Room, CopyRight}
+use Rattle.words.specs.Words.{At, Stands, Kept, Room}
 use Rattle.words.proofs.Standing.{nodes-pos, at-size, at-unique}
 use Rattle.words.proofs.Written.{kept-refl, kept-less, kept-trans}
 use Rattle.words.proofs.Moved.{at-kept}
-use Rattle.words.proofs.Reading.{sizeAt, Parts, parts-of}
+use Rattle.words.proofs.Reading.{sizeAt, Parts, sized}
 use Rattle.leaves.proofs.Entries.{finals-at}
 use Rattle.ends.specs.Ends.{finalByTable, InTable}
 use Rattle.ends.proofs.Tabled.{within-leaf, within-left, within-right, final-in}
 use Rattle.steps.specs.Laid.{Sources, CanLay, Built, LaysRecord, past}
-use Rattle.steps.specs.Stepped.{Tabled, CanStepRecord, CanStep, Turned, StepsRecord, Stepped, StepsRest, EndsRight, RoomFor}
+use Rattle.steps.specs.Stepped.{Tabled, CanStepRecord, CanStep, Turned, StepsRecord, Stepped, StepsRest, CanEndLeft, EndsLeft, CanEndRight, EndsRight, RoomFor}
 use Rattle.steps.specs.declared.Turn.{Turn}
 use Rattle.steps.specs.declared.Turn.the-variants.{Made, Passed}
 use Rattle.steps.proofs.Nth.{both-length, from-first, from-second}
@@ -110,7 +110,7 @@ pub split : {v : Sources} {finals : List Bool} {w : List ℕ} {f to : ℕ} (K : 
     → Split v finals w f to tag left (K .rest)
 unfolding nodes largest sizeAt
 split {v} {finals} {w} {f} {to} K {tag} {left} e n0 n1 el =
-    let P = parts-of (can-holds K) e n0 n1 el (K .rest) (K .at) in
+    let P = sized (can-holds K) e n0 n1 el .parts-of (K .rest) (K .at) in
     let H = subst (InTable (v .records) (v .many)) (P .is) (K .within) in
     let R = subst (λ (g : Rest). Room w to (nodes g + 2 * high (v .records) g)) (P .is) (K .room) in
     record {
@@ -125,6 +125,11 @@ split {v} {finals} {w} {f} {to} K {tag} {left} e n0 n1 el =
       small = R .small;
       size-is = at-size (K .rest) w f (K .at) ∙ ap nodes (P .is);
     }
+
+-- the right part was tried, the left one having made none: there is room to put the left part beside what it left, which answers for both
+pub record RightTried (W : World) (s : State) (p : ℕ → Program) (g : Rest) (tag f to left : ℕ) (done : Bool) (k : ℕ) (w w₂ : List ℕ) (u : Turn) : Type 0 where
+  pub can : CanEndRight tag (f + 3) to left w₂ u
+  pub ends : {w′ : List ℕ} {z : Turn} → EndsRight tag (f + 3) to left done w₂ w′ u z → Stepped W s p g k to w w′ z
 
 module _ {v : Sources} {finals : List Bool} {w : List ℕ} {f to tag left : ℕ} {g : Rest} (X : Split v finals w f to tag left g) where
   abbrev p : ℕ → Program
@@ -180,9 +185,6 @@ module _ {v : Sources} {finals : List Bool} {w : List ℕ} {f to tag left : ℕ}
     unfolding sizeAt
     right-falls e = omega (arith, at-size r w₁ (f + 3 + 3 * left) right-at, X .size-is, nodes-pos l)
 
-    right-size : {m : ℕ} → m ≡ getD w₁ (f + 3 + 3 * left + 2) 0 → m ≡ nodes r
-    right-size e = e ∙ at-size r w₁ (f + 3 + 3 * left) right-at
-
   module _ {W : World} {s : State} (T : Tabled W s v finals) {k : ℕ} {w₁ : List ℕ} {t : Turn} (S : Stepped W s (v .records) (X .parts .l) k (to + 3) w w₁ t) where
     abbrev L : List RestTransition
     L = restTransitions W s p l
@@ -201,29 +203,29 @@ module _ {v : Sources} {finals : List Bool} {w : List ℕ} {f to tag left : ℕ}
     final-is ex ey = ap₂ _&&_ ex ey ∙ ap (restFinal W s p) (sym (X .parts .is))
 
     -- the left part made one
-    module _ {e n m : ℕ} (q : t ≡ Made e n) (em : m ≡ getD w₁ (f + 3 + 3 * left + 2) 0) where
-      pub made-room : Room w₁ to (1 + n + m) × (f + 3 + 3 * left + 3 * m ≤ to)
-      made-room =
+    module _ {e n : ℕ} (q : t ≡ Made e n) where
+      pub made-can : CanEndLeft tag (f + 3 + 3 * left) to n w₁
+      made-can =
           let few = built-few W s p (T .counted .lower) l k (to + 3) e n w₁ (made-of S q) in
-          let em′ = right-size (S .kept) em in
-          (record { inside = omega (arith, X .inside, S .kept .len); small = omega (arith, X .small, S .kept .len) }, omega (arith, parts-inside))
-
-      pub made-stepped : {w′ : List ℕ} → CopyRight (f + 3 + 3 * left) to tag n m w₁ w′ → Stepped W s (v .records) g k to w w′ (Made e (1 + n + m))
-      unfolding restTransitions nodes
-      made-stepped {w′} J =
-          let B = made-of S q in
-          let em′ = right-size (S .kept) em in
           record {
-            turned = record {
-              move = B .move;
-              rest = node tag (B .rest) r;
-              nth = ap (λ (xs : List RestTransition). getElem? xs k) steps-are ∙ from-first (λ (g : Rest). node tag g r) (wrapRight tag l) L R true goes k tt (B .nth);
-              at = J .joined (B .rest) r (B .at) (sym (B .size-is)) (right-at (S .kept)) (sym em′);
-              entry-is = B .entry-is;
-              size-is = omega (arith, B .size-is);
-            };
-            kept = kept-trans to to w w₁ w′ (kept-less to (to + 3) w w₁ (S .kept) (omega arith)) (J .kept) (omega arith);
+            three = X .parts .three;
+            right = r;
+            at = right-at (S .kept);
+            below = omega (arith, parts-inside);
+            room = record { inside = omega (arith, X .inside, S .kept .len); small = omega (arith, X .small, S .kept .len) };
           }
+
+      pub made-stepped : {w′ : List ℕ} {z : Turn} → EndsLeft tag (f + 3 + 3 * left) to n e w₁ w′ z → Stepped W s (v .records) g k to w w′ z
+      unfolding restTransitions
+      made-stepped {w′} {z} (n′, ez, wraps) =
+          let Y = wraps r (right-at (S .kept)) in
+          subst (λ (z : Turn). Stepped W s p g k to w w′ z) (sym ez)
+          (record {
+            turned =
+                wrap-built (λ (g : Rest). node tag g r) L (restTransitions W s p g) k k (to + 3) to e n n′ w₁ w′ (made-of S q) Y
+                (λ y h. ap (λ (xs : List RestTransition). getElem? xs k) steps-are ∙ from-first (λ (g : Rest). node tag g r) (wrapRight tag l) L R true goes k tt h);
+            kept = kept-trans to to w w₁ w′ (kept-less to (to + 3) w w₁ (S .kept) (omega arith)) (Y .kept) (omega arith);
+          })
 
     -- it made none: whether the right part goes
     module _ {j : ℕ} {done : Bool} (q : t ≡ Passed j done) {b : Bool} (eb : b ≡ goesRight tag done (eqb j k)) where
@@ -254,7 +256,7 @@ module _ {v : Sources} {finals : List Bool} {w : List ℕ} {f to tag left : ℕ}
         kept-two : Kept to w w₂
         kept-two = kept-trans to (to + x) w w₁ w₂ (kept-less to (to + 3) w w₁ (S .kept) (omega arith)) (U .kept) (omega arith)
 
-        pub goes-room : RoomFor w₂ to (1 + left) u
+        goes-room : RoomFor w₂ to (1 + left) u
         goes-room = go u (U .turned)
           where
             go : (u : Turn) → Turned (restFinal W s p r) R j (to + x) w₂ u → RoomFor w₂ to (1 + left) u
@@ -263,7 +265,7 @@ module _ {v : Sources} {finals : List Bool} {w : List ℕ} {f to tag left : ℕ}
                 record { inside = omega (arith, X .inside, X .parts .left-is, kept-two .len); small = omega (arith, X .small, kept-two .len) }
             go (Passed i d) B = tt
 
-        pub goes-stepped : {w′ : List ℕ} {z : Turn} → EndsRight tag (f + 3) to left done w₂ w′ u z → Stepped W s (v .records) g k to w w′ z
+        goes-stepped : {w′ : List ℕ} {z : Turn} → EndsRight tag (f + 3) to left done w₂ w′ u z → Stepped W s (v .records) g k to w w′ z
         unfolding restTransitions
         goes-stepped {w′} {z} D = go u (U .turned) D
           where
@@ -289,3 +291,9 @@ module _ {v : Sources} {finals : List Bool} {w : List ℕ} {f to tag left : ℕ}
                   turned = (counted ∙ omega (arith, B .0, both-count, ap (λ (b : Bool). cond b (length R) 0) yb), final-is (left-of S q .1) (B .1));
                   kept = kept-two;
                 }))
+
+        pub right-tried : RightTried W s (v .records) g tag f to left done k w w₂ u
+        right-tried = record {
+          can = record { room = goes-room; three = X .parts .three; below = omega (arith, parts-inside) };
+          ends = goes-stepped;
+        }

@@ -5,13 +5,15 @@ use mathlib.Core.List.{List}
 use Prim.Native.Nat.{ℕ, _+_, _*_, _<_}
 use native.Mathlib.Omega.{arith}
 use lib.Dec.{eqb}
+use lib.ListN.{getD}
 use borrow.Author.Tests.{eq-eqb, ne-eqb}
 use Rattle.remaining.specs.Rest.{Rest, leaf, node, nodes}
 use Rattle.remaining.specs.Leaves.{wrapA, wrapB}
-use Rattle.words.specs.Words.{At, Kept, Room, LeafRight, LeafLeft, CopyLeft}
+use Rattle.words.specs.Words.{At, Stands, Kept, Room, CanPutCopy, LeafRight, LeafLeft, CopyRight, CopyLeft}
+use Rattle.words.proofs.Standing.{at-size}
 use Rattle.words.proofs.Written.{kept-refl}
 use Rattle.steps.specs.Laid.{past, Wrapped}
-use Rattle.steps.specs.Stepped.{EndsRight, RoomFor}
+use Rattle.steps.specs.Stepped.{CanEndLeft, EndsLeft, CanEndRight, EndsRight, RoomFor}
 use Rattle.steps.specs.declared.Turn.{Turn}
 use Rattle.steps.specs.declared.Turn.the-variants.{Made, Passed}
 
@@ -32,21 +34,45 @@ module _ (tag q to n : ℕ) (w : List ℕ) {t : ℕ} (et : t ≡ tag) where
   pub alone-a : t ≡ 0 → Wrapped (wrapA tag q) (to + past (eqb tag 0) 3) to n n w w
   alone-a z = alone (λ (g : Rest). node tag g (leaf q)) to 3 n (eqb tag 0) w (eq-eqb tag 0 (sym et ∙ z))
 
-  pub closed-a : {w′ : List ℕ} {u : ℕ} → (t ≡ 0 → ⊥) → u ≡ q → LeafRight to t n u w w′ → Wrapped (wrapA tag q) (to + past (eqb tag 0) 3) to n (n + 2) w w′
+  pub beside-a : {w′ : List ℕ} {u : ℕ} → (t ≡ 0 → ⊥) → u ≡ q → LeafRight to t n u w w′ → Wrapped (wrapA tag q) (to + past (eqb tag 0) 3) to n (n + 2) w w′
   unfolding nodes
-  closed-a {w′} {u} z eu C =
+  beside-a {w′} {u} z eu C =
       let D : LeafRight to tag n q w w′ = subst (λ (x : ℕ). LeafRight to tag n x w w′) eu (subst (λ (x : ℕ). LeafRight to x n u w w′) et C) in
-      inside (λ (g : Rest). node tag g (leaf q)) to 3 n (eqb tag 0) (n + 2) w w′ (ne-eqb tag 0 (λ e. z (et ∙ e))) (D .kept) (λ g A h. (D .closed g A h, omega arith))
+      inside (λ (g : Rest). node tag g (leaf q)) to 3 n (eqb tag 0) (n + 2) w w′ (ne-eqb tag 0 (λ e. z (et ∙ e))) (D .kept) (λ g A h. (D .at g A h, omega arith))
 
   -- right of one
   pub alone-b : t ≡ 0 → Wrapped (wrapB tag q) (to + past (eqb tag 0) 6) to n n w w
   alone-b z = alone (λ (g : Rest). node tag (leaf q) g) to 6 n (eqb tag 0) w (eq-eqb tag 0 (sym et ∙ z))
 
-  pub opened-b : {w′ : List ℕ} → (t ≡ 0 → ⊥) → LeafLeft to t n q w w′ → Wrapped (wrapB tag q) (to + past (eqb tag 0) 6) to n (n + 2) w w′
+  pub beside-b : {w′ : List ℕ} → (t ≡ 0 → ⊥) → LeafLeft to t n q w w′ → Wrapped (wrapB tag q) (to + past (eqb tag 0) 6) to n (n + 2) w w′
   unfolding nodes
-  opened-b {w′} z C =
+  beside-b {w′} z C =
       let D : LeafLeft to tag n q w w′ = subst (λ (x : ℕ). LeafLeft to x n q w w′) et C in
-      inside (λ (g : Rest). node tag (leaf q) g) to 6 n (eqb tag 0) (n + 2) w w′ (ne-eqb tag 0 (λ e. z (et ∙ e))) (D .kept) (λ g A h. (D .opened g A h, omega arith))
+      inside (λ (g : Rest). node tag (leaf q) g) to 6 n (eqb tag 0) (n + 2) w w′ (ne-eqb tag 0 (λ e. z (et ∙ e))) (D .kept) (λ g A h. (D .at g A h, omega arith))
+
+-- left of a copy of a right part, whose size is read
+pub right-stands : {tag f to n : ℕ} {w : List ℕ} → CanEndLeft tag f to n w → Stands w f
+right-stands K = record { rest = K .right; at = K .at }
+
+module _ {tag f to n : ℕ} {w : List ℕ} (K : CanEndLeft tag f to n w) {m : ℕ} (em : m ≡ getD w (f + 2) 0) where
+  copy-size : m ≡ nodes (K .right)
+  copy-size = em ∙ at-size (K .right) w f (K .at)
+
+  pub copy-can : CanPutCopy f to tag n m w
+  copy-can = record {
+    room = record { inside = omega (arith, K .room .inside, copy-size); small = K .room .small };
+    three = K .three;
+    below = omega (arith, K .below, copy-size);
+  }
+
+  pub ends-left : (e : ℕ) {w′ : List ℕ} → CopyRight f to tag n m w w′ → EndsLeft tag f to n e w w′ (Made e (1 + n + m))
+  unfolding nodes
+  ends-left e C = (
+    1 + n + m,
+    refl,
+    λ r A. let er : nodes r ≡ m = sym (em ∙ at-size r w f A) in
+        record { kept = C .kept; wrapped = λ g B h. (C .at g r B h A er, omega arith) },
+  )
 
 -- right of a remaining program
 module _ (tag f to n : ℕ) (done : Bool) (w : List ℕ) {t : Turn} where
@@ -62,14 +88,16 @@ module _ (tag f to n : ℕ) (done : Bool) (w : List ℕ) {t : Turn} where
         1 + n + m,
         refl,
         λ l L h. inside (λ (g : Rest). node tag l g) to (3 + 3 * n) m (eqb tag 3) (1 + n + m) w w′ (ne-eqb tag 3 z) (H .kept)
-            (λ g A k. (H .headed l g L h (subst (At g w) (omega arith) A) k, omega arith)),
+            (λ g A k. (H .at l g L h (subst (At g w) (omega arith) A) k, omega arith)),
       )
 
   pub ends-none : {j : ℕ} {d : Bool} → t ≡ Passed j d → EndsRight tag f to n done w w t (Passed j (done && d))
   ends-none {j} {d} et = subst (λ (x : Turn). EndsRight tag f to n done w w x (Passed j (done && d))) (sym et) (refl, refl)
 
-pub room-made : (w : List ℕ) (to n : ℕ) (t : Turn) (e m : ℕ) → RoomFor w to n t → t ≡ Made e m → Room w to (n + m)
-room-made w to n t e m h q = subst (λ (u : Turn). RoomFor w to n u) q h
+pub beside-can : {tag f to n e m : ℕ} {w : List ℕ} {t : Turn} → CanEndRight tag f to n w t → t ≡ Made e m → CanPutCopy f to tag m n w
+beside-can {tag} {f} {to} {n} {e} {m} {w} K q =
+    let room : Room w to (1 + n + m) = subst (RoomFor w to (1 + n)) q (K .room) in
+    record { room = record { inside = omega (arith, room .inside); small = room .small }; three = K .three; below = K .below }
 
 -- one of two, by a test
 module _ (y z : ℕ) {b x : Bool} (e : x ≡ b) where

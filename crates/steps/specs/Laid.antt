@@ -14,6 +14,7 @@ use Rattle.remaining.specs.Rest.{Rest, nodes, AllLower}
 use Rattle.remaining.specs.Leaves.{RestTransition, leafOf}
 use Rattle.remaining.specs.Extended.{extended}
 use Rattle.words.specs.Words.{At, Kept, Room}
+use Rattle.ends.specs.Ends.{mostLevels}
 use Rattle.leaves.specs.Tallies.{extendedSize, countsOf, Sees}
 use Rattle.steps.specs.declared.Setting.{Setting}
 
@@ -56,7 +57,7 @@ pub record CanLay (v : Sources) (w : List ℕ) (i to k : ℕ) : Type 0 where
   pub state : State
   pub counted : Counted world state v
   pub inside : i < v .many
-  pub low : rise (v .records) i ≤ 18
+  pub low : rise (v .records) i ≤ mostLevels
   pub least : k < getD (v .counts) i 0
   pub room : Room w to (1 + 2 * rise (v .records) i)
 

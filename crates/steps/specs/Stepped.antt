@@ -9,11 +9,11 @@ use Rattle.records.specs.declared.Program.{Program}
 use Rattle.height.specs.Height.{rise}
 use Rattle.golog.specs.declared.State.{State}
 use Rattle.golog.specs.World.{World}
-use Rattle.remaining.specs.Rest.{Rest, nodes, high}
+use Rattle.remaining.specs.Rest.{Rest, node, nodes, high}
 use Rattle.remaining.specs.Leaves.{RestTransition, wrapRight, leafOf, restFinal, restTransitions}
 use Rattle.words.specs.Words.{At, Kept, Room}
 use Rattle.leaves.specs.Tallies.{finalsOf}
-use Rattle.ends.specs.Ends.{InTable}
+use Rattle.ends.specs.Ends.{mostLevels, InTable}
 use Rattle.steps.specs.Laid.{Sources, Counted, Built, Wrapped, past}
 use Rattle.steps.specs.declared.Turn.{Turn}
 use Rattle.steps.specs.declared.Turn.the-variants.{Made, Passed}
@@ -45,7 +45,7 @@ pub record CanStepRecord (v : Sources) (finals : List Bool) (w : List ℕ) (i to
   pub state : State
   pub tabled : Tabled world state v finals
   pub inside : i < v .many
-  pub low : rise (v .records) i ≤ 18
+  pub low : rise (v .records) i ≤ mostLevels
   pub room : Room w to (1 + 2 * rise (v .records) i)
 
 -- the answer r for record i, in every state that the tables are of: the words below `to` are kept; words from `to` on are left open but for
@@ -68,14 +68,33 @@ abbrev pub StepsRest : Sources → (finals : List Bool) («from» k to : ℕ) (w
 StepsRest v finals «from» k to w w′ r =
     (W : World) (s : State) → Tabled W s v finals → (g : Rest) → At g w «from» → Stepped W s (v .records) g k to w w′ r
 
+-- a right part stands at `from`, below `to`, and there is room for a copy of it beside the n nodes that a left part left
+pub record CanEndLeft (tag «from» to n : ℕ) (w : List ℕ) : Type 0 where
+  pub three : 3 ≤ tag
+  pub right : Rest
+  pub at : At right w «from»
+  pub below : «from» + 3 * nodes right ≤ to
+  pub room : Room w to (1 + n + nodes right)
+
+-- what a transition of a left part left, in n nodes, gets a copy of the right part at `from` beside it
+abbrev pub EndsLeft : (tag «from» to n entry : ℕ) (w w′ : List ℕ) (t : Turn) → Type 0
+EndsLeft tag «from» to n entry w w′ t =
+    (n′ : ℕ) × (t ≡ Made entry n′) × ((r : Rest) → At r w «from» → Wrapped (λ (g : Rest). node tag g r) (to + 3) to n n′ w w′)
+
+-- there is room for what was laid out and n nodes more
+abbrev pub RoomFor : (w : List ℕ) (to n : ℕ) → Turn → Type 0
+RoomFor w to n (Made entry m) = Room w to (n + m)
+RoomFor w to n (Passed j done) = Unit {0}
+
+-- a left part of n nodes stands below `to`, and there is room for a copy of it beside what a right part left
+pub record CanEndRight (tag «from» to n : ℕ) (w : List ℕ) (t : Turn) : Type 0 where
+  pub room : RoomFor w to (1 + n) t
+  pub three : 3 ≤ tag
+  pub below : «from» + 3 * n ≤ to
+
 -- what a transition of a right part left, t, gets the left part of n nodes at `from` beside it again, but in a sequence; without one,
 -- the whole is final where both parts are
 abbrev pub EndsRight : (tag «from» to n : ℕ) (done : Bool) (w w′ : List ℕ) (t r : Turn) → Type 0
 EndsRight tag «from» to n done w w′ (Made entry m) r =
     (n′ : ℕ) × (r ≡ Made entry n′) × ((l : Rest) → At l w «from» → nodes l ≡ n → Wrapped (wrapRight tag l) (to + past (eqb tag 3) (3 + 3 * n)) to m n′ w w′)
 EndsRight tag «from» to n done w w′ (Passed j final) r = (r ≡ Passed j (done && final)) × (w′ ≡ w)
-
--- there is room for what was laid out and n nodes more
-abbrev pub RoomFor : (w : List ℕ) (to n : ℕ) → Turn → Type 0
-RoomFor w to n (Made entry m) = Room w to (n + m)
-RoomFor w to n (Passed j done) = Unit {0}

@@ -2,7 +2,7 @@
 // what it leaves.
 ghost use mathlib.Core.Path.{_≡_};
 ghost use mathlib.Core.Bool.{_&&_};
-ghost use Prim.Native.Nat.{_+_, _*_, _≤_, _<_};
+ghost use Prim.Native.Nat.{_+_, _^_, _≤_, _<_};
 ghost use lib.Dec.{eqb};
 ghost use Rattle.records.specs.Records.{TwoBytes, ProgramTable};
 ghost use Rattle.kinds.specs.Programs.{tagA, tagB};
@@ -11,8 +11,11 @@ ghost use Rattle.remaining.specs.Leaves.{ownMove, siblingA, wrapA, wrapB};
 ghost use Rattle.words.specs.Words.{At, Stands, Room};
 ghost use Rattle.ends.specs.Ends.{finalByTable};
 ghost use Rattle.steps.specs.Laid.{codeOf, sourcesOf, CanLay, LaysRecord, past, Wrapped};
-ghost use Rattle.steps.specs.Stepped.{CanStepRecord, StepsRecord, CanStep, StepsRest, EndsRight, RoomFor};
+ghost use Rattle.steps.specs.Stepped.{CanStepRecord, StepsRecord, CanStep, StepsRest, CanEndLeft, EndsLeft, CanEndRight, EndsRight};
 use records::Program;
+
+// The code of a transition that is no move, above every entry of a history.
+pub const TEST: u32 = 65536;
 
 // How a program table is read: the number of its records, whether there are interrupts, and whether they run.
 pub struct Setting {
@@ -41,7 +44,7 @@ fn entry_of(r: Program) -> u32
     if kinds::programs::acts(r.kind) {
         a as u32
     } else {
-        65536
+        TEST
     }
 }
 
@@ -55,14 +58,15 @@ fn past_words(alone: bool, words: usize) -> usize
 // Puts what part a of record i left, n nodes, into its construct: the new number of nodes.
 fn wrap_a(work: &mut [u32], to: usize, r: Program, i: usize, n: usize) -> usize
     requires { ⌜ Room (now work) to (n + 2) ⌝ }
-    requires { ⌜ (i < 65536) × TwoBytes r ⌝ }
+    requires { ⌜ i < 2 ^ 32 ⌝ }
+    requires { ⌜ TwoBytes r ⌝ }
     ensures { λ m. ⌜ Wrapped (wrapA (tagA (r .kind)) (siblingA r i)) (to + past (eqb (tagA (r .kind)) 0) 3) to n m (now (work .entry)) (now (work .exit)) ⌝ }
 {
     let tag = kinds::programs::tag_a(r.kind);
     if tag == 0 {
         return n;
     }
-    words::close_leaf(work, to, tag, n, sibling(r, i));
+    words::put_leaf_right(work, to, tag, n, sibling(r, i));
     n + 2
 }
 
@@ -76,7 +80,7 @@ fn wrap_b(work: &mut [u32], to: usize, r: Program, n: usize) -> usize
     if tag == 0 {
         return n;
     }
-    words::open_leaf(work, to, tag, n, r.a);
+    words::put_leaf_left(work, to, tag, n, r.a);
     n + 2
 }
 
@@ -148,8 +152,7 @@ fn step_record(
 ) -> Turn
     requires { ⌜ ProgramTable (now programs) (v .n) ⌝ }
     requires { ⌜ CanStepRecord (sourcesOf (now programs) v (now truths) (now counts)) (now finals) (now work) i to ⌝ }
-    ensures { λ r. ⌜ StepsRecord (sourcesOf (now (programs .entry)) v (now (truths .entry)) (now (counts .entry))) (now (finals .entry)) i k to (now (work .entry))
-        (now (work .exit)) r ⌝ }
+    ensures { λ r. ⌜ StepsRecord (sourcesOf (now (programs .entry)) v (now (truths .entry)) (now (counts .entry))) (now (finals .entry)) i k to (now (work .entry)) (now (work .exit)) r ⌝ }
 {
     let count = records::wide32(records::number_in(counts, i, 0));
     if k < count {
@@ -176,6 +179,19 @@ fn final_after(done: bool, finals: &[bool], work: &[u32], at: usize) -> bool
     false
 }
 
+// Puts a copy of the right part at `from` beside what the left one left, n nodes.
+fn end_left(work: &mut [u32], from: usize, to: usize, tag: u32, entry: u32, n: usize) -> Turn
+    requires { ⌜ CanEndLeft tag from to n (now work) ⌝ }
+    ensures { λ t. ⌜ EndsLeft tag from to n entry (now (work .entry)) (now (work .exit)) t ⌝ }
+{
+    let m = words::size_at(work, from);
+    words::put_copy_right(work, from, to, tag, n, m);
+    Turn::Made {
+        entry,
+        size: 1 + n + m,
+    }
+}
+
 // Puts the left part, n nodes at `from`, beside what the right one left, but in a sequence.
 fn end_right(
     work: &mut [u32],
@@ -186,8 +202,7 @@ fn end_right(
     done: bool,
     t: Turn,
 ) -> Turn
-    requires { ⌜ RoomFor (now work) to (1 + n) t ⌝ }
-    requires { ⌜ (3 ≤ tag) × (from + 3 * n ≤ to) ⌝ }
+    requires { ⌜ CanEndRight tag from to n (now work) t ⌝ }
     ensures { λ r. ⌜ EndsRight tag from to n done (now (work .entry)) (now (work .exit)) t r ⌝ }
 {
     match t {
@@ -195,7 +210,7 @@ fn end_right(
             if tag == 3 {
                 return Turn::Made { entry, size };
             }
-            words::head(work, from, to, tag, n, size);
+            words::put_copy_left(work, from, to, tag, n, size);
             return Turn::Made {
                 entry,
                 size: 1 + n + size,
@@ -225,8 +240,7 @@ pub fn step_rest(
 ) -> Turn
     requires { ⌜ ProgramTable (now programs) (v .n) ⌝ }
     requires { ⌜ CanStep (sourcesOf (now programs) v (now truths) (now counts)) (now finals) (now work) from to ⌝ }
-    ensures { λ r. ⌜ StepsRest (sourcesOf (now (programs .entry)) v (now (truths .entry)) (now (counts .entry))) (now (finals .entry)) from k to
-        (now (work .entry)) (now (work .exit)) r ⌝ }
+    ensures { λ r. ⌜ StepsRest (sourcesOf (now (programs .entry)) v (now (truths .entry)) (now (counts .entry))) (now (finals .entry)) from k to (now (work .entry)) (now (work .exit)) r ⌝ }
 {
     let tag = words::tag_at(work, from);
     if tag == 0 {
@@ -237,28 +251,19 @@ pub fn step_rest(
         return step_record(programs, v, truths, finals, counts, work, i, to, k);
     }
     let left = from + 3;
-    let size_left = words::size_at(work, left);
-    let right = left + 3 * size_left;
+    let n = words::size_at(work, left);
+    let right = left + 3 * n;
     let t = step_rest(programs, v, truths, finals, counts, work, left, to + 3, k);
     match t {
-        Turn::Made { entry, size } => {
-            let m = words::size_at(work, right);
-            words::join(work, right, to, tag, size, m);
-            return Turn::Made {
-                entry,
-                size: 1 + size + m,
-            };
-        }
+        Turn::Made { entry, size } => end_left(work, right, to, tag, entry, size),
         Turn::Passed { k: j, done } => {
             if !ends::goes_right(tag, done, j == k) {
-                return Turn::Passed {
-                    k: j,
-                    done: final_after(done, finals, work, right),
-                };
+                let d = final_after(done, finals, work, right);
+                return Turn::Passed { k: j, done: d };
             }
-            let at = to + past_words(tag == 3, 3 + 3 * size_left);
+            let at = to + past_words(tag == 3, 3 + 3 * n);
             let u = step_rest(programs, v, truths, finals, counts, work, right, at, j);
-            return end_right(work, left, to, tag, size_left, done, u);
+            end_right(work, left, to, tag, n, done, u)
         }
     }
 }

@@ -6,7 +6,7 @@ use Prim.Native.Nat.{ℕ, _+_, _*_, _≤_}
 use native.Mathlib.Omega.{arith}
 use lib.ListN.{length, getD}
 use Rattle.remaining.specs.Rest.{Rest, gone, leaf, node, nodes}
-use Rattle.words.specs.Words.{Node, At, Kept, Copied, Put, LeafRight, LeafLeft, CopyRight, CopyLeft}
+use Rattle.words.specs.Words.{Node, At, Kept, Copied, Put, CanPutLeaf, CanPutCopy, LeafRight, LeafLeft, CopyRight, CopyLeft}
 use Rattle.words.proofs.Standing.{at-room, Same}
 use Rattle.words.proofs.Written.{kept-less, kept-trans, kept-put}
 
@@ -82,40 +82,38 @@ leaf-nodes : (q : ℕ) → nodes (leaf q) ≡ 1
 unfolding nodes
 leaf-nodes q = refl
 
-pub closed-of : (to g n q : ℕ) (w w₁ w′ : List ℕ) → Put (to + 3 + 3 * n) 1 q 1 w w₁ → Put to g 0 (n + 2) w₁ w′ → 3 ≤ g → to + 3 * (n + 2) ≤ length w → LeafRight to g n q w w′
-closed-of to g n q w w₁ w′ P Q h r = record {
+pub leaf-right : (to g n q : ℕ) (w w₁ w′ : List ℕ) → Put (to + 3 + 3 * n) 1 q 1 w w₁ → Put to g 0 (n + 2) w₁ w′ → CanPutLeaf to g n q w → LeafRight to g n q w w′
+leaf-right to g n q w w₁ w′ P Q K = record {
   kept = kept-trans to to w w₁ w′ (kept-put _ to _ _ _ w w₁ P (omega arith)) (kept-put to to _ _ _ w₁ w′ Q (omega arith)) (omega arith);
-  closed = λ t A e.
-      at-node t (leaf q) to g (n + 2) w₁ w′ Q h (omega (arith, leaf-nodes q))
+  at = λ t A e.
+      at-node t (leaf q) to g (n + 2) w₁ w′ Q (K .three) (omega (arith, leaf-nodes q))
       (at-below (to + 3 + 3 * n) 1 q 1 w w₁ P t (to + 3) (omega arith) A)
-      (subst (λ (x : ℕ). At (leaf q) w₁ (to + 3 + 3 * x)) (sym e) (put-leaf (to + 3 + 3 * n) q w w₁ P (omega arith)));
+      (subst (λ (x : ℕ). At (leaf q) w₁ (to + 3 + 3 * x)) (sym e) (put-leaf (to + 3 + 3 * n) q w w₁ P (omega (arith, K .room .inside))));
 }
 
-pub opened-of : (to g n q : ℕ) (w w₁ w′ : List ℕ) → Put (to + 3) 1 q 1 w w₁ → Put to g 0 (n + 2) w₁ w′ → 3 ≤ g → to + 3 * (n + 2) ≤ length w → LeafLeft to g n q w w′
-opened-of to g n q w w₁ w′ P Q h r = record {
+pub leaf-left : (to g n q : ℕ) (w w₁ w′ : List ℕ) → Put (to + 3) 1 q 1 w w₁ → Put to g 0 (n + 2) w₁ w′ → CanPutLeaf to g n q w → LeafLeft to g n q w w′
+leaf-left to g n q w w₁ w′ P Q K = record {
   kept = kept-trans to to w w₁ w′ (kept-put _ to _ _ _ w w₁ P (omega arith)) (kept-put to to _ _ _ w₁ w′ Q (omega arith)) (omega arith);
-  opened = λ t A e.
-      at-node (leaf q) t to g (n + 2) w₁ w′ Q h (omega (arith, leaf-nodes q))
-      (put-leaf (to + 3) q w w₁ P (omega arith))
+  at = λ t A e.
+      at-node (leaf q) t to g (n + 2) w₁ w′ Q (K .three) (omega (arith, leaf-nodes q))
+      (put-leaf (to + 3) q w w₁ P (omega (arith, K .room .inside)))
       (subst (λ (x : ℕ). At t w₁ x) (omega (arith, leaf-nodes q)) (at-above (to + 3) 1 q 1 w w₁ P t (to + 6) (omega arith) A));
 }
 
-pub joined-of : (f to g n m : ℕ) (w w₁ w′ : List ℕ) → Copied f (to + 3 + 3 * n) (3 * m) w w₁ → Put to g 0 (1 + n + m) w₁ w′ → 3 ≤ g
-    → to + 3 * (1 + n + m) ≤ length w → CopyRight f to g n m w w′
-joined-of f to g n m w w₁ w′ C Q h rm = record {
+pub copy-right : (f to g n m : ℕ) (w w₁ w′ : List ℕ) → Copied f (to + 3 + 3 * n) (3 * m) w w₁ → Put to g 0 (1 + n + m) w₁ w′ → CanPutCopy f to g n m w → CopyRight f to g n m w w′
+copy-right f to g n m w w₁ w′ C Q K = record {
   kept = kept-trans to to w w₁ w′ (kept-less to _ w w₁ (C .kept) (omega arith)) (kept-put to to _ _ _ w₁ w′ Q (omega arith)) (omega arith);
-  joined = λ l r L el R er.
-      at-node l r to g (1 + n + m) w₁ w′ Q h (omega arith)
+  at = λ l r L el R er.
+      at-node l r to g (1 + n + m) w₁ w′ Q (K .three) (omega arith)
       (at-kept l (to + 3) (to + 3 + 3 * n) w w₁ (C .kept) (omega arith) L)
-      (subst (λ (x : ℕ). At r w₁ (to + 3 + 3 * x)) (sym el) (at-copy f (to + 3 + 3 * n) (3 * m) w w₁ C r (omega arith) (omega arith) R));
+      (subst (λ (x : ℕ). At r w₁ (to + 3 + 3 * x)) (sym el) (at-copy f (to + 3 + 3 * n) (3 * m) w w₁ C r (omega arith) (omega (arith, K .room .inside)) R));
 }
 
-pub headed-of : (f to g n m : ℕ) (w w₁ w′ : List ℕ) → Copied f (to + 3) (3 * n) w w₁ → Put to g 0 (1 + n + m) w₁ w′ → 3 ≤ g
-    → to + 3 * (1 + n + m) ≤ length w → CopyLeft f to g n m w w′
-headed-of f to g n m w w₁ w′ C Q h rm = record {
+pub copy-left : (f to g n m : ℕ) (w w₁ w′ : List ℕ) → Copied f (to + 3) (3 * n) w w₁ → Put to g 0 (1 + n + m) w₁ w′ → CanPutCopy f to g m n w → CopyLeft f to g n m w w′
+copy-left f to g n m w w₁ w′ C Q K = record {
   kept = kept-trans to to w w₁ w′ (kept-less to _ w w₁ (C .kept) (omega arith)) (kept-put to to _ _ _ w₁ w′ Q (omega arith)) (omega arith);
-  headed = λ l r L el R er.
-      at-node l r to g (1 + n + m) w₁ w′ Q h (omega arith)
-      (at-copy f (to + 3) (3 * n) w w₁ C l (omega arith) (omega arith) L)
+  at = λ l r L el R er.
+      at-node l r to g (1 + n + m) w₁ w′ Q (K .three) (omega arith)
+      (at-copy f (to + 3) (3 * n) w w₁ C l (omega arith) (omega (arith, K .room .inside)) L)
       (subst (λ (x : ℕ). At r w₁ (to + 3 + 3 * x)) (sym el) (at-over f (to + 3) (3 * n) w w₁ C r (to + 3 + 3 * n) (omega arith) R));
 }

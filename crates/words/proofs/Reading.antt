@@ -26,36 +26,45 @@ pub record Parts (g : Rest) (w : List ℕ) (i k m : ℕ) : Type 0 where
 pub holds-room : {w : List ℕ} {i : ℕ} → Stands w i → i + 3 ≤ length w
 holds-room {w} {i} H = at-node-room (H .rest) w i (H .at)
 
+-- a construct stands at i: what is known of its left part
+pub record Construct (w : List ℕ) (i : ℕ) : Type 0 where
+  pub left : Stands w (i + 3)
+  pub left-room : i + 3 + 3 ≤ length w
+  pub left-less : {t : ℕ} → sizeAt w i ≡ t → sizeAt w (i + 3) < t
+
+-- and, where the left part's size m was read, of its right one; whatever stands there has these parts
+pub record Sized (w : List ℕ) (i k m : ℕ) : Type 0 where
+  pub right : Stands w (i + 3 + 3 * m)
+  pub right-room : i + 3 + 3 * m + 3 ≤ length w
+  pub right-less : {t : ℕ} → sizeAt w i ≡ t → sizeAt w (i + 3 + 3 * m) < t
+  pub parts-of : (g : Rest) → At g w i → Parts g w i k m
+
 module _ {w : List ℕ} {i : ℕ} (H : Stands w i) {k : ℕ} (e : k ≡ getD w i 0) (n0 : k ≡ 0 → ⊥) (n1 : k ≡ 1 → ⊥) where
   parts : Inner (H .rest) w i k
   parts = inner-at w i k e (H .rest) (H .at) n0 n1
 
-  pub holds-left : Stands w (i + 3)
+  holds-left : Stands w (i + 3)
   holds-left = record { rest = parts .l; at = parts .l-at }
 
-  pub left-room : i + 3 + 3 ≤ length w
-  left-room = holds-room holds-left
-
-  pub left-less : {t : ℕ} → sizeAt w i ≡ t → sizeAt w (i + 3) < t
+  pub construct : Construct w i
   unfolding sizeAt
-  left-less et = omega (arith, at-size (parts .l) w (i + 3) (parts .l-at), at-size (H .rest) w i (H .at), parts .sizes)
+  construct = record {
+    left = holds-left;
+    left-room = holds-room holds-left;
+    left-less = λ et. omega (arith, at-size (parts .l) w (i + 3) (parts .l-at), at-size (H .rest) w i (H .at), parts .sizes);
+  }
 
   module _ {m : ℕ} (em : m ≡ getD w (i + 3 + 2) 0) where
     left-is : m ≡ nodes (parts .l)
     left-is = em ∙ at-size (parts .l) w (i + 3) (parts .l-at)
 
-    pub holds-right : Stands w (i + 3 + 3 * m)
-    holds-right = record { rest = parts .r; at = subst (λ (j : ℕ). At (parts .r) w (i + 3 + 3 * j)) (sym left-is) (parts .r-at) }
+    right-at : At (parts .r) w (i + 3 + 3 * m)
+    right-at = subst (λ (j : ℕ). At (parts .r) w (i + 3 + 3 * j)) (sym left-is) (parts .r-at)
 
-    pub right-room : i + 3 + 3 * m + 3 ≤ length w
-    right-room = holds-room holds-right
+    holds-right : Stands w (i + 3 + 3 * m)
+    holds-right = record { rest = parts .r; at = right-at }
 
-    pub right-less : {t : ℕ} → sizeAt w i ≡ t → sizeAt w (i + 3 + 3 * m) < t
-    unfolding sizeAt parts holds-right
-    right-less et = omega (arith, at-size (parts .r) w (i + 3 + 3 * m) (holds-right .at), at-size (H .rest) w i (H .at), parts .sizes, nodes-pos (parts .l))
-
-    -- any that stands there has those parts
-    pub parts-of : (g : Rest) → At g w i → Parts g w i k m
+    parts-of : (g : Rest) → At g w i → Parts g w i k m
     parts-of g A =
         let I = inner-at w i k e g A n0 n1 in
         let q : m ≡ nodes (I .l) = em ∙ at-size (I .l) w (i + 3) (I .l-at) in
@@ -68,3 +77,12 @@ module _ {w : List ℕ} {i : ℕ} (H : Stands w i) {k : ℕ} (e : k ≡ getD w i
           is = I .is;
           three = I .three;
         }
+
+    pub sized : Sized w i k m
+    unfolding sizeAt
+    sized = record {
+      right = holds-right;
+      right-room = holds-room holds-right;
+      right-less = λ et. omega (arith, at-size (parts .r) w (i + 3 + 3 * m) right-at, at-size (H .rest) w i (H .at), parts .sizes, nodes-pos (parts .l));
+      parts-of = parts-of;
+    }

@@ -50,26 +50,35 @@ pub record Room (w : List ℕ) (i n : ℕ) : Type 0 where
   pub inside : i + 3 * n ≤ length w
   pub small : length w < 2 ^ 32
 
--- a construct was put around the n nodes that stand after it, left of record q; words from `to` on are left open but for what stands there
--- by `closed`
+-- there is room for a construct of the n nodes and a leaf of record q
+pub record CanPutLeaf (to tag n q : ℕ) (w : List ℕ) : Type 0 where
+  pub room : Room w to (n + 2)
+  pub three : 3 ≤ tag
+  pub fits : q < 2 ^ 32
+
+-- there is room for a construct of n nodes and a copy of the m nodes at `from`, which stand below it
+pub record CanPutCopy («from» to tag n m : ℕ) (w : List ℕ) : Type 0 where
+  pub room : Room w to (1 + n + m)
+  pub three : 3 ≤ tag
+  pub below : «from» + 3 * m ≤ to
+
+-- the construct of the n nodes that stand after it and, at their right, a leaf of record q; words from `to` on are left open but for what
+-- stands there by `at`; so in the next three
 pub record LeafRight (to tag n q : ℕ) (w w′ : List ℕ) : Type 0 where
   pub kept : Kept to w w′
-  pub closed : (g : Rest) → At g w (to + 3) → nodes g ≡ n → At (node tag g (leaf q)) w′ to
+  pub at : (g : Rest) → At g w (to + 3) → nodes g ≡ n → At (node tag g (leaf q)) w′ to
 
--- a construct was put around the n nodes that stand six words on, right of record q; words from `to` on are left open but for what stands
--- there by `opened`
+-- of the n nodes that stand six words on and, at their left, a leaf of record q
 pub record LeafLeft (to tag n q : ℕ) (w w′ : List ℕ) : Type 0 where
   pub kept : Kept to w w′
-  pub opened : (g : Rest) → At g w (to + 6) → nodes g ≡ n → At (node tag (leaf q) g) w′ to
+  pub at : (g : Rest) → At g w (to + 6) → nodes g ≡ n → At (node tag (leaf q) g) w′ to
 
--- a construct was put around the n nodes that stand after it, left of a copy of the m nodes at `from`; words from `to` on are left open but
--- for what stands there by `joined`
+-- of the n nodes that stand after it and, at their right, a copy of the m nodes at `from`
 pub record CopyRight («from» to tag n m : ℕ) (w w′ : List ℕ) : Type 0 where
   pub kept : Kept to w w′
-  pub joined : (l r : Rest) → At l w (to + 3) → nodes l ≡ n → At r w «from» → nodes r ≡ m → At (node tag l r) w′ to
+  pub at : (l r : Rest) → At l w (to + 3) → nodes l ≡ n → At r w «from» → nodes r ≡ m → At (node tag l r) w′ to
 
--- a construct was put around a copy of the n nodes at `from`, left of the m nodes that stand after where the copy ends; words from `to` on
--- are left open but for what stands there by `headed`
+-- of the m nodes that stand after where the copy ends and, at their left, a copy of the n nodes at `from`
 pub record CopyLeft («from» to tag n m : ℕ) (w w′ : List ℕ) : Type 0 where
   pub kept : Kept to w w′
-  pub headed : (l r : Rest) → At l w «from» → nodes l ≡ n → At r w (to + 3 + 3 * n) → nodes r ≡ m → At (node tag l r) w′ to
+  pub at : (l r : Rest) → At l w «from» → nodes l ≡ n → At r w (to + 3 + 3 * n) → nodes r ≡ m → At (node tag l r) w′ to

@@ -1,8 +1,8 @@
 // The remaining program in u32 words: reading a node, and putting a construct around what a transition left.
 ghost use mathlib.Core.Path.{_≡_};
-ghost use Prim.Native.Nat.{_+_, _*_, _^_, _≤_, _<_};
+ghost use Prim.Native.Nat.{_+_, _^_, _≤_, _<_};
 ghost use lib.ListN.{length, getD};
-ghost use Rattle.words.specs.Words.{Copied, Put, Room, LeafRight, LeafLeft, CopyRight, CopyLeft};
+ghost use Rattle.words.specs.Words.{Copied, Put, CanPutLeaf, CanPutCopy, LeafRight, LeafLeft, CopyRight, CopyLeft};
 
 // The words of the node at `at`.
 pub fn tag_at(work: &[u32], at: usize) -> u32
@@ -48,40 +48,37 @@ pub fn put_node(work: &mut [u32], at: usize, tag: u32, number: usize, size: usiz
     work[at + 2] = size as u32;
 }
 
-// A construct around the n nodes that stand after it, left of record q.
-pub fn close_leaf(work: &mut [u32], to: usize, tag: u32, n: usize, q: usize)
-    requires { ⌜ Room (now work) to (n + 2) ⌝ }
-    requires { ⌜ (3 ≤ tag) × (q < 2 ^ 32) ⌝ }
+// Puts the node of a construct before the n nodes that stand there, and a leaf of record q at their right.
+pub fn put_leaf_right(work: &mut [u32], to: usize, tag: u32, n: usize, q: usize)
+    requires { ⌜ CanPutLeaf to tag n q (now work) ⌝ }
     ensures { λ _. ⌜ LeafRight to tag n q (now (work .entry)) (now (work .exit)) ⌝ }
 {
     put_node(work, to + 3 + 3 * n, 1, q, 1);
     put_node(work, to, tag, 0, n + 2);
 }
 
-// A construct around the n nodes that stand six words on, right of record q.
-pub fn open_leaf(work: &mut [u32], to: usize, tag: u32, n: usize, q: usize)
-    requires { ⌜ Room (now work) to (n + 2) ⌝ }
-    requires { ⌜ (3 ≤ tag) × (q < 2 ^ 32) ⌝ }
+// Puts the node of a construct and a leaf of record q before the n nodes that stand six words on: the leaf is at their left.
+pub fn put_leaf_left(work: &mut [u32], to: usize, tag: u32, n: usize, q: usize)
+    requires { ⌜ CanPutLeaf to tag n q (now work) ⌝ }
     ensures { λ _. ⌜ LeafLeft to tag n q (now (work .entry)) (now (work .exit)) ⌝ }
 {
     put_node(work, to + 3, 1, q, 1);
     put_node(work, to, tag, 0, n + 2);
 }
 
-// A construct around the n nodes that stand after it, left of a copy of the m nodes at `from`.
-pub fn join(work: &mut [u32], from: usize, to: usize, tag: u32, n: usize, m: usize)
-    requires { ⌜ Room (now work) to (1 + n + m) ⌝ }
-    requires { ⌜ (3 ≤ tag) × (from + 3 * m ≤ to) ⌝ }
+// Puts the node of a construct before the n nodes that stand there, and a copy of the m nodes at `from` at their right.
+pub fn put_copy_right(work: &mut [u32], from: usize, to: usize, tag: u32, n: usize, m: usize)
+    requires { ⌜ CanPutCopy from to tag n m (now work) ⌝ }
     ensures { λ _. ⌜ CopyRight from to tag n m (now (work .entry)) (now (work .exit)) ⌝ }
 {
     copy_words(work, from, to + 3 + 3 * n, 3 * m);
     put_node(work, to, tag, 0, 1 + n + m);
 }
 
-// A construct around a copy of the n nodes at `from`, left of the m nodes that stand after where the copy ends.
-pub fn head(work: &mut [u32], from: usize, to: usize, tag: u32, n: usize, m: usize)
-    requires { ⌜ Room (now work) to (1 + n + m) ⌝ }
-    requires { ⌜ (3 ≤ tag) × (from + 3 * n ≤ to) ⌝ }
+// Puts the node of a construct and a copy of the n nodes at `from` before the m nodes that stand where the copy ends: the copy is at their
+// left.
+pub fn put_copy_left(work: &mut [u32], from: usize, to: usize, tag: u32, n: usize, m: usize)
+    requires { ⌜ CanPutCopy from to tag m n (now work) ⌝ }
     ensures { λ _. ⌜ CopyLeft from to tag n m (now (work .entry)) (now (work .exit)) ⌝ }
 {
     copy_words(work, from, to + 3, 3 * n);

@@ -28,20 +28,21 @@ count-if-requires c κs = search needs
 abbrev goes-right-from-count-if : tie.After-count-if → tie.After-goes-right
 goes-right-from-count-if c = c .before .before .before .before .before
 
-abbrev count-if-from-returns : tie.After-struct-known10 → tie.After-count-if
-count-if-from-returns c = c .before .before .before .before .before
+abbrev start-from-goes-right : tie.After-goes-right → tie.Start
+start-from-goes-right c = c .before .before
 
 add-t8 : tie.Need-add-t8
 add-t8 c =
-    let at-goes-right = goes-right-from-count-if (c .before) in
-    let at-start = at-goes-right .before .before in
-    omega (arith, c .before .count-if .ensures, part-few (at-goes-right .goes-right .result) (at-start .args .r .count), at-start .pre)
+    let at-count-if = c .before in
+    let at-goes-right = goes-right-from-count-if at-count-if in
+    let at-start = start-from-goes-right at-goes-right in
+    omega (arith, at-count-if .count-if .ensures, part-few (at-goes-right .goes-right .result) (at-start .args .r .count), at-start .pre)
 
 returns : tie.Need-returns
 returns c =
-    let at-count-if = count-if-from-returns c in
+    let at-count-if = c .before .before .before .before .before in
     let at-goes-right = goes-right-from-count-if at-count-if in
-    let at-start = at-goes-right .before .before in
+    let at-start = start-from-goes-right at-goes-right in
     let l = at-start .args .l in
     let r = at-start .args .r in
     let e = at-goes-right .goes-right .ensures in

@@ -45,10 +45,11 @@ loop-less c = search needs
 
 loop-again : tie.Need-loop-again Inv-loop μ-loop
 loop-again c =
-    let at-loop = c .before .before .before in
+    let at-fluent-at = c .before in
+    let at-loop = at-fluent-at .before .before in
     let at-start = at-loop .before .before in
     let b = at-loop .loop .inv .1 in
-    (omega arith, more 0 (firsts (now (at-start .args .fluents))) (λ (v : ℕ). v) 32 b (omega arith) (c .byte .ensures ∙ ap (λ (r : Fluent). r .initial) (c .before .fluent-at .ensures .0)))
+    (omega arith, more 0 (firsts (now (at-start .args .fluents))) (λ (v : ℕ). v) 32 b (omega arith) (c .byte .ensures ∙ ap (λ (r : Fluent). r .initial) (at-fluent-at .fluent-at .ensures .0)))
 
 returns : tie.Need-returns Inv-loop μ-loop
 returns c =

@@ -10,21 +10,25 @@ use Rattle.sheet.proofs.Found.{in-sheet}
 use Rattle.engine.proofs.initial_of.Statement.{statement}
 use Rattle.engine.proofs.initial_of.Tie as tie
 
+-- Places: what stands before a need, by name. Written by `named`: run it again when the code changes.
+abbrev start-from-sub-initial : tie.After-l → tie.Start
+start-from-sub-initial c = c .before .before
+
 sub-initial : tie.Need-sub-initial
-sub-initial c = in-order (in-sheet (c .before .before .pre)) .fluents
+sub-initial c = in-order (in-sheet (start-from-sub-initial c .pre)) .fluents
 
 part-initial-start : tie.Need-part-initial-start
-part-initial-start c = let o = in-order (in-sheet (c .before .before .pre)) in omega arith
+part-initial-start c = let o = in-order (in-sheet (start-from-sub-initial c .pre)) in omega arith
 
 part-initial-end : tie.Need-part-initial-end
-part-initial-end c = let o = in-order (in-sheet (c .before .before .pre)) in omega arith
+part-initial-end c = let o = in-order (in-sheet (start-from-sub-initial c .pre)) in omega arith
 
 initial-requires : tie.Need-initial-requires
-initial-requires c κs = fluents-long _ _ (in-sheet (c .before .before .before .pre))
+initial-requires c κs = fluents-long _ _ (in-sheet (start-from-sub-initial (c .before) .pre))
 
 returns : tie.Need-returns
 returns c =
-    let at-start = c .before .before .before .before in
+    let at-start = start-from-sub-initial (c .before .before) in
     c .initial .ensures ∙ ap (λ (l : Layout). startingWith (fluentsIn (now (at-start .args .s)) l) (l .f)) (at-start .pre .layout-is)
 
 pub initial-of-spec : {M : Type 1} → statement M

@@ -42,22 +42,28 @@ part-final-rest-end c = search needs
 abbrev start-from-judge : tie.After-judge → tie.Start
 start-from-judge c = c .before .before .before .before .before .before
 
+abbrev judge-from-flags-from : tie.After-flags-from → tie.After-judge
+judge-from-flags-from c = c .before .before .before
+
 abbrev start-from-flags-from : tie.After-flags-from → tie.Start
-start-from-flags-from c = start-from-judge (c .before .before .before)
+start-from-flags-from c = start-from-judge (judge-from-flags-from c)
+
+abbrev flags-from-from-mul-final-rest : tie.After-struct-known → tie.After-flags-from
+flags-from-from-mul-final-rest c = c .before .before .before
 
 mul-final-rest : tie.Need-mul-final-rest
 mul-final-rest c =
-    let at-start = start-from-flags-from (c .before .before .before) in
+    let at-start = start-from-flags-from (flags-from-from-mul-final-rest c) in
     omega (arith, frame-by (at-start .pre .0 .0) (at-start .args .d), at-start .pre .1 .2 .roomy .inside, at-start .pre .1 .2 .roomy .small)
 
 add-final-rest : tie.Need-add-final-rest
 add-final-rest c =
-    let at-start = start-from-flags-from (c .before .before .before) in
+    let at-start = start-from-flags-from (flags-from-from-mul-final-rest c) in
     omega (arith, frame-by (at-start .pre .0 .0) (at-start .args .d), at-start .pre .1 .2 .roomy .inside, at-start .pre .1 .2 .roomy .small)
 
 final-rest-requires : tie.Need-final-rest-requires
 final-rest-requires c κs =
-    let at-start = start-from-flags-from (c .before .before .before) in
+    let at-start = start-from-flags-from (flags-from-from-mul-final-rest c) in
     subst (λ (o : ℕ). Stands (now (at-start .args .work)) (o + header)) (sym (frame-by (at-start .pre .0 .0) (at-start .args .d))) (frame-holds (at-start .pre .1 .2))
 
 same-length : tie.Need-same-length
@@ -65,8 +71,8 @@ same-length c = search needs
 
 returns : tie.Need-returns
 returns c =
-    let at-flags-from = c .before .before .before .before in
-    let at-judge = at-flags-from .before .before .before in
+    let at-flags-from = flags-from-from-mul-final-rest (c .before) in
+    let at-judge = judge-from-flags-from at-flags-from in
     let at-start = start-from-judge at-judge in
     let O = at-start .pre .0 .0 in
     let P = at-start .pre .0 .1 in

@@ -1,16 +1,8 @@
 -- The step is asked what stands in the frame, with the tables of its state. Assumes nothing.
 use denote.Ref.{now}
 use native.Mathlib.Omega.{arith}
-use mathlib.Core.Bool.{Bool}
-use mathlib.Core.List.{List}
-use mathlib.Core.Path.{_≡_, sym, _∙_, ap, subst}
-use Prim.Native.Nat.{ℕ, _+_}
-use Rattle.height.specs.Work.{header}
-use Rattle.sheet.specs.Layout.{programsIn}
-use Rattle.steps.specs.Laid.{sourcesOf}
-use Rattle.steps.specs.Stepped.{CanStep, StepsRest}
-use Rattle.engine.specs.Frames.{frameAt, frameOf, nodesAt}
-use Rattle.engine.specs.Tables.{truthsFrom, finalsFrom, countsFrom, truthsAt, finalsAt, countsAt}
+use Prim.Native.Nat.{_+_}
+use Rattle.engine.specs.Tables.{truthsFrom, finalsFrom, countsFrom}
 use Rattle.sheet.proofs.Parts.{in-order, programs-long}
 use Rattle.sheet.proofs.Found.{in-sheet}
 use Rattle.engine.proofs.Frames.{frame-by, next-inside}
@@ -39,38 +31,32 @@ add-last c = search needs
 abbrev start-from-flags-from : tie.After-flags-from → tie.Start
 start-from-flags-from c = c .before .before .before .before .before .before
 
-abbrev start-from-counts-from : tie.After-counts-from → tie.Start
-start-from-counts-from c = start-from-flags-from (c .before)
+abbrev start-from-mul-at : tie.After-struct-known → tie.Start
+start-from-mul-at c = start-from-flags-from (c .before .before)
 
 abbrev counts-from-from-add-step-rest : tie.After-struct-known2 → tie.After-counts-from
 counts-from-from-add-step-rest c = c .before .before .before .before .before .before .before
 
-abbrev start-from-add-step-rest : tie.After-struct-known2 → tie.Start
-start-from-add-step-rest c = start-from-counts-from (counts-from-from-add-step-rest c)
-
-abbrev counts-from-from-step-rest : tie.After-step-rest → tie.After-counts-from
-counts-from-from-step-rest c = counts-from-from-add-step-rest (c .before)
-
 mul-at : tie.Need-mul-at
 mul-at c =
-    let at-start = start-from-counts-from (c .before) in
+    let at-start = start-from-mul-at c in
     let F = at-start .pre .2 .frame in
     omega (arith, frame-by (at-start .pre .0) (at-start .args .d), F .roomy .inside, F .roomy .small)
 
 add-at : tie.Need-add-at
 add-at c =
-    let at-start = start-from-counts-from (c .before) in
+    let at-start = start-from-mul-at c in
     let F = at-start .pre .2 .frame in
     omega (arith, frame-by (at-start .pre .0) (at-start .args .d), F .roomy .inside, F .roomy .small)
 
 sub-step-rest : tie.Need-sub-step-rest
-sub-step-rest c = in-order (in-sheet (start-from-counts-from (c .before) .pre .0)) .programs
+sub-step-rest c = in-order (in-sheet (start-from-mul-at c .pre .0)) .programs
 
 part-step-rest-start : tie.Need-part-step-rest-start
-part-step-rest-start c = let o = in-order (in-sheet (start-from-counts-from (c .before) .pre .0)) in omega arith
+part-step-rest-start c = let o = in-order (in-sheet (start-from-mul-at c .pre .0)) in omega arith
 
 part-step-rest-end : tie.Need-part-step-rest-end
-part-step-rest-end c = in-order (in-sheet (start-from-counts-from (c .before) .pre .0)) .end
+part-step-rest-end c = in-order (in-sheet (start-from-mul-at c .pre .0)) .end
 
 sub-step-rest-2 : tie.Need-sub-step-rest-2
 sub-step-rest-2 c = search needs
@@ -104,7 +90,7 @@ part-step-rest-end-4 c = search needs
 
 add-step-rest : tie.Need-add-step-rest
 add-step-rest c =
-    let at-start = start-from-add-step-rest c in
+    let at-start = start-from-flags-from (counts-from-from-add-step-rest c .before) in
     let F = at-start .pre .2 .frame in
     omega (arith, frame-by (at-start .pre .0) (at-start .args .d), next-inside F, F .roomy .small, at-start .pre .0 .frame-is)
 
@@ -134,7 +120,7 @@ same-length c = search needs
 
 returns : tie.Need-returns
 returns c =
-    let at-counts-from = counts-from-from-step-rest (c .before .before) in
+    let at-counts-from = counts-from-from-add-step-rest (c .before .before .before) in
     let at-flags-from = at-counts-from .before in
     let at-start = start-from-flags-from at-flags-from in
     let O = at-start .pre .0 in

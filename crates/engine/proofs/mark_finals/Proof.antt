@@ -1,7 +1,7 @@
 -- The records in doubt are gone through upwards, by the law of Skipping: each turn puts what the record is, whatever state is seen so.
 -- Assumes nothing.
 use denote.Ref.{now}
-use mathlib.Core.Path.{_≡_, refl, sym, _∙_, ap}
+use mathlib.Core.Path.{_≡_, refl, _∙_, ap}
 use mathlib.Core.Bool.{Bool, true}
 use mathlib.Core.List.{List}
 use Prim.Native.Nat.{ℕ, _+_, _-_, _≤_, _<_}
@@ -50,30 +50,33 @@ wide32-requires : tie.Need-wide32-requires Inv-loop μ-loop
 wide32-requires c κs = search needs
 
 -- Places: what stands before a need, by name. Written by `named`: run it again when the code changes.
-abbrev start-from-number-in : tie.After-number-in Inv-loop μ-loop → tie.Start Inv-loop μ-loop
-start-from-number-in c = c .before .before .before .before .before
+abbrev start-from-places-of : tie.After-places-of Inv-loop μ-loop → tie.Start Inv-loop μ-loop
+start-from-places-of c = c .before .before .before .before
 
-abbrev loop-from-number-in2 : tie.After-number-in2 Inv-loop μ-loop → tie.At-loop Inv-loop μ-loop
-loop-from-number-in2 c = c .before .before .before .before .before
+abbrev places-of-from-loop : tie.At-loop Inv-loop μ-loop → tie.After-places-of Inv-loop μ-loop
+places-of-from-loop c = c .before .before .before
+
+abbrev loop-from-final-by-requires : tie.After-final-by-arg Inv-loop μ-loop → tie.At-loop Inv-loop μ-loop
+loop-from-final-by-requires c = c .before .before .before
 
 loop-holds : tie.Need-loop-holds Inv-loop μ-loop
 loop-holds c =
     let e = c .before .before .places-of .ensures .0 in
     let skip = c .wide32 .ensures .0 ∙ c .before .number-in .ensures in
-    (refl, refl, only-same _, λ a h. refl, λ W s can S. rw (skip, e) (first (start-from-number-in (c .before) .pre .1 .1)))
+    (refl, refl, only-same _, λ a h. refl, λ W s can S. rw (skip, e) (first (start-from-places-of (c .before .before) .pre .1 .1)))
 
 record-at-requires : tie.Need-record-at-requires Inv-loop μ-loop
 record-at-requires c κs = search needs
 
 final-by-requires : tie.Need-final-by-requires Inv-loop μ-loop
-final-by-requires c κs = omega (arith, c .before .before .before .loop .inv .1)
+final-by-requires c κs = omega (arith, loop-from-final-by-requires c .loop .inv .1)
 
 add-flags : tie.Need-add-flags Inv-loop μ-loop
 add-flags c = search needs
 
 slice-write-flags : tie.Need-slice-write-flags Inv-loop μ-loop
 slice-write-flags c =
-    let at-loop = c .before .before .before .before in
+    let at-loop = loop-from-final-by-requires (c .before) in
     omega (arith, at-loop .loop .inv .0, at-loop .loop .inv .1)
 
 add-number-in : tie.Need-add-number-in Inv-loop μ-loop
@@ -87,9 +90,9 @@ wide32-requires-2 c κs = search needs
 
 loop-less : tie.Need-loop-less Inv-loop μ-loop
 loop-less c =
-    let at-loop = loop-from-number-in2 (c .before) in
-    let at-places-of = at-loop .before .before .before in
-    let at-start = at-places-of .before .before .before .before in
+    let at-loop = loop-from-final-by-requires (c .before .before .before) in
+    let at-places-of = places-of-from-loop at-loop in
+    let at-start = start-from-places-of at-places-of in
     let e = at-places-of .places-of .ensures .0 in
     let skip = c .wide322 .ensures .0 ∙ c .before .number-in2 .ensures in
     let o = at-start .pre .1 .1 .onward (at-loop .loop .i + 1) (omega (arith, e)) in
@@ -131,8 +134,8 @@ same-length c = c .before .loop .inv .1
 returns : tie.Need-returns Inv-loop μ-loop
 returns c =
     let at-loop = c .before in
-    let at-places-of = at-loop .before .before .before in
-    let at-start = at-places-of .before .before .before .before in
+    let at-places-of = places-of-from-loop at-loop in
+    let at-start = start-from-places-of at-places-of in
     let v = at-loop .loop .inv in
     let at = at-start .args .from in
     let same = window-before (v .2) (v .1) at 512 (omega arith) (omega arith) in

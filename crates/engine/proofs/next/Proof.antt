@@ -1,8 +1,7 @@
 -- A spent cursor has none ahead of it; else the transition at the cursor is made, for there is one. Assumes nothing.
 use denote.Ref.{now}
 use native.Mathlib.Omega.{arith}
-use mathlib.Core.Bool.{Bool, true≢false}
-use mathlib.Core.List.{List}
+use mathlib.Core.Bool.{true≢false}
 use mathlib.Core.Path.{sym, _∙_, subst}
 use Prim.Native.Nat.{_+_}
 use Rattle.sheet.specs.Layout.{layoutOf}
@@ -25,21 +24,24 @@ none-made-requires c κs = search needs
 abbrev start-from-else1 : tie.Else1 → tie.Start
 start-from-else1 c = c .before .before .before .before .before .before
 
-abbrev start-from-then1 : tie.Then1 → tie.Start
-start-from-then1 c = c .before .before .before .before .before .before
+abbrev start-from-none-made : tie.After-none-made → tie.Start
+start-from-none-made c = c .before .before .before .before .before .before .before
 
-abbrev start-from-lay-next : tie.After-lay-next → tie.Start
-start-from-lay-next c = start-from-else1 (c .before .before)
+abbrev if1-from-lay-next : tie.After-lay-next → tie.Else1
+if1-from-lay-next c = c .before .before
 
 abbrev lay-next-from-enum-told : tie.After-enum-told → tie.After-lay-next
 lay-next-from-enum-told c = c .before .before .before .before
 
-abbrev turn-from-state-after : tie.After-state-after → tie.After-turn
-turn-from-state-after c = c .before .before .before .before
+abbrev lay-next-from-turn : tie.After-turn → tie.After-lay-next
+lay-next-from-turn c = c .before .before .before .before
+
+abbrev turn-from-flags-from : tie.After-flags-from → tie.After-turn
+turn-from-flags-from c = c .before .before
 
 returns : tie.Need-returns
 returns c =
-    let at-start = start-from-then1 (c .before) in
+    let at-start = start-from-none-made c in
     let r = c .none-made .ensures in
     record {
       makes = λ g. subst (MakesNext (now (at-start .args .s)) (g .program, at-start .args .st) (g .left) _ _ (c .none-made .result)) (sym (ahead-none (g .listed) (c .before .if1 .taken))) r;
@@ -65,7 +67,7 @@ same-length c = search needs
 returns-2 : tie.Need-returns-2
 returns-2 c =
     let at-lay-next = lay-next-from-enum-told (c .before) in
-    let at-if1 = at-lay-next .before .before in
+    let at-if1 = if1-from-lay-next at-lay-next in
     let at-start = start-from-else1 at-if1 in
     let P = at-start .pre in
     absurd (none-left (P .0 .accepted) (at-lay-next .lay-next .ensures) (P .2) _ _ (c .before .enum-told .given .1) (at-if1 .if1 .left))
@@ -88,9 +90,9 @@ part-state-after-end c = search needs
 state-after-requires : tie.Need-state-after-requires
 state-after-requires c κs =
     let at-flags-from = c .before in
-    let at-turn = at-flags-from .before .before in
-    let at-lay-next = at-turn .before .before .before .before in
-    let at-start = start-from-lay-next at-lay-next in
+    let at-turn = turn-from-flags-from at-flags-from in
+    let at-lay-next = lay-next-from-turn at-turn in
+    let at-start = start-from-else1 (if1-from-lay-next at-lay-next) in
     let P = at-start .pre in
     let x = at-flags-from .flags-from .result in
     let T = window-at x (truthsFrom (at-start .args .d)) (x + 512) 512 (now (at-start .args .flags)) (at-flags-from .flags-from .ensures .0) (omega arith) in (
@@ -106,9 +108,9 @@ same-length-2 c = search needs
 
 returns-3 : tie.Need-returns-3
 returns-3 c =
-    let at-turn = turn-from-state-after (c .before) in
-    let at-lay-next = at-turn .before .before .before .before in
-    let at-if1 = at-lay-next .before .before in
+    let at-turn = turn-from-flags-from (c .before .before .before) in
+    let at-lay-next = lay-next-from-turn at-turn in
+    let at-if1 = if1-from-lay-next at-lay-next in
     let at-start = start-from-else1 at-if1 in
     let P = at-start .pre in
     let A = at-lay-next .lay-next .ensures in

@@ -15,16 +15,16 @@ use borrow.Author.Needs.{needs}
 use Rattle.engine.proofs.put_first.Statement.{statement}
 use Rattle.engine.proofs.put_first.Tie as tie
 
-top-of-requires : tie.Need-top-of-requires
-top-of-requires c κs = let f = in-sheet (c .before .before .before .before .pre .0) in (f .some-record, f .p)
-
 -- Places: what stands before a need, by name. Written by `named`: run it again when the code changes.
-abbrev start-from-top-of : tie.After-top-of → tie.Start
-start-from-top-of c = c .before .before .before .before .before
+abbrev start-from-top-of-requires : tie.After-put-node-arg → tie.Start
+start-from-top-of-requires c = c .before .before .before .before
+
+top-of-requires : tie.Need-top-of-requires
+top-of-requires c κs = let f = in-sheet (start-from-top-of-requires c .pre .0) in (f .some-record, f .p)
 
 put-node-requires : tie.Need-put-node-requires
 put-node-requires c κs =
-    let at-start = start-from-top-of c in
+    let at-start = start-from-top-of-requires (c .before) in
     let long = work-long (now (at-start .args .s)) (now (at-start .args .work)) (at-start .pre .1 ∙ at-start .pre .0 .words-are) in
     search needs
 
@@ -35,7 +35,7 @@ returns : tie.Need-returns
 returns c =
     let at-put-node = c .before .before in
     let at-top-of = at-put-node .before in
-    let at-start = start-from-top-of at-top-of in
+    let at-start = start-from-top-of-requires (at-top-of .before) in
     let O = at-start .pre .0 in
     let N = at-put-node .put-node .ensures in
     let w = at-put-node .put-node .last .0 in

@@ -23,31 +23,34 @@ returns c =
     let at-start = c .before .before .before in
     sym (ap (λ (x : Option ℕ). after (worldOf (now (at-start .args .s))) x (at-start .args .st)) (is-test (at-start .args .entry) (c .if1 .taken)))
 
-sub-perform : tie.Need-sub-perform
-sub-perform c = in-order (in-sheet (c .before .before .before .before .pre .0 .0)) .effects
-
-part-perform-start : tie.Need-part-perform-start
-part-perform-start c = let o = in-order (in-sheet (c .before .before .before .before .pre .0 .0)) in omega arith
-
-part-perform-end : tie.Need-part-perform-end
-part-perform-end c = let o = in-order (in-sheet (c .before .before .before .before .pre .0 .0)) in omega arith
-
 -- Places: what stands before a need, by name. Written by `named`: run it again when the code changes.
 abbrev start-from-else1 : tie.Else1 → tie.Start
 start-from-else1 c = c .before .before .before
 
+abbrev if1-from-sub-perform-2 : tie.After-perform-arg → tie.Else1
+if1-from-sub-perform-2 c = c .before .before
+
+sub-perform : tie.Need-sub-perform
+sub-perform c = in-order (in-sheet (start-from-else1 (c .before) .pre .0 .0)) .effects
+
+part-perform-start : tie.Need-part-perform-start
+part-perform-start c = let o = in-order (in-sheet (start-from-else1 (c .before) .pre .0 .0)) in omega arith
+
+part-perform-end : tie.Need-part-perform-end
+part-perform-end c = let o = in-order (in-sheet (start-from-else1 (c .before) .pre .0 .0)) in omega arith
+
 sub-perform-2 : tie.Need-sub-perform-2
-sub-perform-2 c = in-order (in-sheet (start-from-else1 (c .before .before) .pre .0 .0)) .actions
+sub-perform-2 c = in-order (in-sheet (start-from-else1 (if1-from-sub-perform-2 c) .pre .0 .0)) .actions
 
 part-perform-start-2 : tie.Need-part-perform-start-2
-part-perform-start-2 c = let o = in-order (in-sheet (start-from-else1 (c .before .before) .pre .0 .0)) in omega arith
+part-perform-start-2 c = let o = in-order (in-sheet (start-from-else1 (if1-from-sub-perform-2 c) .pre .0 .0)) in omega arith
 
 part-perform-end-2 : tie.Need-part-perform-end-2
-part-perform-end-2 c = let o = in-order (in-sheet (start-from-else1 (c .before .before) .pre .0 .0)) in omega arith
+part-perform-end-2 c = let o = in-order (in-sheet (start-from-else1 (if1-from-sub-perform-2 c) .pre .0 .0)) in omega arith
 
 perform-requires : tie.Need-perform-requires
 perform-requires c κs =
-    let at-if1 = c .before .before .before in
+    let at-if1 = if1-from-sub-perform-2 (c .before) in
     let at-start = start-from-else1 at-if1 in
     let O = at-start .pre .0 .0 in
     let a = action-of-code (now (at-start .args .s)) (at-start .args .entry) _ (at-start .pre .1) refl (at-if1 .if1 .left) in
@@ -55,7 +58,7 @@ perform-requires c κs =
 
 returns-2 : tie.Need-returns-2
 returns-2 c =
-    let at-if1 = c .before .before .before .before in
+    let at-if1 = if1-from-sub-perform-2 (c .before .before) in
     let at-start = start-from-else1 at-if1 in
     let s = now (at-start .args .s) in
     let e = at-start .args .entry in

@@ -1,7 +1,7 @@
 -- The totals by the tables of the state are what the definition says of the configuration. Assumes nothing.
 use denote.Ref.{now}
 use native.Mathlib.Omega.{arith}
-use mathlib.Core.Path.{sym, _∙_, subst}
+use mathlib.Core.Path.{sym, subst}
 use Prim.Native.Nat.{ℕ, _+_}
 use Rattle.height.specs.Work.{header}
 use Rattle.words.specs.Words.{At, Stands}
@@ -31,20 +31,14 @@ start-from-tally c = start-from-judge (judge-from-tally c)
 abbrev tally-from-mul-total : tie.After-struct-known → tie.After-tally
 tally-from-mul-total c = c .before .before .before .before .before
 
-abbrev start-from-mul-total : tie.After-struct-known → tie.Start
-start-from-mul-total c = start-from-tally (tally-from-mul-total c)
-
-abbrev tally-from-returns : tie.After-total → tie.After-tally
-tally-from-returns c = tally-from-mul-total (c .before)
-
 mul-total : tie.Need-mul-total
 mul-total c =
-    let at-start = start-from-mul-total c in
+    let at-start = start-from-tally (tally-from-mul-total c) in
     omega (arith, frame-by (at-start .pre .0 .0) (at-start .args .d), at-start .pre .1 .2 .roomy .inside, at-start .pre .1 .2 .roomy .small)
 
 add-total : tie.Need-add-total
 add-total c =
-    let at-start = start-from-mul-total c in
+    let at-start = start-from-tally (tally-from-mul-total c) in
     omega (arith, frame-by (at-start .pre .0 .0) (at-start .args .d), at-start .pre .1 .2 .roomy .inside, at-start .pre .1 .2 .roomy .small)
 
 total-requires : tie.Need-total-requires
@@ -67,7 +61,7 @@ same-length-2 c = search needs
 
 returns : tie.Need-returns
 returns c =
-    let at-tally = tally-from-returns c in
+    let at-tally = tally-from-mul-total (c .before) in
     let at-judge = judge-from-tally at-tally in
     let at-start = start-from-judge at-judge in
     let O = at-start .pre .0 .0 in

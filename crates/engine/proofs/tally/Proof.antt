@@ -7,16 +7,15 @@ use mathlib.Core.Path.{_≡_, sym, _∙_, ap, subst, subst₂}
 use Prim.Native.Nat.{ℕ, _+_, _-_, _≤_}
 use lib.ListN.{length}
 use borrow.Rule.Slice.PartMut.{putMid, same-len-mid}
-use Rattle.state.specs.Truths.{possibleIn}
 use Rattle.leaves.specs.Tallies.{Tallied}
-use Rattle.leaves.specs.Endable.{FinalsKnown}
+use Rattle.leaves.specs.Endable.{Tallyable}
 use Rattle.sheet.specs.Layout.{actionsIn}
-use Rattle.engine.specs.Tables.{window, Only, truthsFrom, finalsFrom, truthsAt, finalsAt, countsFrom, countsAt}
+use Rattle.engine.specs.Tables.{window, Only, truthsFrom, finalsFrom, truthsAt, countsFrom, countsAt}
 use Rattle.sheet.proofs.Parts.{in-order, programs-long}
 use Rattle.sheet.proofs.Found.{in-sheet}
 use Rattle.engine.proofs.Tables.{counts-long}
 use Rattle.engine.proofs.Windows.{window-at, only-put, window-put}
-use Rattle.engine.proofs.Judging.{runs, many, seenBy, runs-lower, actions-read, decides-by, surveyed}
+use Rattle.engine.proofs.Judging.{runs, many, tallyable, surveyed}
 use borrow.Author.Needs.{needs}
 use Rattle.engine.proofs.tally.Statement.{statement}
 use Rattle.engine.proofs.tally.Tie as tie
@@ -52,32 +51,29 @@ part-tallies-end c = search needs
 abbrev start-from-flags-from : tie.After-flags-from → tie.Start
 start-from-flags-from c = c .before .before .before .before .before
 
-abbrev start-from-counts-from : tie.After-counts-from → tie.Start
-start-from-counts-from c = start-from-flags-from (c .before)
+abbrev start-from-sub-tallies-2 : tie.After-tallies-arg → tie.Start
+start-from-sub-tallies-2 c = start-from-flags-from (c .before .before)
 
 abbrev counts-from-from-tallies-requires : tie.After-tallies-arg5 → tie.After-counts-from
 counts-from-from-tallies-requires c = c .before .before .before .before .before
 
-abbrev counts-from-from-tallies : tie.After-tallies → tie.After-counts-from
-counts-from-from-tallies c = counts-from-from-tallies-requires (c .before)
-
 sub-tallies-2 : tie.Need-sub-tallies-2
-sub-tallies-2 c = in-order (in-sheet (start-from-counts-from (c .before) .pre .0)) .programs
+sub-tallies-2 c = in-order (in-sheet (start-from-sub-tallies-2 c .pre .0)) .programs
 
 part-tallies-start-2 : tie.Need-part-tallies-start-2
-part-tallies-start-2 c = let o = in-order (in-sheet (start-from-counts-from (c .before) .pre .0)) in omega arith
+part-tallies-start-2 c = let o = in-order (in-sheet (start-from-sub-tallies-2 c .pre .0)) in omega arith
 
 part-tallies-end-2 : tie.Need-part-tallies-end-2
-part-tallies-end-2 c = in-order (in-sheet (start-from-counts-from (c .before) .pre .0)) .end
+part-tallies-end-2 c = in-order (in-sheet (start-from-sub-tallies-2 c .pre .0)) .end
 
 sub-tallies-3 : tie.Need-sub-tallies-3
-sub-tallies-3 c = in-order (in-sheet (start-from-counts-from (c .before .before) .pre .0)) .actions
+sub-tallies-3 c = in-order (in-sheet (start-from-sub-tallies-2 (c .before) .pre .0)) .actions
 
 part-tallies-start-3 : tie.Need-part-tallies-start-3
-part-tallies-start-3 c = let o = in-order (in-sheet (start-from-counts-from (c .before .before) .pre .0)) in omega arith
+part-tallies-start-3 c = let o = in-order (in-sheet (start-from-sub-tallies-2 (c .before) .pre .0)) in omega arith
 
 part-tallies-end-3 : tie.Need-part-tallies-end-3
-part-tallies-end-3 c = let o = in-order (in-sheet (start-from-counts-from (c .before .before) .pre .0)) in omega arith
+part-tallies-end-3 c = let o = in-order (in-sheet (start-from-sub-tallies-2 (c .before) .pre .0)) in omega arith
 
 sub-tallies-4 : tie.Need-sub-tallies-4
 sub-tallies-4 c = search needs
@@ -105,7 +101,9 @@ tallies-requires c κs =
     let O = at-start .pre .0 in
     let J = at-start .pre .1 in
     let d = at-start .args .d in
-    let m = at-start .args .found in
+    let s = now (at-start .args .s) in
+    let l = at-start .args .found .layout in
+    let b = at-start .args .found .interrupts in
     let flags = now (at-start .args .flags) in
     let numbers = now (at-start .args .numbers) in
     let x = at-flags-from .flags-from .result in
@@ -116,12 +114,7 @@ tallies-requires c κs =
     let N = window-at y (countsFrom d) (y + 260) 260 numbers (at-counts-from .counts-from .ensures .0) (omega arith) in
     let r = programs-long _ _ (in-sheet O) in (
       (r, ap length N ∙ counts-long (J .prepared) d),
-      (
-        runs-lower O,
-        actions-read O,
-        subst₂ (λ (t f : List Bool). FinalsKnown (runs (now (at-start .args .s)) (m .layout) (m .interrupts)) (many (m .layout) (m .interrupts)) t (at-start .args .st .running) f) (sym T) (sym F)
-            (decides-by O J),
-      ),
+      subst₂ (λ (t f : List Bool). Tallyable (runs s l b) (many l b) (actionsIn s l) t (at-start .args .st .running) f) (sym T) (sym F) (tallyable O J),
     )
 
 same-length : tie.Need-same-length
@@ -130,7 +123,7 @@ same-length c = search needs
 returns : tie.Need-returns
 returns c =
     let at-tallies = c .before .before in
-    let at-counts-from = counts-from-from-tallies at-tallies in
+    let at-counts-from = counts-from-from-tallies-requires (at-tallies .before) in
     let at-flags-from = at-counts-from .before in
     let at-start = start-from-flags-from at-flags-from in
     let O = at-start .pre .0 in
@@ -153,9 +146,9 @@ returns c =
     let new = putMid y (y + 260 - y) numbers counts in
     let K : Only (countsFrom d) 260 numbers new = subst (λ (o : ℕ). Only o 260 numbers new) ey (only-put y (y + 260) 260 numbers counts (omega arith) fits long) in
     let e : countsAt d new ≡ counts = subst (λ (o : ℕ). window o 260 new ≡ counts) ey (window-put y (y + 260) 260 numbers counts (omega arith) fits long) in
-    let told = subst₂ (λ (t : List Bool) (k : List ℕ). Tallied (runs s l b) (many l b) t (possibleIn (actionsIn s l) t) (st .running) k counts) T N (at-tallies .tallies .ensures .0) in (
+    let told = subst₂ (λ (t : List Bool) (k : List ℕ). Tallied (runs s l b) (many l b) (actionsIn s l) t (st .running) k counts) T N (at-tallies .tallies .ensures .0) in (
       surveyed O J new (same-len-mid y (y + 260 - y) numbers counts (at-tallies .tallies .kept .0)) K
-          (subst (λ (k : List ℕ). Tallied (runs s l b) (many l b) (truthsAt d flags) (seenBy O J l) (st .running) (countsAt d numbers) k) (sym e) told),
+          (subst (λ (k : List ℕ). Tallied (runs s l b) (many l b) (actionsIn s l) (truthsAt d flags) (st .running) (countsAt d numbers) k) (sym e) told),
       K,
     )
 

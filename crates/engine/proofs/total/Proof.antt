@@ -3,7 +3,7 @@ use denote.Ref.{now}
 use native.Mathlib.Omega.{arith}
 use mathlib.Core.Bool.{Bool}
 use mathlib.Core.List.{List}
-use mathlib.Core.Path.{_≡_, sym, _∙_, ap, subst, subst₂}
+use mathlib.Core.Path.{sym, subst₂}
 use Prim.Native.Nat.{ℕ, _+_}
 use lib.Seq.{length-take-le}
 use Rattle.ends.specs.Ends.{Totalled}
@@ -38,12 +38,12 @@ part-total-rest-end : tie.Need-part-total-rest-end
 part-total-rest-end c = search needs
 
 -- Places: what stands before a need, by name. Written by `named`: run it again when the code changes.
-abbrev start-from-counts-from : tie.After-counts-from → tie.Start
-start-from-counts-from c = c .before .before .before .before .before
+abbrev start-from-flags-from : tie.After-flags-from → tie.Start
+start-from-flags-from c = c .before .before .before .before
 
 slice-aggregate-total-rest : tie.Need-slice-aggregate-total-rest
 slice-aggregate-total-rest c =
-    let at-start = start-from-counts-from (c .before .before) in
+    let at-start = start-from-flags-from (c .before .before .before) in
     sym (length-take-le 260 (now (at-start .args .flags)) (omega (arith, at-start .pre .0)))
 
 mul-total-rest : tie.Need-mul-total-rest
@@ -65,7 +65,7 @@ returns : tie.Need-returns
 returns c =
     let at-counts-from = c .before .before .before .before in
     let at-flags-from = at-counts-from .before in
-    let at-start = at-flags-from .before .before .before .before in
+    let at-start = start-from-flags-from at-flags-from in
     λ g a.
     let d = at-start .args .d in
     let flags = now (at-start .args .flags) in

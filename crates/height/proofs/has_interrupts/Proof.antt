@@ -24,10 +24,11 @@ is-plain-requires c κs = search needs
 returns : tie.Need-returns Inv-loop μ-loop
 unfolding interrupts
 returns c =
-    let at-loop-test = c .before .before in
+    let at-is-plain = c .before in
+    let at-loop-test = at-is-plain .before in
     let at-loop = at-loop-test .before in
     let at-start = at-loop .before .before in
-    let e = found _ (at-loop .loop .inv) (at-loop-test .loop-test .taken) (c .before .is-plain .ensures) (c .if1 .taken) in
+    let e = found _ (at-loop .loop .inv) (at-loop-test .loop-test .taken) (at-is-plain .is-plain .ensures) (c .if1 .taken) in
     sym (lt-ltb _ _ (subst (λ (i : ℕ). i < at-start .args .n) e (at-loop-test .loop-test .taken)))
 
 add-i : tie.Need-add-i Inv-loop μ-loop
@@ -37,7 +38,10 @@ loop-less : tie.Need-loop-less Inv-loop μ-loop
 loop-less c = search needs
 
 loop-again : tie.Need-loop-again Inv-loop μ-loop
-loop-again c = more _ (c .before .before .before .loop .inv) (c .before .before .loop-test .taken) (c .before .is-plain .ensures) (c .if1 .left)
+loop-again c =
+    let at-is-plain = c .before in
+    let at-loop-test = at-is-plain .before in
+    more _ (at-loop-test .before .loop .inv) (at-loop-test .loop-test .taken) (at-is-plain .is-plain .ensures) (c .if1 .left)
 
 returns-2 : tie.Need-returns-2 Inv-loop μ-loop
 unfolding interrupts

@@ -25,15 +25,19 @@ abbrev μ-loop : tie.MeasureT-loop
 loop-holds : tie.Need-loop-holds Inv-loop μ-loop
 loop-holds c = (omega arith, start _ _ _ _)
 
+-- Places: what stands before a need, by name. Written by `named`: run it again when the code changes.
+abbrev loop-from-slice-aggregate-height-over : tie.After-h Inv-loop μ-loop → tie.At-loop Inv-loop μ-loop
+loop-from-slice-aggregate-height-over c = c .before .before
+
 slice-aggregate-height-over : tie.Need-slice-aggregate-height-over Inv-loop μ-loop
-slice-aggregate-height-over c = sym (full _ _ _ _ (c .before .before .loop .inv .1) (omega arith))
+slice-aggregate-height-over c = sym (full _ _ _ _ (loop-from-slice-aggregate-height-over c .loop .inv .1) (omega arith))
 
 program-at-requires : tie.Need-program-at-requires Inv-loop μ-loop
 program-at-requires c κs = search needs
 
 height-over-requires : tie.Need-height-over-requires Inv-loop μ-loop
 height-over-requires c κs j =
-    let at-loop = c .before .before .before in
+    let at-loop = loop-from-slice-aggregate-height-over (c .before) in
     let at-start = at-loop .before .before in
     omega (arith, at _ _ _ _ (at-loop .loop .inv .1) j, heights-le (programAt (now (at-start .args .t))) (at-loop .loop .i) j)
 
@@ -52,13 +56,14 @@ loop-less c = search needs
 loop-again : tie.Need-loop-again Inv-loop μ-loop
 unfolding heightAt
 loop-again c =
-    let at-loop = c .before .before .before .before in
+    let at-program-at = c .before in
+    let at-loop = loop-from-slice-aggregate-height-over (at-program-at .before) in
     let at-start = at-loop .before .before in
     let p = programAt (now (at-start .args .t)) in
     let h = at-loop .loop .h in
     let i = at-loop .loop .i in
     let b = at-loop .loop .inv .1 in
-    let read : c .height-over .result ≡ heightOver h (links (p i)) = c .height-over .ensures ∙ ap (λ (r : Program). heightOver h (links r)) (c .before .program-at .ensures .0) in
+    let read : c .height-over .result ≡ heightOver h (links (p i)) = c .height-over .ensures ∙ ap (λ (r : Program). heightOver h (links r)) (at-program-at .program-at .ensures .0) in
     (omega arith, more 0 (heightAt p) (λ (x : ℕ). x) 256 b (omega arith) (read ∙ over-same h (upTo (heightAt p) i) (at 0 (heightAt p) (λ (x : ℕ). x) 256 b) (links (p i))))
 
 sub-wide32 : tie.Need-sub-wide32 Inv-loop μ-loop
@@ -76,8 +81,9 @@ wide32-requires c κs = search needs
 returns : tie.Need-returns Inv-loop μ-loop
 unfolding rise
 returns c =
-    let at-loop = c .before .before in
-    let e = le-antisymm (at-loop .loop .inv .0) (c .before .loop-test .left) in
+    let at-loop-test = c .before in
+    let at-loop = at-loop-test .before in
+    let e = le-antisymm (at-loop .loop .inv .0) (at-loop-test .loop-test .left) in
     let b = at-loop .loop .inv .1 in
     c .wide32 .ensures .0 ∙ at _ _ _ _ b _ ∙ up-at 0 _ _ _ (omega (arith, e))
 

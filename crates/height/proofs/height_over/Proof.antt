@@ -23,11 +23,13 @@ larger-requires c κs = search needs
 
 returns : tie.Need-returns
 returns c =
-    let at-above = c .before .before .before in
+    let at-above2 = c .before in
+    let at-has-b = at-above2 .before in
+    let at-above = at-has-b .before in
     let at-has-a = at-above .before in
     let at-start = at-has-a .before .before in
     c .larger .ensures
-    ∙ rw (at-above .above .ensures, c .before .above2 .ensures, at-has-a .has-a .ensures, c .before .before .has-b .ensures) (sym (over-links (now (at-start .args .h)) (at-start .args .r)))
+    ∙ rw (at-above .above .ensures, at-above2 .above2 .ensures, at-has-a .has-a .ensures, at-has-b .has-b .ensures) (sym (over-links (now (at-start .args .h)) (at-start .args .r)))
 
 pub height-over-spec : {M : Type 1} → statement M
 height-over-spec =

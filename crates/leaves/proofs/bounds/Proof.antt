@@ -46,14 +46,15 @@ loop-less c = search needs
 
 loop-again : tie.Need-loop-again Inv-loop μ-loop
 loop-again c =
-    let b = c .before .before .before .before .loop .inv .1 in
-    (omega arith, more _ _ _ _ b (omega arith) (rw (c .before .before .record-at .ensures .0) at (c .final-bound-by .ensures) ∙ bound-same _ _ _ _ (at _ _ _ _ b)))
+    let at-record-at = c .before .before in
+    let b = at-record-at .before .before .loop .inv .1 in
+    (omega arith, more _ _ _ _ b (omega arith) (rw (at-record-at .record-at .ensures .0) at (c .final-bound-by .ensures) ∙ bound-same _ _ _ _ (at _ _ _ _ b)))
 
 returns : tie.Need-returns Inv-loop μ-loop
 unfolding finalBoundsOf
 returns c =
     let at-loop = c .before in
-    let e = le-antisymm (at-loop .loop .inv .0) (c .loop-test .left) ∙ c .before .before .places-of .ensures .0 in
+    let e = le-antisymm (at-loop .loop .inv .0) (c .loop-test .left) ∙ at-loop .before .places-of .ensures .0 in
     rw (← e) (at-loop .loop .inv .1 .same ∙ simp map-id)
 
 pub bounds-spec : {M : Type 1} → statement M

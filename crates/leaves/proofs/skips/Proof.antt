@@ -65,11 +65,12 @@ loop-again c =
 returns : tie.Need-returns Inv-loop μ-loop
 returns c =
     let at-loop = c .before in
-    let at-places-of = at-loop .before .before in
+    let at-bounds = at-loop .before in
+    let at-places-of = at-bounds .before in
     let v = at-loop .loop .inv in
     let e = at-places-of .places-of .ensures .0 in
     let z : at-loop .loop .i ≡ 0 = omega arith in
-    rw (← e) (all _ _ _ (omega arith) (v .1) (rw (z, c .before .before .bounds .ensures, ← e) at (v .2)))
+    rw (← e) (all _ _ _ (omega arith) (v .1) (rw (z, at-bounds .bounds .ensures, ← e) at (v .2)))
 
 pub skips-spec : {M : Type 1} → statement M
 skips-spec =

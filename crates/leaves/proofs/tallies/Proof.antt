@@ -34,9 +34,6 @@ places-of-requires c κs = search needs
 abbrev start-from-places-of : tie.After-places-of Inv-loop μ-loop → tie.Start Inv-loop μ-loop
 start-from-places-of c = c .before .before .before .before .before .before
 
-abbrev start-from-loop : tie.At-loop Inv-loop μ-loop → tie.Start Inv-loop μ-loop
-start-from-loop c = start-from-places-of (c .before)
-
 loop-holds : tie.Need-loop-holds Inv-loop μ-loop
 loop-holds c = (omega arith, start-from-places-of c .pre .0 .1, λ W s S. refill-start _ cappedCount _)
 
@@ -44,7 +41,7 @@ record-at-requires : tie.Need-record-at-requires Inv-loop μ-loop
 record-at-requires c κs = search needs
 
 count-at-requires : tie.Need-count-at-requires Inv-loop μ-loop
-count-at-requires c κs = λ t. rw (c .before .record-at .ensures .0) (start-from-loop (c .before .before .before) .pre .1 .1 _ (rw (← c .before .record-at .ensures .0) t))
+count-at-requires c κs = λ t. rw (c .before .record-at .ensures .0) (start-from-places-of (c .before .before .before .before) .pre .1 .acts-known _ (rw (← c .before .record-at .ensures .0) t))
 
 mul-counts : tie.Need-mul-counts Inv-loop μ-loop
 mul-counts c = search needs
@@ -60,21 +57,23 @@ loop-less c = search needs
 
 loop-again : tie.Need-loop-again Inv-loop μ-loop
 loop-again c =
-    let at-loop = c .before .before .before .before in
+    let at-record-at = c .before .before in
+    let at-loop = at-record-at .before .before in
     let at-places-of = at-loop .before in
     let at-start = start-from-places-of at-places-of in
     let z = at-start .pre in
-    let e = c .before .before .record-at .ensures .0 in
+    let e = at-record-at .record-at .ensures .0 in
     let v = at-loop .loop .inv in (
       omega arith,
       simp length-set (v .1),
-      λ W s S. next W s _ (z .1 .0) _ (z .1 .2 W s _ S) (v .2 W s S) (omega (arith, at-places-of .places-of .ensures .0)) (S .each _ (omega (arith, at-places-of .places-of .ensures .0))) (S .runs)
+      λ W s S. next W s _ (z .1 .lower) _ (z .1 .finals-known W s _ S) (v .2 W s S) (omega (arith, at-places-of .places-of .ensures .0))
+          (S .each _ (omega (arith, at-places-of .places-of .ensures .0))) (S .runs)
           (omega arith)
           (rw e at (c .count-at .ensures)),
     )
 
 same-length : tie.Need-same-length Inv-loop μ-loop
-same-length c = c .before .loop .inv .1 ∙ sym (start-from-loop (c .before) .pre .0 .1)
+same-length c = c .before .loop .inv .1 ∙ sym (start-from-places-of (c .before .before) .pre .0 .1)
 
 returns : tie.Need-returns Inv-loop μ-loop
 returns c =

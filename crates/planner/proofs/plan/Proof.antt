@@ -34,12 +34,13 @@ returns c = search needs
 
 returns-2 : tie.Need-returns-2
 returns-2 c =
-    let at-inspect = c .before .before .before in
+    let at-why = c .before in
+    let at-inspect = at-why .before .before in
     let at-start = at-inspect .before .before .before .before in
     let s = now (at-start .args .s) in
     let work = now (at-start .args .work) in
     let trace = now (at-start .args .trace) in
-    let q = refused-by s (sym (c .before .why .given .1) ∙ at-inspect .inspect .ensures) in
+    let q = refused-by s (sym (at-why .why .given .1) ∙ at-inspect .inspect .ensures) in
     let u = sheet-untouched s _ q work trace in
     (sym (sheet-refused s _ q (length work) (length trace)), (sym (u .0), sym (u .1)))
 

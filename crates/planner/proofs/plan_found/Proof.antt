@@ -18,21 +18,18 @@ refused-requires c κs = search needs
 abbrev start-from-else1 : tie.Else1 → tie.Start
 start-from-else1 c = c .before .before .before .before .before
 
-abbrev start-from-then1 : tie.Then1 → tie.Start
-start-from-then1 c = c .before .before .before .before .before
+abbrev start-from-refused : tie.After-refused → tie.Start
+start-from-refused c = c .before .before .before .before .before .before
 
-abbrev start-from-else2 : tie.Else2 → tie.Start
-start-from-else2 c = start-from-else1 (c .before)
-
-abbrev start-from-then2 : tie.Then2 → tie.Start
-start-from-then2 c = start-from-else1 (c .before)
+abbrev if2-from-slice-aggregate-run-2 : tie.After-run-arg → tie.Else2
+if2-from-slice-aggregate-run-2 c = c .before .before
 
 abbrev run-from-returns-3 : tie.After-answer-of → tie.After-run
 run-from-returns-3 c = c .before .before .before .before .before
 
 returns : tie.Need-returns
 returns c =
-    let at-start = start-from-then1 (c .before) in
+    let at-start = start-from-refused c in
     let O = at-start .pre in
     let e = ap (λ (l : Layout). l .d) (O .layout-is) in
     let r = ten _ _ (answered O) (now (at-start .args .work)) (now (at-start .args .trace)) (omega (arith, e, c .before .if1 .taken)) in
@@ -43,10 +40,11 @@ refused-requires-2 c κs = search needs
 
 returns-2 : tie.Need-returns-2
 returns-2 c =
-    let at-start = start-from-then2 (c .before) in
+    let at-if2 = c .before in
+    let at-start = start-from-else1 (at-if2 .before) in
     let O = at-start .pre in
     let e = ap (λ (l : Layout). l .d) (O .layout-is) in
-    let r = eleven _ _ (answered O) (now (at-start .args .work)) (c .before .if2 .taken) (now (at-start .args .trace)) (omega (arith, e, c .before .before .if1 .left)) in
+    let r = eleven _ _ (answered O) (now (at-start .args .work)) (at-if2 .if2 .taken) (now (at-start .args .trace)) (omega (arith, e, at-if2 .before .if1 .left)) in
     (c .refused2 .ensures ∙ sym (r .0), (sym (r .1), sym (r .2)))
 
 array-share-prefix-none : tie.Need-array-share-prefix-none
@@ -60,12 +58,12 @@ slice-relend-prefix-run c = search needs
 
 slice-aggregate-run-2 : tie.Need-slice-aggregate-run-2
 slice-aggregate-run-2 c =
-    let at-start = start-from-else2 (c .before .before) in
-    sym (length-take-le (at-start .args .found .words) (now (at-start .args .work)) (c .before .before .if2 .left))
+    let at-start = start-from-else1 (if2-from-slice-aggregate-run-2 c .before) in
+    sym (length-take-le (at-start .args .found .words) (now (at-start .args .work)) (if2-from-slice-aggregate-run-2 c .if2 .left))
 
 run-requires : tie.Need-run-requires
 run-requires c κs =
-    let at-if2 = c .before .before .before in
+    let at-if2 = if2-from-slice-aggregate-run-2 (c .before) in
     let at-if1 = at-if2 .before in
     let at-start = start-from-else1 at-if1 in
     let O = at-start .pre in
@@ -84,7 +82,7 @@ same-length-2 c = search needs
 returns-3 : tie.Need-returns-3
 returns-3 c =
     let at-run = run-from-returns-3 c in
-    let at-if2 = at-run .before .before .before .before in
+    let at-if2 = if2-from-slice-aggregate-run-2 (at-run .before .before) in
     let at-if1 = at-if2 .before in
     let at-start = start-from-else1 at-if1 in
     let s = now (at-start .args .s) in

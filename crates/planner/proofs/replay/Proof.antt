@@ -15,7 +15,9 @@ enum-known-found : tie.Need-enum-known-found
 enum-known-found c = search needs
 
 replay-found-requires : tie.Need-replay-found-requires
-replay-found-requires c κs = found-of _ (sym (c .before .before .found .given .1) ∙ c .before .before .before .before .inspect .ensures)
+replay-found-requires c κs =
+    let at-found = c .before .before in
+    found-of _ (sym (at-found .found .given .1) ∙ at-found .before .before .inspect .ensures)
 
 enum-known-why : tie.Need-enum-known-why
 enum-known-why c = search needs
@@ -28,12 +30,13 @@ returns c = search needs
 
 returns-2 : tie.Need-returns-2
 returns-2 c =
-    let at-inspect = c .before .before .before in
+    let at-why = c .before in
+    let at-inspect = at-why .before .before in
     let at-start = at-inspect .before .before .before .before in
     let s = now (at-start .args .s) in
     let h = now (at-start .args .history) in
     let work = now (at-start .args .work) in
-    let q = refused-by s (sym (c .before .why .given .1) ∙ at-inspect .inspect .ensures) in
+    let q = refused-by s (sym (at-why .why .given .1) ∙ at-inspect .inspect .ensures) in
     let u = sheet-untouched s _ q work work in
     (sym (sheet-refused-reply s _ q h (length work)), sym (u .2))
 

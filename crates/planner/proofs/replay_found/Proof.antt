@@ -20,8 +20,8 @@ start-from-else1 c = c .before .before .before .before .before
 abbrev start-from-returns : tie.Then1 → tie.Start
 start-from-returns c = c .before .before .before .before .before
 
-abbrev start-from-then2 : tie.Then2 → tie.Start
-start-from-then2 c = start-from-else1 (c .before)
+abbrev if1-from-slice-aggregate-run : tie.After-run-arg → tie.Else1
+if1-from-slice-aggregate-run c = c .before .before
 
 returns : tie.Need-returns
 returns c =
@@ -34,7 +34,7 @@ slice-relend-prefix-clear c = search needs
 
 slice-aggregate-clear : tie.Need-slice-aggregate-clear
 slice-aggregate-clear c =
-    let at-start = start-from-then2 (c .before) in
+    let at-start = start-from-else1 (c .before .before) in
     sym (length-take-le (at-start .args .found .words) (now (at-start .args .work)) (c .before .before .if1 .left))
 
 clear-requires : tie.Need-clear-requires
@@ -45,7 +45,8 @@ same-length c = search needs
 
 returns-2 : tie.Need-returns-2
 returns-2 c =
-    let at-if2 = c .before .before .before .before in
+    let at-clear = c .before .before in
+    let at-if2 = at-clear .before .before in
     let at-if1 = at-if2 .before in
     let at-start = start-from-else1 at-if1 in
     let s = now (at-start .args .s) in
@@ -54,7 +55,7 @@ returns-2 c =
     let O = at-start .pre in
     let e = ap (λ (l : Layout). l .d) (O .layout-is) in (
       longer s w (answered O) work (at-if1 .if1 .left) (now (at-start .args .history)) (omega (arith, e, at-if2 .if2 .taken)),
-      cleared w work _ (c .before .before .clear .ensures) (at-if1 .if1 .left) ∙ sym (replay-cleared s w (answered O) work (at-if1 .if1 .left)),
+      cleared w work _ (at-clear .clear .ensures) (at-if1 .if1 .left) ∙ sym (replay-cleared s w (answered O) work (at-if1 .if1 .left)),
     )
 
 slice-relend-prefix-run : tie.Need-slice-relend-prefix-run
@@ -62,15 +63,15 @@ slice-relend-prefix-run c = search needs
 
 slice-aggregate-run : tie.Need-slice-aggregate-run
 slice-aggregate-run c =
-    let at-start = start-from-else1 (c .before .before) in
-    sym (length-take-le (at-start .args .found .words) (now (at-start .args .work)) (c .before .before .if1 .left))
+    let at-start = start-from-else1 (if1-from-slice-aggregate-run c) in
+    sym (length-take-le (at-start .args .found .words) (now (at-start .args .work)) (if1-from-slice-aggregate-run c .if1 .left))
 
 slice-aggregate-run-2 : tie.Need-slice-aggregate-run-2
 slice-aggregate-run-2 c = search needs
 
 run-requires : tie.Need-run-requires
 run-requires c κs =
-    let at-if1 = c .before .before .before in
+    let at-if1 = if1-from-slice-aggregate-run (c .before) in
     let at-start = start-from-else1 at-if1 in
     let O = at-start .pre in
     (O, length-take-le (at-start .args .found .words) (now (at-start .args .work)) (at-if1 .if1 .left), laid _ (O .accepted) .d)
@@ -84,7 +85,7 @@ same-length-2 c = search needs
 returns-3 : tie.Need-returns-3
 returns-3 c =
     let at-run = c .before .before .before .before in
-    let at-if1 = at-run .before .before .before .before in
+    let at-if1 = if1-from-slice-aggregate-run (at-run .before .before) in
     let at-start = start-from-else1 at-if1 in
     let s = now (at-start .args .s) in
     let h = now (at-start .args .history) in

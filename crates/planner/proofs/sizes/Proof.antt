@@ -21,19 +21,21 @@ enum-known-why c = search needs
 returns : tie.Need-returns
 unfolding sizesOf
 returns c =
-    let at-inspect = c .before .before .before .before in
+    let at-found = c .before .before in
+    let at-inspect = at-found .before .before in
     let at-start = at-inspect .before .before in
     let s = now (at-start .args .s) in
-    let O = found-of s (sym (c .before .before .found .given .1) ∙ at-inspect .inspect .ensures) in
+    let O = found-of s (sym (at-found .found .given .1) ∙ at-inspect .inspect .ensures) in
     ap (λ (l : Layout). sized.Known (l .f) (l .d)) (O .layout-is) ∙ sym (ap (sizedAs s) (answered O))
 
 returns-2 : tie.Need-returns-2
 unfolding sizesOf
 returns-2 c =
-    let at-inspect = c .before .before .before in
+    let at-why = c .before in
+    let at-inspect = at-why .before .before in
     let at-start = at-inspect .before .before in
     let s = now (at-start .args .s) in
-    sym (ap (sizedAs s) (refused-by s (sym (c .before .why .given .1) ∙ at-inspect .inspect .ensures)))
+    sym (ap (sizedAs s) (refused-by s (sym (at-why .why .given .1) ∙ at-inspect .inspect .ensures)))
 
 pub sizes-spec : {M : Type 1} → statement M
 sizes-spec =

@@ -17,12 +17,12 @@ enum-known-why c = search needs
 returns : tie.Need-returns
 returns c =
     let q = sym (c .before .before .before .look-up .ensures) ∙ c .before .m .given .1 in
-    (sym (ap lookNumber q), (sym (ap lookSize q), sym (ap lookInitial q), sym (ap lookPlace q)))
+    (sym (ap lookNumber q), (sym (ap lookSize q), (sym (ap lookInitial q), sym (ap lookPlace q))))
 
 returns-2 : tie.Need-returns-2
 returns-2 c =
     let q = sym (c .before .before .before .look-up .ensures) ∙ c .before .why .given .1 in
-    (sym (ap lookNumber q), (sym (ap lookSize q), sym (ap lookInitial q), sym (ap lookPlace q)))
+    (sym (ap lookNumber q), (sym (ap lookSize q), (sym (ap lookInitial q), sym (ap lookPlace q))))
 
 pub planner-raw-look-up-spec : {M : Type 1} → statement M
 planner-raw-look-up-spec =

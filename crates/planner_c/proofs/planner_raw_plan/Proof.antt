@@ -31,7 +31,7 @@ returns : tie.Need-returns
 returns c =
     let at-plan = plan-from-moves (c .before) in
     let q = sym (at-plan .plan .ensures .0) ∙ c .before .moves .given .1 in
-    (sym (ap planNumber q), ((sym (ap planMoves q), sym (ap planTransitions q), sym (ap planPlace q)), (at-plan .plan .ensures .1 .0, at-plan .plan .ensures .1 .1)))
+    (sym (ap planNumber q), (sym (ap planMoves q), (sym (ap planTransitions q), (sym (ap planPlace q), at-plan .plan .ensures .1))))
 
 same-length-3 : tie.Need-same-length-3
 same-length-3 c = search needs
@@ -43,7 +43,7 @@ returns-2 : tie.Need-returns-2
 returns-2 c =
     let at-plan = plan-from-why (c .before) in
     let q = sym (at-plan .plan .ensures .0) ∙ c .before .why .given .1 in
-    (sym (ap planNumber q), ((sym (ap planMoves q), sym (ap planTransitions q), sym (ap planPlace q)), (at-plan .plan .ensures .1 .0, at-plan .plan .ensures .1 .1)))
+    (sym (ap planNumber q), (sym (ap planMoves q), (sym (ap planTransitions q), (sym (ap planPlace q), at-plan .plan .ensures .1))))
 
 pub planner-raw-plan-spec : {M : Type 1} → statement M
 planner-raw-plan-spec =

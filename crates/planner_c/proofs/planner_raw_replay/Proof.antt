@@ -24,7 +24,7 @@ returns : tie.Need-returns
 returns c =
     let at-replay = c .before .before .before .before in
     let q = sym (at-replay .replay .ensures .0) ∙ c .enum-told .given .1 in
-    (sym (ap replyNumber q), ((sym (ap replyYes q), sym (ap replyPlace q)), at-replay .replay .ensures .1))
+    (sym (ap replyNumber q), (sym (ap replyYes q), (sym (ap replyPlace q), at-replay .replay .ensures .1)))
 
 same-length-2 : tie.Need-same-length-2
 same-length-2 c = search needs
@@ -33,7 +33,7 @@ returns-2 : tie.Need-returns-2
 returns-2 c =
     let at-replay = c .before .before .before .before in
     let q = sym (at-replay .replay .ensures .0) ∙ c .enum-told2 .given .1 in
-    (sym (ap replyNumber q), ((sym (ap replyYes q), sym (ap replyPlace q)), at-replay .replay .ensures .1))
+    (sym (ap replyNumber q), (sym (ap replyYes q), (sym (ap replyPlace q), at-replay .replay .ensures .1)))
 
 same-length-3 : tie.Need-same-length-3
 same-length-3 c = search needs
@@ -46,7 +46,7 @@ returns-3 : tie.Need-returns-3
 returns-3 c =
     let at-replay = replay-from-why (c .before) in
     let q = sym (at-replay .replay .ensures .0) ∙ c .before .why .given .1 in
-    (sym (ap replyNumber q), ((sym (ap replyYes q), sym (ap replyPlace q)), at-replay .replay .ensures .1))
+    (sym (ap replyNumber q), (sym (ap replyYes q), (sym (ap replyPlace q), at-replay .replay .ensures .1)))
 
 pub planner-raw-replay-spec : {M : Type 1} → statement M
 planner-raw-replay-spec =

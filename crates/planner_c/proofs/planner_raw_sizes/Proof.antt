@@ -17,12 +17,12 @@ enum-known-why c = search needs
 returns : tie.Need-returns
 returns c =
     let q = sym (c .before .before .before .sizes .ensures) ∙ c .before .f .given .1 in
-    (sym (ap sizesNumber q), (sym (ap sizesFluents q), sym (ap sizesBound q), sym (ap sizesPlace q)))
+    (sym (ap sizesNumber q), (sym (ap sizesFluents q), (sym (ap sizesBound q), sym (ap sizesPlace q))))
 
 returns-2 : tie.Need-returns-2
 returns-2 c =
     let q = sym (c .before .before .before .sizes .ensures) ∙ c .before .why .given .1 in
-    (sym (ap sizesNumber q), (sym (ap sizesFluents q), sym (ap sizesBound q), sym (ap sizesPlace q)))
+    (sym (ap sizesNumber q), (sym (ap sizesFluents q), (sym (ap sizesBound q), sym (ap sizesPlace q))))
 
 pub planner-raw-sizes-spec : {M : Type 1} → statement M
 planner-raw-sizes-spec =

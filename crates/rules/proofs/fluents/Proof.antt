@@ -25,9 +25,11 @@ fluent-ok-requires c κs = search needs
 
 returns : tie.Need-returns Inv-loop μ-loop
 returns c =
-    let at-loop-test = c .before .before .before in
+    let at-fluent-ok = c .before in
+    let at-fluent-at = at-fluent-ok .before in
+    let at-loop-test = at-fluent-at .before in
     let at-loop = at-loop-test .before in
-    found _ (at-loop .loop .inv) (at-loop-test .loop-test .taken) (c .before .fluent-ok .ensures ∙ ap fluentOk (c .before .before .fluent-at .ensures .0)) (c .if1 .taken)
+    found _ (at-loop .loop .inv) (at-loop-test .loop-test .taken) (at-fluent-ok .fluent-ok .ensures ∙ ap fluentOk (at-fluent-at .fluent-at .ensures .0)) (c .if1 .taken)
 
 add-i : tie.Need-add-i Inv-loop μ-loop
 add-i c = search needs
@@ -37,9 +39,11 @@ loop-less c = search needs
 
 loop-again : tie.Need-loop-again Inv-loop μ-loop
 loop-again c =
-    let at-loop-test = c .before .before .before in
+    let at-fluent-ok = c .before in
+    let at-fluent-at = at-fluent-ok .before in
+    let at-loop-test = at-fluent-at .before in
     let at-loop = at-loop-test .before in
-    more _ (at-loop .loop .inv) (at-loop-test .loop-test .taken) (c .before .fluent-ok .ensures ∙ ap fluentOk (c .before .before .fluent-at .ensures .0)) (c .if1 .left)
+    more _ (at-loop .loop .inv) (at-loop-test .loop-test .taken) (at-fluent-ok .fluent-ok .ensures ∙ ap fluentOk (at-fluent-at .fluent-at .ensures .0)) (c .if1 .left)
 
 returns-2 : tie.Need-returns-2 Inv-loop μ-loop
 returns-2 c = done _ (c .before .loop .inv) (c .loop-test .left)

@@ -2,18 +2,17 @@
 -- where it leads is the report on it (Trying); what is known by now beside those still ahead is the verdict on all (Expanding). Assumes
 -- nothing.
 use denote.Ref.{now}
-use mathlib.Core.Path.{_≡_, refl, sym, _∙_}
-use mathlib.Core.Bool.{false}
+use mathlib.Core.Path.{_≡_, refl, sym, _∙_, ap}
+use mathlib.Core.Logic.{⊎-elim}
 use native.Mathlib.Omega.{arith}
 use borrow.Author.Tests.{not-true, not-false}
 use lib.ListN.{length}
 use Rattle.engine.specs.Going.{aheadOf}
 use Rattle.search.specs.Searching.{Ready, Going}
-use Rattle.search.proofs.Expanding.{Loop, Turn, Dealt, begin, standing, onward, turned, going, all-tried, held, passed, seen, deeper, went}
+use Rattle.search.proofs.Expanding.{Loop, Turn, Searched, Dealt, begin, standing, onward, turned, going, all-tried, held, passed, seen, deeper, went, as-left}
 use Rattle.search.proofs.Trying.{can, leads, small, child}
 use borrow.Author.Needs.{needs}
 use Prim.Native.Nat.{ℕ, _<_}
-use lib.Dec.{leb}
 use borrow.Fn.Kinds.{In, Out}
 use borrow.Fn.PlainCycle.{Measures, is, falls, and}
 use Rattle.search.proofs.expand.Reads as expand
@@ -62,12 +61,12 @@ claims t = (
   follow-reads.Learnt,
   look-reads.Asked,
   look-reads.Learnt,
+  expand-below t,
+  expand.Post,
   note-reads.Asked,
   note-reads.Learnt,
   is-more-reads.Asked,
   is-more-reads.Learnt,
-  expand-below t,
-  expand.Post,
   unfound-reads.Asked,
   unfound-reads.Learnt,
 )
@@ -80,11 +79,14 @@ module _ {k : expand-lts.Claims} {p : In 6 expand-kinds.ps} {q : Out 6 expand-ki
   abbrev start-from-loop : expand-lts.At-loop k p q expand-Inv-loop expand-μ-loop → expand-lts.Start k p q expand-Inv-loop expand-μ-loop
   start-from-loop c = start-from-loop-holds (c .before)
 
-  abbrev loop-from-then1 : expand-lts.Then1 k p q expand-Inv-loop expand-μ-loop → expand-lts.At-loop k p q expand-Inv-loop expand-μ-loop
-  loop-from-then1 c = c .before .before
+  abbrev loop-from-unfound : expand-lts.After-unfound k p q expand-Inv-loop expand-μ-loop → expand-lts.At-loop k p q expand-Inv-loop expand-μ-loop
+  loop-from-unfound c = c .before .before .before
+
+  abbrev if1-from-refresh-requires : expand-lts.After-refresh-arg3 k p q expand-Inv-loop expand-μ-loop → expand-lts.Then1 k p q expand-Inv-loop expand-μ-loop
+  if1-from-refresh-requires c = c .before .before .before
 
   abbrev loop-from-refresh : expand-lts.After-refresh k p q expand-Inv-loop expand-μ-loop → expand-lts.At-loop k p q expand-Inv-loop expand-μ-loop
-  loop-from-refresh c = loop-from-then1 (c .before .before .before .before)
+  loop-from-refresh c = if1-from-refresh-requires (c .before) .before .before
 
   abbrev refresh-from-next-requires : expand-lts.After-next-arg3 k p q expand-Inv-loop expand-μ-loop → expand-lts.After-refresh k p q expand-Inv-loop expand-μ-loop
   refresh-from-next-requires c = c .before .before .before .before .before .before .before
@@ -95,59 +97,35 @@ module _ {k : expand-lts.Claims} {p : In 6 expand-kinds.ps} {q : Out 6 expand-ki
   abbrev loop-from-next : expand-lts.After-next k p q expand-Inv-loop expand-μ-loop → expand-lts.At-loop k p q expand-Inv-loop expand-μ-loop
   loop-from-next c = loop-from-refresh (refresh-from-next c)
 
-  abbrev next-from-lets-pass : expand-lts.After-lets-pass k p q expand-Inv-loop expand-μ-loop → expand-lts.After-next k p q expand-Inv-loop expand-μ-loop
-  next-from-lets-pass c = c .before .before .before .before
+  abbrev next-from-lets-pass-requires : expand-lts.After-k k p q expand-Inv-loop expand-μ-loop → expand-lts.After-next k p q expand-Inv-loop expand-μ-loop
+  next-from-lets-pass-requires c = c .before .before .before
 
-  abbrev loop-from-then2 : expand-lts.Then2 k p q expand-Inv-loop expand-μ-loop → expand-lts.At-loop k p q expand-Inv-loop expand-μ-loop
-  loop-from-then2 c = loop-from-next (next-from-lets-pass (c .before))
+  abbrev next-from-lets-pass : expand-lts.After-lets-pass k p q expand-Inv-loop expand-μ-loop → expand-lts.After-next k p q expand-Inv-loop expand-μ-loop
+  next-from-lets-pass c = next-from-lets-pass-requires (c .before)
 
   abbrev next-from-follow : expand-lts.After-follow k p q expand-Inv-loop expand-μ-loop → expand-lts.After-next k p q expand-Inv-loop expand-μ-loop
   next-from-follow c = next-from-lets-pass (c .before .before)
 
-  abbrev refresh-from-look : expand-lts.After-look k p q expand-Inv-loop expand-μ-loop → expand-lts.After-refresh k p q expand-Inv-loop expand-μ-loop
-  refresh-from-look c = refresh-from-next (next-from-follow (c .before .before .before .before))
+  abbrev follow-from-look-requires : expand-lts.After-look-arg3 k p q expand-Inv-loop expand-μ-loop → expand-lts.After-follow k p q expand-Inv-loop expand-μ-loop
+  follow-from-look-requires c = c .before .before .before
 
-  abbrev look-from-else3 : expand-lts.Else3 k p q expand-Inv-loop expand-μ-loop → expand-lts.After-look k p q expand-Inv-loop expand-μ-loop
-  look-from-else3 c = c .before .before .before .before .before
+  abbrev look-from-joined3 : expand-lts.Joined3 k p q expand-Inv-loop expand-μ-loop → expand-lts.After-look k p q expand-Inv-loop expand-μ-loop
+  look-from-joined3 c = c .before .before .before .before .before .before
+
+  abbrev follow-from-joined3 : expand-lts.Joined3 k p q expand-Inv-loop expand-μ-loop → expand-lts.After-follow k p q expand-Inv-loop expand-μ-loop
+  follow-from-joined3 c = follow-from-look-requires (look-from-joined3 c .before)
+
+  abbrev next-from-joined3 : expand-lts.Joined3 k p q expand-Inv-loop expand-μ-loop → expand-lts.After-next k p q expand-Inv-loop expand-μ-loop
+  next-from-joined3 c = next-from-follow (follow-from-joined3 c)
 
   abbrev look-from-then3 : expand-lts.Then3 k p q expand-Inv-loop expand-μ-loop → expand-lts.After-look k p q expand-Inv-loop expand-μ-loop
-  look-from-then3 c = c .before .before .before .before .before
+  look-from-then3 c = c .before .before .before .before .before .before
 
-  abbrev next-from-then3 : expand-lts.Then3 k p q expand-Inv-loop expand-μ-loop → expand-lts.After-next k p q expand-Inv-loop expand-μ-loop
-  next-from-then3 c = next-from-follow ((look-from-then3 c) .before .before .before .before)
+  abbrev if3-from-note : expand-lts.After-note k p q expand-Inv-loop expand-μ-loop → expand-lts.Joined3 k p q expand-Inv-loop expand-μ-loop
+  if3-from-note c = c .before .before
 
-  abbrev look-from-note : expand-lts.After-note k p q expand-Inv-loop expand-μ-loop → expand-lts.After-look k p q expand-Inv-loop expand-μ-loop
-  look-from-note c = look-from-then3 (c .before .before)
-
-  abbrev next-from-note : expand-lts.After-note k p q expand-Inv-loop expand-μ-loop → expand-lts.After-next k p q expand-Inv-loop expand-μ-loop
-  next-from-note c = next-from-then3 (c .before .before)
-
-  abbrev loop-from-note : expand-lts.After-note k p q expand-Inv-loop expand-μ-loop → expand-lts.At-loop k p q expand-Inv-loop expand-μ-loop
-  loop-from-note c = loop-from-next (next-from-note c)
-
-  abbrev if3-from-expand : expand-lts.After-expand k p q expand-Inv-loop expand-μ-loop → expand-lts.Else3 k p q expand-Inv-loop expand-μ-loop
-  if3-from-expand c = c .before .before .before .before .before
-
-  abbrev look-from-expand : expand-lts.After-expand k p q expand-Inv-loop expand-μ-loop → expand-lts.After-look k p q expand-Inv-loop expand-μ-loop
-  look-from-expand c = look-from-else3 (if3-from-expand c)
-
-  abbrev next-from-expand : expand-lts.After-expand k p q expand-Inv-loop expand-μ-loop → expand-lts.After-next k p q expand-Inv-loop expand-μ-loop
-  next-from-expand c = next-from-follow ((look-from-expand c) .before .before .before .before)
-
-  abbrev loop-from-expand : expand-lts.After-expand k p q expand-Inv-loop expand-μ-loop → expand-lts.At-loop k p q expand-Inv-loop expand-μ-loop
-  loop-from-expand c = loop-from-next (next-from-expand c)
-
-  abbrev next-from-else4 : expand-lts.Else4 k p q expand-Inv-loop expand-μ-loop → expand-lts.After-next k p q expand-Inv-loop expand-μ-loop
-  next-from-else4 c = next-from-note (c .before .before .before)
-
-  abbrev expand-from-note-requires-2 : expand-lts.After-note-arg2 k p q expand-Inv-loop expand-μ-loop → expand-lts.After-expand k p q expand-Inv-loop expand-μ-loop
-  expand-from-note-requires-2 c = c .before .before .before .before .before .before .before .before .before
-
-  abbrev expand-from-note2 : expand-lts.After-note2 k p q expand-Inv-loop expand-μ-loop → expand-lts.After-expand k p q expand-Inv-loop expand-μ-loop
-  expand-from-note2 c = expand-from-note-requires-2 (c .before)
-
-  abbrev next-from-is-more2 : expand-lts.After-is-more2 k p q expand-Inv-loop expand-μ-loop → expand-lts.After-next k p q expand-Inv-loop expand-μ-loop
-  next-from-is-more2 c = next-from-expand (expand-from-note2 (c .before .before .before .before))
+  abbrev note-from-then4 : expand-lts.Then4 k p q expand-Inv-loop expand-μ-loop → expand-lts.After-note k p q expand-Inv-loop expand-μ-loop
+  note-from-then4 c = c .before .before .before
 
 expand-loop-holds : (t : ℕ) → expand-lts.Need-loop-holds (claims t) (expand-at t) expand.Post expand-Inv-loop expand-μ-loop
 expand-loop-holds t c =
@@ -159,7 +137,7 @@ expand-is-spent-requires t c κs = search needs
 
 expand-refresh-requires : (t : ℕ) → expand-lts.Need-refresh-requires (claims t) (expand-at t) expand.Post expand-Inv-loop expand-μ-loop
 expand-refresh-requires t c κs =
-    let at-loop = loop-from-then1 (c .before .before .before) in
+    let at-loop = if1-from-refresh-requires c .before .before in
     let at-start = start-from-loop at-loop in
     let g = at-loop .loop .inv .4 .0 in
     let L = at-loop .loop .inv .4 .1 in
@@ -180,11 +158,11 @@ expand-next-requires t c κs =
     (g .ready .visited .of, S, can (onward trace ran g L S))
 
 expand-lets-pass-requires : (t : ℕ) → expand-lts.Need-lets-pass-requires (claims t) (expand-at t) expand.Post expand-Inv-loop expand-μ-loop
-expand-lets-pass-requires t c κs = loop-from-next (c .before .before .before) .loop .inv .4 .0 .ready .visited .used-up
+expand-lets-pass-requires t c κs = loop-from-next (next-from-lets-pass-requires c) .loop .inv .4 .0 .ready .visited .used-up
 
 expand-follow-requires : (t : ℕ) → expand-lts.Need-follow-requires (claims t) (expand-at t) expand.Post expand-Inv-loop expand-μ-loop
 expand-follow-requires t c κs =
-    let g = loop-from-then2 c .loop .inv .4 .0 in
+    let g = loop-from-next (next-from-lets-pass (c .before)) .loop .inv .4 .0 in
     let r = g .ready in
     (g .some-left, r .visited .used-up, omega (arith, r .few, r .deep), omega (arith, r .deep))
 
@@ -196,7 +174,7 @@ turn-made : (t : ℕ) → (c : expand-lts.After-next (claims t) (expand-at t) ex
     (at-refresh .refresh .last .1 .0) (c .next .result)
 turn-made t c =
     let at-refresh = refresh-from-next c in
-    let at-if1 = at-refresh .before .before .before .before in
+    let at-if1 = if1-from-refresh-requires (at-refresh .before) in
     let at-is-spent = at-if1 .before in
     let at-loop = at-is-spent .before in
     let at-start = start-from-loop at-loop in
@@ -205,7 +183,7 @@ turn-made t c =
 
 expand-look-requires : (t : ℕ) → expand-lts.Need-look-requires (claims t) (expand-at t) expand.Post expand-Inv-loop expand-μ-loop
 expand-look-requires t c κs =
-    let at-follow = c .before .before .before in
+    let at-follow = follow-from-look-requires c in
     let at-next = next-from-follow at-follow in
     let at-loop = loop-from-next at-next in
     let at-start = start-from-loop at-loop in
@@ -218,107 +196,11 @@ expand-look-requires t c κs =
     let C = child (going trace ran g L T) (T .first) (at-loop .loop .cut) Y in
     (T .surveyed .prepared, (_, C .visited))
 
-expand-note-requires : (t : ℕ) → expand-lts.Need-note-requires (claims t) (expand-at t) expand.Post expand-Inv-loop expand-μ-loop
-expand-note-requires t c κs =
-    let at-next = next-from-then3 (c .before) in
-    let at-loop = loop-from-next at-next in
-    let at-start = start-from-loop at-loop in
-    let g = at-loop .loop .inv .4 .0 in
-    let L = at-loop .loop .inv .4 .1 in
-    let trace = now (at-start .args .trace) in
-    let ran = at-start .args .ran in
-    let T = turn-made t at-next in
-    let r = g .ready in
-    let l = g .some-left in
-    (omega (arith, r .traced, at-loop .loop .inv .1), small (going trace ran g L T) (T .first) (at-loop .loop .cut))
-
--- what was known by a look is dealt with
-known-dealt : (t : ℕ) → (c : expand-lts.After-note (claims t) (expand-at t) expand.Post expand-Inv-loop expand-μ-loop) →
-    let at-look = look-from-note c in
-    let at-next = next-from-note c in
-    let at-loop = loop-from-next at-next in
-    let at-start = start-from-loop at-loop in
-    Dealt (now (at-start .args .trace)) (at-start .args .ran) (at-loop .loop .inv .4 .0) (at-loop .loop .inv .4 .1) (at-next .next .result) (at-next .next .last .0) (c .note .last .0)
-    (at-look .look .last .0) (at-look .look .last .1 .0) (at-look .look .result .outcome) false
-known-dealt t c =
-    let at-if3 = c .before .before in
-    let at-look = look-from-then3 at-if3 in
-    let at-follow = at-look .before .before .before .before in
-    let at-if2 = at-follow .before in
-    let at-lets-pass = at-if2 .before in
-    let at-next = next-from-lets-pass at-lets-pass in
-    let at-loop = loop-from-next at-next in
-    let at-start = start-from-loop at-loop in
-    let g = at-loop .loop .inv .4 .0 in
-    let L = at-loop .loop .inv .4 .1 in
-    let trace = now (at-start .args .trace) in
-    let ran = at-start .args .ran in
-    let T = turn-made t at-next in
-    let Y = at-follow .follow .ensures in
-    let C = child (going trace ran g L T) (T .first) (at-loop .loop .cut) Y in
-    passed trace ran g L T (sym (at-lets-pass .lets-pass .ensures) ∙ at-if2 .if2 .taken) Y (seen (at-loop .loop .trace) Y C (at-look .look .ensures) (at-if3 .if3 .taken))
-    (c .note .ensures .1)
-
-expand-same-length : (t : ℕ) → expand-lts.Need-same-length (claims t) (expand-at t) expand.Post expand-Inv-loop expand-μ-loop
-expand-same-length t c =
-    let at-next = next-from-note (c .before .before .before) in
-    let at-loop = loop-from-next at-next in
-    at-next .next .kept .0 ∙ at-loop .loop .inv .0
-
-expand-same-length-2 : (t : ℕ) → expand-lts.Need-same-length-2 (claims t) (expand-at t) expand.Post expand-Inv-loop expand-μ-loop
-expand-same-length-2 t c =
-    let at-note = c .before .before .before in
-    let at-loop = loop-from-note at-note in
-    at-note .note .kept .0 ∙ at-loop .loop .inv .1
-
-expand-same-length-3 : (t : ℕ) → expand-lts.Need-same-length-3 (claims t) (expand-at t) expand.Post expand-Inv-loop expand-μ-loop
-expand-same-length-3 t c =
-    let at-look = look-from-note (c .before .before .before) in
-    let at-refresh = refresh-from-look at-look in
-    let at-loop = loop-from-refresh at-refresh in
-    at-look .look .kept .0 ∙ at-refresh .refresh .kept .0 ∙ at-loop .loop .inv .2
-
-expand-same-length-4 : (t : ℕ) → expand-lts.Need-same-length-4 (claims t) (expand-at t) expand.Post expand-Inv-loop expand-μ-loop
-expand-same-length-4 t c =
-    let at-look = look-from-note (c .before .before .before) in
-    let at-refresh = refresh-from-look at-look in
-    let at-loop = loop-from-refresh at-refresh in
-    at-look .look .kept .1 .0 ∙ at-refresh .refresh .kept .1 .0 ∙ at-loop .loop .inv .3
-
-expand-returns : (t : ℕ) → expand-lts.Need-returns (claims t) (expand-at t) expand.Post expand-Inv-loop expand-μ-loop
-expand-returns t c =
-    let at-note = c .before .before .before in
-    let D = known-dealt t at-note in
-    (D .plan (sym (at-note .note .ensures .0) ∙ c .if4 .taken), D .preserves)
-
-expand-is-more-requires : (t : ℕ) → expand-lts.Need-is-more-requires (claims t) (expand-at t) expand.Post expand-Inv-loop expand-μ-loop
-expand-is-more-requires t c κs = search needs
-
-expand-loop-less : (t : ℕ) → expand-lts.Need-loop-less (claims t) (expand-at t) expand.Post expand-Inv-loop expand-μ-loop
-expand-loop-less t c =
-    let at-next = next-from-else4 (c .before) in
-    at-next .next .ensures .falls (turn-made t at-next .first .made .made-is)
-
-expand-loop-again : (t : ℕ) → expand-lts.Need-loop-again (claims t) (expand-at t) expand.Post expand-Inv-loop expand-μ-loop
-expand-loop-again t c =
-    let at-note = c .before .before .before .before in
-    let at-look = look-from-note at-note in
-    let at-next = next-from-note at-note in
-    let at-refresh = refresh-from-next at-next in
-    let at-loop = loop-from-refresh at-refresh in
-    let e = c .is-more .ensures in (
-      at-next .next .kept .0 ∙ at-loop .loop .inv .0,
-      at-note .note .kept .0 ∙ at-loop .loop .inv .1,
-      at-look .look .kept .0 ∙ at-refresh .refresh .kept .0 ∙ at-loop .loop .inv .2,
-      at-look .look .kept .1 .0 ∙ at-refresh .refresh .kept .1 .0 ∙ at-loop .loop .inv .3,
-      (at-loop .loop .inv .4 .0, rw e (known-dealt t at-note .on (sym (at-note .note .ensures .0) ∙ c .before .if4 .left))),
-    )
-
 expand-expand-requires : (t : ℕ) → expand-lts.Need-expand-requires (claims t) (expand-at t) expand.Post expand-Inv-loop expand-μ-loop
 expand-expand-requires t c κs =
     let at-if3 = c .before .before .before .before in
-    let at-look = look-from-else3 at-if3 in
-    let at-follow = at-look .before .before .before .before in
+    let at-look = look-from-then3 at-if3 in
+    let at-follow = follow-from-look-requires (at-look .before) in
     let at-next = next-from-follow at-follow in
     let at-loop = loop-from-next at-next in
     let at-start = start-from-loop at-loop in
@@ -330,12 +212,66 @@ expand-expand-requires t c κs =
     let Y = at-follow .follow .ensures in
     let C = child (going trace ran g L T) (T .first) (at-loop .loop .cut) Y in
     let l = g .some-left in
-    (omega (arith, at-start .pre .0, Y .left-is), deeper (at-loop .loop .trace) Y C (at-look .look .ensures) (at-if3 .if3 .left))
+    (omega (arith, at-start .pre .0, Y .left-is), deeper (at-loop .loop .trace) Y C (at-look .look .ensures) (not-true _ (at-if3 .if3 .taken)))
 
-expand-note-requires-2 : (t : ℕ) → expand-lts.Need-note-requires-2 (claims t) (expand-at t) expand.Post expand-Inv-loop expand-μ-loop
-expand-note-requires-2 t c κs =
-    let at-expand = expand-from-note-requires-2 c in
-    let at-next = next-from-expand at-expand in
+-- what came of where the transition leads: searched on from there, or told by a look; the areas are as long as they were. After the
+-- things of its arm, each side of `came` has what work, trace, flags, numbers, stale and o are.
+searched : (t : ℕ) → (c : expand-lts.Joined3 (claims t) (expand-at t) expand.Post expand-Inv-loop expand-μ-loop) →
+    let at-follow = follow-from-joined3 c in
+    let at-next = next-from-follow at-follow in
+    let at-refresh = refresh-from-next at-next in
+    let at-loop = loop-from-refresh at-refresh in
+    let at-start = start-from-loop at-loop in
+    let g = at-loop .loop .inv .4 .0 in
+    let L = at-loop .loop .inv .4 .1 in
+    let trace = now (at-start .args .trace) in
+    let ran = at-start .args .ran in
+    let T = turn-made t at-next in
+    (length (c .if3 .work) ≡ length (now (at-start .args .work))) × (length (c .if3 .trace) ≡ length (now (at-start .args .trace)))
+    × (length (c .if3 .flags) ≡ length (now (at-start .args .flags))) × (length (c .if3 .numbers) ≡ length (now (at-start .args .numbers)))
+    × Searched (now (at-start .args .s)) (at-next .next .last .0) (c .if3 .work) (now (at-start .args .moves)) (at-loop .loop .trace) (c .if3 .trace) (at-start .args .t) (at-start .args .q)
+    (at-follow .follow .result) (at-loop .loop .cut) (leads (going trace ran g L T) (T .first) (at-loop .loop .cut)) (at-refresh .refresh .last .0) (c .if3 .flags)
+    (at-refresh .refresh .last .1 .0) (c .if3 .numbers) (c .if3 .o) (c .if3 .stale)
+searched t c =
+    let at-look = look-from-joined3 c in
+    let at-follow = follow-from-look-requires (at-look .before) in
+    let at-next = next-from-follow at-follow in
+    let at-refresh = refresh-from-next at-next in
+    let at-loop = loop-from-refresh at-refresh in
+    let at-start = start-from-loop at-loop in
+    let g = at-loop .loop .inv .4 .0 in
+    let L = at-loop .loop .inv .4 .1 in
+    let trace = now (at-start .args .trace) in
+    let ran = at-start .args .ran in
+    let T = turn-made t at-next in
+    let Y = at-follow .follow .ensures in
+    let C = child (going trace ran g L T) (T .first) (at-loop .loop .cut) Y in
+    let work-long = at-next .next .kept .0 ∙ at-loop .loop .inv .0 in
+    let trace-long = at-loop .loop .inv .1 in
+    let flags-long = at-look .look .kept .0 ∙ at-refresh .refresh .kept .0 ∙ at-loop .loop .inv .2 in
+    let numbers-long = at-look .look .kept .1 .0 ∙ at-refresh .refresh .kept .1 .0 ∙ at-loop .loop .inv .3 in
+    ⊎-elim
+    (λ w. (
+      ap length (w .15) ∙ w .5 .kept .0 ∙ work-long,
+      ap length (w .16) ∙ w .5 .kept .1 .0 ∙ trace-long,
+      ap length (w .17) ∙ w .5 .kept .1 .1 .0 ∙ flags-long,
+      ap length (w .18) ∙ w .5 .kept .1 .1 .1 .0 ∙ numbers-long,
+      as-left (w .15) (w .16) (w .17) (w .18) (w .19) (w .20)
+          (went (at-loop .loop .trace) Y C (at-look .look .ensures) (not-true _ (w .0 .taken)) (g .some-left) (w .5 .ensures .0) (w .5 .ensures .1) refl),
+    ))
+    (λ w. (
+      ap length (w .1) ∙ work-long,
+      ap length (w .2) ∙ trace-long,
+      ap length (w .3) ∙ flags-long,
+      ap length (w .4) ∙ numbers-long,
+      as-left (w .1) (w .2) (w .3) (w .4) (w .5) (w .6) (seen (at-loop .loop .trace) Y C (at-look .look .ensures) (not-false _ (w .0 .left))),
+    ))
+    (c .if3 .came)
+
+expand-note-requires : (t : ℕ) → expand-lts.Need-note-requires (claims t) (expand-at t) expand.Post expand-Inv-loop expand-μ-loop
+expand-note-requires t c κs =
+    let at-if3 = c .before in
+    let at-next = next-from-joined3 at-if3 in
     let at-loop = loop-from-next at-next in
     let at-start = start-from-loop at-loop in
     let g = at-loop .loop .inv .4 .0 in
@@ -345,21 +281,19 @@ expand-note-requires-2 t c κs =
     let T = turn-made t at-next in
     let r = g .ready in
     let l = g .some-left in
-    (omega (arith, r .traced, at-loop .loop .inv .1, at-expand .expand .kept .1 .0), small (going trace ran g L T) (T .first) (at-loop .loop .cut))
+    (omega (arith, r .traced, searched t at-if3 .1), small (going trace ran g L T) (T .first) (at-loop .loop .cut))
 
--- what was searched deeper is dealt with
-deeper-dealt : (t : ℕ) → (c : expand-lts.After-note2 (claims t) (expand-at t) expand.Post expand-Inv-loop expand-μ-loop) →
-    let at-expand = expand-from-note2 c in
-    let at-next = next-from-expand at-expand in
+-- the transition is dealt with
+noted-dealt : (t : ℕ) → (c : expand-lts.After-note (claims t) (expand-at t) expand.Post expand-Inv-loop expand-μ-loop) →
+    let at-if3 = if3-from-note c in
+    let at-next = next-from-joined3 at-if3 in
     let at-loop = loop-from-next at-next in
     let at-start = start-from-loop at-loop in
-    Dealt (now (at-start .args .trace)) (at-start .args .ran) (at-loop .loop .inv .4 .0) (at-loop .loop .inv .4 .1) (at-next .next .result) (at-expand .expand .last .0) (c .note2 .last .0)
-    (at-expand .expand .last .1 .1 .0) (at-expand .expand .last .1 .1 .1 .0) (at-expand .expand .result) (leb 8 (at-start .args .q .left))
-deeper-dealt t c =
-    let at-expand = expand-from-note2 c in
-    let at-if3 = if3-from-expand at-expand in
-    let at-look = look-from-else3 at-if3 in
-    let at-follow = at-look .before .before .before .before in
+    Dealt (now (at-start .args .trace)) (at-start .args .ran) (at-loop .loop .inv .4 .0) (at-loop .loop .inv .4 .1) (at-next .next .result) (at-if3 .if3 .work) (c .note .last .0)
+    (at-if3 .if3 .flags) (at-if3 .if3 .numbers) (at-if3 .if3 .o) (at-if3 .if3 .stale)
+noted-dealt t c =
+    let at-if3 = if3-from-note c in
+    let at-follow = follow-from-joined3 at-if3 in
     let at-if2 = at-follow .before in
     let at-lets-pass = at-if2 .before in
     let at-next = next-from-lets-pass at-lets-pass in
@@ -370,79 +304,59 @@ deeper-dealt t c =
     let trace = now (at-start .args .trace) in
     let ran = at-start .args .ran in
     let T = turn-made t at-next in
-    let Y = at-follow .follow .ensures in
-    let C = child (going trace ran g L T) (T .first) (at-loop .loop .cut) Y in
-    passed trace ran g L T (sym (at-lets-pass .lets-pass .ensures) ∙ at-if2 .if2 .taken) Y
-    (went (at-loop .loop .trace) Y C (at-look .look .ensures) (at-if3 .if3 .left) (g .some-left) (at-expand .expand .ensures .0) (at-expand .expand .ensures .1) refl)
-    (c .note2 .ensures .1)
+    passed trace ran g L T (sym (at-lets-pass .lets-pass .ensures) ∙ at-if2 .if2 .taken) (at-follow .follow .ensures) (searched t at-if3 .4) (c .note .ensures .1)
 
-expand-same-length-5 : (t : ℕ) → expand-lts.Need-same-length-5 (claims t) (expand-at t) expand.Post expand-Inv-loop expand-μ-loop
-expand-same-length-5 t c =
-    let at-expand = expand-from-note2 (c .before .before .before) in
-    let at-next = next-from-expand at-expand in
-    let at-loop = loop-from-next at-next in
-    at-expand .expand .kept .0 ∙ at-next .next .kept .0 ∙ at-loop .loop .inv .0
+expand-same-length : (t : ℕ) → expand-lts.Need-same-length (claims t) (expand-at t) expand.Post expand-Inv-loop expand-μ-loop
+expand-same-length t c = searched t (if3-from-note (note-from-then4 c)) .0
 
-expand-same-length-6 : (t : ℕ) → expand-lts.Need-same-length-6 (claims t) (expand-at t) expand.Post expand-Inv-loop expand-μ-loop
-expand-same-length-6 t c =
-    let at-note2 = c .before .before .before in
-    let at-expand = expand-from-note2 at-note2 in
-    let at-loop = loop-from-expand at-expand in
-    at-note2 .note2 .kept .0 ∙ at-expand .expand .kept .1 .0 ∙ at-loop .loop .inv .1
+expand-same-length-2 : (t : ℕ) → expand-lts.Need-same-length-2 (claims t) (expand-at t) expand.Post expand-Inv-loop expand-μ-loop
+expand-same-length-2 t c =
+    let at-note = note-from-then4 c in
+    let at-if3 = if3-from-note at-note in
+    at-note .note .kept .0 ∙ searched t at-if3 .1
 
-expand-same-length-7 : (t : ℕ) → expand-lts.Need-same-length-7 (claims t) (expand-at t) expand.Post expand-Inv-loop expand-μ-loop
-expand-same-length-7 t c =
-    let at-expand = expand-from-note2 (c .before .before .before) in
-    let at-look = look-from-expand at-expand in
-    let at-refresh = refresh-from-look at-look in
-    let at-loop = loop-from-refresh at-refresh in
-    at-expand .expand .kept .1 .1 .0 ∙ at-look .look .kept .0 ∙ at-refresh .refresh .kept .0 ∙ at-loop .loop .inv .2
+expand-same-length-3 : (t : ℕ) → expand-lts.Need-same-length-3 (claims t) (expand-at t) expand.Post expand-Inv-loop expand-μ-loop
+expand-same-length-3 t c = searched t (if3-from-note (note-from-then4 c)) .2
 
-expand-same-length-8 : (t : ℕ) → expand-lts.Need-same-length-8 (claims t) (expand-at t) expand.Post expand-Inv-loop expand-μ-loop
-expand-same-length-8 t c =
-    let at-expand = expand-from-note2 (c .before .before .before) in
-    let at-look = look-from-expand at-expand in
-    let at-refresh = refresh-from-look at-look in
-    let at-loop = loop-from-refresh at-refresh in
-    at-expand .expand .kept .1 .1 .1 .0 ∙ at-look .look .kept .1 .0 ∙ at-refresh .refresh .kept .1 .0 ∙ at-loop .loop .inv .3
+expand-same-length-4 : (t : ℕ) → expand-lts.Need-same-length-4 (claims t) (expand-at t) expand.Post expand-Inv-loop expand-μ-loop
+expand-same-length-4 t c = searched t (if3-from-note (note-from-then4 c)) .3
 
-expand-returns-2 : (t : ℕ) → expand-lts.Need-returns-2 (claims t) (expand-at t) expand.Post expand-Inv-loop expand-μ-loop
-expand-returns-2 t c =
-    let at-note2 = c .before .before .before in
-    let D = deeper-dealt t at-note2 in
-    (D .plan (sym (at-note2 .note2 .ensures .0) ∙ c .if5 .taken), D .preserves)
+expand-returns : (t : ℕ) → expand-lts.Need-returns (claims t) (expand-at t) expand.Post expand-Inv-loop expand-μ-loop
+expand-returns t c =
+    let at-note = note-from-then4 c in
+    let D = noted-dealt t at-note in
+    (D .plan (sym (at-note .note .ensures .0) ∙ c .if4 .taken), D .preserves)
 
-expand-is-more-requires-2 : (t : ℕ) → expand-lts.Need-is-more-requires-2 (claims t) (expand-at t) expand.Post expand-Inv-loop expand-μ-loop
-expand-is-more-requires-2 t c κs = search needs
+expand-is-more-requires : (t : ℕ) → expand-lts.Need-is-more-requires (claims t) (expand-at t) expand.Post expand-Inv-loop expand-μ-loop
+expand-is-more-requires t c κs = search needs
+
+expand-loop-less : (t : ℕ) → expand-lts.Need-loop-less (claims t) (expand-at t) expand.Post expand-Inv-loop expand-μ-loop
+expand-loop-less t c =
+    let at-next = next-from-joined3 (if3-from-note (c .before .before .before .before)) in
+    at-next .next .ensures .falls (turn-made t at-next .first .made .made-is)
+
+expand-loop-again : (t : ℕ) → expand-lts.Need-loop-again (claims t) (expand-at t) expand.Post expand-Inv-loop expand-μ-loop
+expand-loop-again t c =
+    let at-if4 = c .before in
+    let at-note = at-if4 .before .before .before in
+    let at-if3 = if3-from-note at-note in
+    let at-loop = loop-from-next (next-from-joined3 at-if3) in
+    let n = searched t at-if3 in
+    let e = c .is-more .ensures in (
+      n .0,
+      at-note .note .kept .0 ∙ n .1,
+      n .2,
+      n .3,
+      (at-loop .loop .inv .4 .0, rw e (noted-dealt t at-note .on (sym (at-note .note .ensures .0) ∙ at-if4 .if4 .left))),
+    )
 
 expand-loop-less-2 : (t : ℕ) → expand-lts.Need-loop-less-2 (claims t) (expand-at t) expand.Post expand-Inv-loop expand-μ-loop
 expand-loop-less-2 t c =
-    let at-next = next-from-is-more2 (c .before) in
+    let at-next = next-from-lets-pass (c .before) in
     at-next .next .ensures .falls (turn-made t at-next .first .made .made-is)
 
 expand-loop-again-2 : (t : ℕ) → expand-lts.Need-loop-again-2 (claims t) (expand-at t) expand.Post expand-Inv-loop expand-μ-loop
 expand-loop-again-2 t c =
-    let at-note2 = c .before .before .before .before .before in
-    let at-expand = expand-from-note2 at-note2 in
-    let at-look = look-from-expand at-expand in
-    let at-next = next-from-expand at-expand in
-    let at-refresh = refresh-from-next at-next in
-    let at-loop = loop-from-refresh at-refresh in
-    let e = c .before .is-more2 .ensures in (
-      at-expand .expand .kept .0 ∙ at-next .next .kept .0 ∙ at-loop .loop .inv .0,
-      at-note2 .note2 .kept .0 ∙ at-expand .expand .kept .1 .0 ∙ at-loop .loop .inv .1,
-      at-expand .expand .kept .1 .1 .0 ∙ at-look .look .kept .0 ∙ at-refresh .refresh .kept .0 ∙ at-loop .loop .inv .2,
-      at-expand .expand .kept .1 .1 .1 .0 ∙ at-look .look .kept .1 .0 ∙ at-refresh .refresh .kept .1 .0 ∙ at-loop .loop .inv .3,
-      (at-loop .loop .inv .4 .0, rw e (deeper-dealt t at-note2 .on (sym (at-note2 .note2 .ensures .0) ∙ c .before .before .if5 .left))),
-    )
-
-expand-loop-less-3 : (t : ℕ) → expand-lts.Need-loop-less-3 (claims t) (expand-at t) expand.Post expand-Inv-loop expand-μ-loop
-expand-loop-less-3 t c =
-    let at-next = next-from-lets-pass (c .before) in
-    at-next .next .ensures .falls (turn-made t at-next .first .made .made-is)
-
-expand-loop-again-3 : (t : ℕ) → expand-lts.Need-loop-again-3 (claims t) (expand-at t) expand.Post expand-Inv-loop expand-μ-loop
-expand-loop-again-3 t c =
     let at-next = next-from-lets-pass (c .before) in
     let at-refresh = refresh-from-next at-next in
     let at-loop = loop-from-refresh at-refresh in
@@ -462,27 +376,29 @@ expand-loop-again-3 t c =
 expand-unfound-requires : (t : ℕ) → expand-lts.Need-unfound-requires (claims t) (expand-at t) expand.Post expand-Inv-loop expand-μ-loop
 expand-unfound-requires t c κs = search needs
 
-expand-same-length-9 : (t : ℕ) → expand-lts.Need-same-length-9 (claims t) (expand-at t) expand.Post expand-Inv-loop expand-μ-loop
-expand-same-length-9 t c = c .before .before .before .loop .inv .0
+expand-same-length-5 : (t : ℕ) → expand-lts.Need-same-length-5 (claims t) (expand-at t) expand.Post expand-Inv-loop expand-μ-loop
+expand-same-length-5 t c = loop-from-unfound c .loop .inv .0
 
-expand-same-length-10 : (t : ℕ) → expand-lts.Need-same-length-10 (claims t) (expand-at t) expand.Post expand-Inv-loop expand-μ-loop
-expand-same-length-10 t c = c .before .before .before .loop .inv .1
+expand-same-length-6 : (t : ℕ) → expand-lts.Need-same-length-6 (claims t) (expand-at t) expand.Post expand-Inv-loop expand-μ-loop
+expand-same-length-6 t c = loop-from-unfound c .loop .inv .1
 
-expand-same-length-11 : (t : ℕ) → expand-lts.Need-same-length-11 (claims t) (expand-at t) expand.Post expand-Inv-loop expand-μ-loop
-expand-same-length-11 t c = c .before .before .before .loop .inv .2
+expand-same-length-7 : (t : ℕ) → expand-lts.Need-same-length-7 (claims t) (expand-at t) expand.Post expand-Inv-loop expand-μ-loop
+expand-same-length-7 t c = loop-from-unfound c .loop .inv .2
 
-expand-same-length-12 : (t : ℕ) → expand-lts.Need-same-length-12 (claims t) (expand-at t) expand.Post expand-Inv-loop expand-μ-loop
-expand-same-length-12 t c = c .before .before .before .loop .inv .3
+expand-same-length-8 : (t : ℕ) → expand-lts.Need-same-length-8 (claims t) (expand-at t) expand.Post expand-Inv-loop expand-μ-loop
+expand-same-length-8 t c = loop-from-unfound c .loop .inv .3
 
-expand-returns-3 : (t : ℕ) → expand-lts.Need-returns-3 (claims t) (expand-at t) expand.Post expand-Inv-loop expand-μ-loop
-expand-returns-3 t c =
-    let at-loop = c .before .before .before in
+expand-returns-2 : (t : ℕ) → expand-lts.Need-returns-2 (claims t) (expand-at t) expand.Post expand-Inv-loop expand-μ-loop
+expand-returns-2 t c =
+    let at-if1 = c .before in
+    let at-is-spent = at-if1 .before in
+    let at-loop = at-is-spent .before in
     let at-start = start-from-loop at-loop in
     let g = at-loop .loop .inv .4 .0 in
     let L = at-loop .loop .inv .4 .1 in
     let trace = now (at-start .args .trace) in
     let ran = at-start .args .ran in
-    let none = sym (c .before .before .is-spent .ensures _ _ _ (L .listed)) ∙ not-false _ (c .before .if1 .left) in
+    let none = sym (at-is-spent .is-spent .ensures _ _ _ (L .listed)) ∙ not-false _ (at-if1 .if1 .left) in
     (all-tried trace ran g L none (c .unfound .ensures), L .preserves)
 
 pub +expand-spec : {M : Type 1} → statement M
@@ -498,6 +414,7 @@ pub +expand-spec : {M : Type 1} → statement M
     (expand-lets-pass-requires t)
     (expand-follow-requires t)
     (expand-look-requires t)
+    (expand-expand-requires t)
     (expand-note-requires t)
     (expand-same-length t)
     (expand-same-length-2 t)
@@ -507,21 +424,11 @@ pub +expand-spec : {M : Type 1} → statement M
     (expand-is-more-requires t)
     (expand-loop-less t)
     (expand-loop-again t)
-    (expand-expand-requires t)
-    (expand-note-requires-2 t)
+    (expand-loop-less-2 t)
+    (expand-loop-again-2 t)
+    (expand-unfound-requires t)
     (expand-same-length-5 t)
     (expand-same-length-6 t)
     (expand-same-length-7 t)
     (expand-same-length-8 t)
     (expand-returns-2 t)
-    (expand-is-more-requires-2 t)
-    (expand-loop-less-2 t)
-    (expand-loop-again-2 t)
-    (expand-loop-less-3 t)
-    (expand-loop-again-3 t)
-    (expand-unfound-requires t)
-    (expand-same-length-9 t)
-    (expand-same-length-10 t)
-    (expand-same-length-11 t)
-    (expand-same-length-12 t)
-    (expand-returns-3 t)

@@ -41,7 +41,7 @@ returns : tie.Need-returns Inv-loop μ-loop
 returns c =
     let at-loop = c .before in
     let L = at-loop .loop .inv .1 in
-    let w = now (c .before .before .args .work) in
+    let w = now (at-loop .before .args .work) in
     ext-getD 0 _ (replicate (length w) 0) (L .len ∙ sym (length-replicate (length w) 0))
     (λ k h. ap (λ (j : ℕ). getD (at-loop .loop .work) j 0) (omega arith) ∙ L .laid k (omega (arith, L .len)) ∙ sym (getD-same 0 (length w) k))
 

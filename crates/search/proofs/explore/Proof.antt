@@ -21,8 +21,14 @@ same-length-3 : tie.Need-same-length-3
 same-length-3 c = search needs
 
 -- Places: what stands before a need, by name. Written by `named`: run it again when the code changes.
+abbrev slice-known2-from-shared-slice-known : tie.After-shared-slice-known → tie.After-slice-known2
+slice-known2-from-shared-slice-known c = c .before .before .before
+
+abbrev shared-slice-known-from-look : tie.After-look → tie.After-shared-slice-known
+shared-slice-known-from-look c = c .before .before .before .before .before
+
 abbrev start-from-look : tie.After-look → tie.Start
-start-from-look c = c .before .before .before .before .before .before .before .before .before .before
+start-from-look c = slice-known2-from-shared-slice-known (shared-slice-known-from-look c) .before .before
 
 abbrev look-from-else1 : tie.Else1 → tie.After-look
 look-from-else1 c = c .before .before .before .before .before
@@ -30,11 +36,17 @@ look-from-else1 c = c .before .before .before .before .before
 abbrev look-from-returns : tie.Then1 → tie.After-look
 look-from-returns c = c .before .before .before .before .before
 
-abbrev if1-from-expand : tie.After-expand → tie.Else1
-if1-from-expand c = c .before .before .before .before .before
+abbrev if1-from-expand-requires : tie.After-expand-arg4 → tie.Else1
+if1-from-expand-requires c = c .before .before .before .before
+
+abbrev expand-from-trace : tie.After-trace → tie.After-expand
+expand-from-trace c = c .before .before .before
+
+abbrev trace-from-same-length-4 : tie.After-slice-known10 → tie.After-trace
+trace-from-same-length-4 c = c .before .before .before .before .before
 
 abbrev expand-from-returns-2 : tie.After-slice-known10 → tie.After-expand
-expand-from-returns-2 c = c .before .before .before .before .before .before .before .before
+expand-from-returns-2 c = expand-from-trace (trace-from-same-length-4 c)
 
 returns : tie.Need-returns
 returns c =
@@ -44,7 +56,7 @@ returns c =
 
 expand-requires : tie.Need-expand-requires
 expand-requires c κs =
-    let at-if1 = c .before .before .before .before in
+    let at-if1 = if1-from-expand-requires c in
     let at-look = look-from-else1 at-if1 in
     let at-start = start-from-look at-look in
     let R = at-start .pre .1 in
@@ -66,7 +78,7 @@ same-length-7 c = search needs
 returns-2 : tie.Need-returns-2
 returns-2 c =
     let at-expand = expand-from-returns-2 c in
-    let at-if1 = if1-from-expand at-expand in
+    let at-if1 = if1-from-expand-requires (at-expand .before) in
     let at-look = look-from-else1 at-if1 in
     let at-start = start-from-look at-look in
     let q = at-start .args .q in (

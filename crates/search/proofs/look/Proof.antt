@@ -37,38 +37,34 @@ same-length-2 c = search needs
 abbrev start-from-only-final : tie.After-only-final → tie.Start
 start-from-only-final c = c .before .before .before .before .before .before
 
-abbrev start-from-is-final : tie.After-is-final → tie.Start
-start-from-is-final c = start-from-only-final (c .before .before .before .before)
+abbrev if1-from-is-final : tie.After-is-final → tie.Then1
+if1-from-is-final c = c .before .before .before
+
+abbrev if1-from-survey : tie.After-survey → tie.Else1
+if1-from-survey c = c .before .before .before
 
 abbrev start-from-survey : tie.After-survey → tie.Start
-start-from-survey c = start-from-only-final (c .before .before .before .before)
+start-from-survey c = start-from-only-final (if1-from-survey c .before)
 
-abbrev is-final-from-else2 : tie.Else2 → tie.After-is-final
-is-final-from-else2 c = c .before .before .before .before
-
-abbrev is-final-from-then2 : tie.Then2 → tie.After-is-final
-is-final-from-then2 c = c .before .before .before .before
+abbrev is-final-from-is-over : tie.After-is-over → tie.After-is-final
+is-final-from-is-over c = c .before .before .before
 
 abbrev survey-from-is-over2 : tie.After-is-over2 → tie.After-survey
 survey-from-is-over2 c = c .before .before .before .before .before .before
 
-abbrev survey-from-then3 : tie.Then3 → tie.After-survey
-survey-from-then3 c = survey-from-is-over2 (c .before)
-
-abbrev if3-from-then5 : tie.Then5 → tie.Else3
-if3-from-then5 c = c .before .before .before .before
-
 returns : tie.Need-returns
 returns c =
-    let at-is-final = is-final-from-then2 (c .before) in
-    let at-start = start-from-is-final at-is-final in
+    let at-if2 = c .before in
+    let at-is-over = at-if2 .before in
+    let at-is-final = is-final-from-is-over at-is-over in
+    let at-start = start-from-only-final (if1-from-is-final at-is-final .before) in
     let s = now (at-start .args .s) in
     let g = now (at-start .args .moves) in
     let t = at-start .args .t in
     let q = at-start .args .q in
     now-known (at-is-final .is-final .ensures .1 .0) (at-is-final .is-final .ensures .1 .1) (c .known .ensures)
     (λ p Y h. over s (t .free) (configured q p) (toMake g q) (q .n) (q .depth) (at-start .args .cut) _
-    (c .before .before .is-over .ensures ∙ ap (λ (b : Bool). isNil (toMake g q) && b) (at-is-final .is-final .ensures .0 _ p (Y .frame))) (q .left) h (c .before .if2 .taken))
+    (at-is-over .is-over .ensures ∙ ap (λ (b : Bool). isNil (toMake g q) && b) (at-is-final .is-final .ensures .0 _ p (Y .frame))) (q .left) h (at-if2 .if2 .taken))
 
 known-requires-2 : tie.Need-known-requires-2
 known-requires-2 c κs = search needs
@@ -81,8 +77,10 @@ same-length-4 c = search needs
 
 returns-2 : tie.Need-returns-2
 returns-2 c =
-    let at-is-final = is-final-from-else2 (c .before) in
-    let at-if1 = at-is-final .before .before .before in
+    let at-if2 = c .before in
+    let at-is-over = at-if2 .before in
+    let at-is-final = is-final-from-is-over at-is-over in
+    let at-if1 = if1-from-is-final at-is-final in
     let at-only-final = at-if1 .before in
     let at-start = start-from-only-final at-only-final in
     let s = now (at-start .args .s) in
@@ -92,7 +90,7 @@ returns-2 c =
     let z = at-only-final .only-final .ensures .0 (at-if1 .if1 .taken) in
     now-known (at-is-final .is-final .ensures .1 .0) (at-is-final .is-final .ensures .1 .1) (c .known2 .ensures)
     (λ p Y h. last-out s (t .free) (configured q p) (toMake g q) (q .n) (q .depth) (at-start .args .cut) _
-    (c .before .before .is-over .ensures ∙ ap (λ (b : Bool). isNil (toMake g q) && b) (at-is-final .is-final .ensures .0 _ p (Y .frame))) (q .left) h (c .before .if2 .left) (z .0) (z .1))
+    (at-is-over .is-over .ensures ∙ ap (λ (b : Bool). isNil (toMake g q) && b) (at-is-final .is-final .ensures .0 _ p (Y .frame))) (q .left) h (at-if2 .if2 .left) (z .0) (z .1))
 
 survey-requires : tie.Need-survey-requires
 survey-requires c κs = search needs
@@ -111,7 +109,8 @@ same-length-6 c = search needs
 
 returns-3 : tie.Need-returns-3
 returns-3 c =
-    let at-survey = survey-from-then3 (c .before) in
+    let at-if3 = c .before in
+    let at-survey = survey-from-is-over2 (at-if3 .before) in
     let at-start = start-from-survey at-survey in
     let s = now (at-start .args .s) in
     let g = now (at-start .args .moves) in
@@ -119,7 +118,7 @@ returns-3 c =
     let q = at-start .args .q in
     now-known (at-survey .survey .ensures .1 .0 .prepared) (at-survey .survey .ensures .1 .1) (c .known3 .ensures)
     (λ p Y h. over s (t .free) (configured q p) (toMake g q) (q .n) (q .depth) (at-start .args .cut) _
-    (c .before .before .is-over2 .ensures ∙ ap (λ (b : Bool). isNil (toMake g q) && b) (at-survey .survey .ensures .0 _ p (Y .frame) .final-is)) (q .left) h (c .before .if3 .taken))
+    (at-if3 .before .is-over2 .ensures ∙ ap (λ (b : Bool). isNil (toMake g q) && b) (at-survey .survey .ensures .0 _ p (Y .frame) .final-is)) (q .left) h (at-if3 .if3 .taken))
 
 is-spent-requires : tie.Need-is-spent-requires
 is-spent-requires c κs = search needs
@@ -138,12 +137,13 @@ same-length-8 c = search needs
 
 returns-4 : tie.Need-returns-4
 returns-4 c =
-    let at-is-spent = c .before .before in
+    let at-unfound = c .before in
+    let at-is-spent = at-unfound .before in
     let at-if4 = at-is-spent .before in
     let at-if3 = at-if4 .before .before in
     let at-is-over2 = at-if3 .before in
     let at-survey = survey-from-is-over2 at-is-over2 in
-    let at-if1 = at-survey .before .before .before in
+    let at-if1 = if1-from-survey at-survey in
     let at-only-final = at-if1 .before in
     let at-start = start-from-only-final at-only-final in
     let s = now (at-start .args .s) in
@@ -151,7 +151,7 @@ returns-4 c =
     let t = at-start .args .t in
     let q = at-start .args .q in
     let k = c .known4 .ensures in
-    now-known (at-survey .survey .ensures .1 .0 .prepared) (at-survey .survey .ensures .1 .1) (k .0, k .1 ∙ c .before .unfound .ensures)
+    now-known (at-survey .survey .ensures .1 .0 .prepared) (at-survey .survey .ensures .1 .1) (k .0, k .1 ∙ at-unfound .unfound .ensures)
     (λ p Y h. let T = at-survey .survey .ensures .0 _ p (Y .frame) in
     at-bound s (t .free) (configured q p) (toMake g q) (q .n) (q .depth) (at-start .args .cut) _
     (at-is-over2 .is-over2 .ensures ∙ ap (λ (b : Bool). isNil (toMake g q) && b) (T .final-is)) (q .left) (at-is-spent .is-spent .result) h (at-if3 .if3 .left)
@@ -172,7 +172,9 @@ same-length-10 c = search needs
 
 returns-5 : tie.Need-returns-5
 returns-5 c =
-    let at-if3 = if3-from-then5 (c .before) in
+    let at-if5 = c .before in
+    let at-no-end-next = at-if5 .before in
+    let at-if3 = at-no-end-next .before .before .before in
     let at-is-over2 = at-if3 .before in
     let at-survey = survey-from-is-over2 at-is-over2 in
     let at-start = start-from-survey at-survey in
@@ -180,7 +182,7 @@ returns-5 c =
     let g = now (at-start .args .moves) in
     let t = at-start .args .t in
     let q = at-start .args .q in
-    let z = c .before .before .no-end-next .ensures (c .before .if5 .taken) in
+    let z = at-no-end-next .no-end-next .ensures (at-if5 .if5 .taken) in
     now-known (at-survey .survey .ensures .1 .0 .prepared) (at-survey .survey .ensures .1 .1) (c .known5 .ensures)
     (λ p Y h. let T = at-survey .survey .ensures .0 _ p (Y .frame) in
     next-out s (t .free) (configured q p) (toMake g q) (q .n) (q .depth) (at-start .args .cut) _
@@ -194,7 +196,8 @@ same-length-12 c = search needs
 
 returns-6 : tie.Need-returns-6
 returns-6 c =
-    let at-if3 = c .before .before .before .before in
+    let at-if4 = c .before .before in
+    let at-if3 = at-if4 .before .before in
     let at-is-over2 = at-if3 .before in
     let at-survey = survey-from-is-over2 at-is-over2 in
     let at-start = start-from-survey at-survey in
@@ -210,7 +213,7 @@ returns-6 c =
       unknown = λ p Y z.
           let T = at-survey .survey .ensures .0 _ p (Y .frame) in
           let e = at-is-over2 .is-over2 .ensures ∙ ap (λ (b : Bool). isNil (toMake g q) && b) (T .final-is) in
-          let some : 1 ≤ q .left = omega (arith, c .before .before .if4 .left) in
+          let some : 1 ≤ q .left = omega (arith, at-if4 .if4 .left) in
           record {
             some-left = some;
             surveyed = at-survey .survey .ensures .1 .0;

@@ -30,20 +30,26 @@ slice-aggregate-prepare-2 c = search needs
 abbrev start-from-put-first : tie.After-put-first → tie.Start
 start-from-put-first c = c .before .before .before .before .before .before
 
-abbrev start-from-initial-of : tie.After-initial-of → tie.Start
-start-from-initial-of c = start-from-put-first (c .before .before .before)
+abbrev put-first-from-initial-of : tie.After-initial-of → tie.After-put-first
+put-first-from-initial-of c = c .before .before .before
+
+abbrev initial-of-from-prepare : tie.After-prepare → tie.After-initial-of
+initial-of-from-prepare c = c .before .before .before
 
 abbrev prepare-from-explore-requires : tie.After-numbers3 → tie.After-prepare
 prepare-from-explore-requires c = c .before .before .before .before .before .before .before
 
-abbrev initial-of-from-explore : tie.After-explore → tie.After-initial-of
-initial-of-from-explore c = (prepare-from-explore-requires (c .before)) .before .before .before
+abbrev explore-from-trace : tie.After-trace → tie.After-explore
+explore-from-trace c = c .before .before .before
+
+abbrev trace-from-clear : tie.After-clear → tie.After-trace
+trace-from-clear c = c .before .before .before .before .before
 
 abbrev explore-from-clear : tie.After-clear → tie.After-explore
-explore-from-clear c = c .before .before .before .before .before .before .before .before
+explore-from-clear c = explore-from-trace (trace-from-clear c)
 
 prepare-requires : tie.Need-prepare-requires
-prepare-requires c κs = (start-from-initial-of (c .before .before) .pre .0, refl, refl, blank)
+prepare-requires c κs = (start-from-put-first (put-first-from-initial-of (c .before .before)) .pre .0, refl, refl, blank)
 
 slice-aggregate-explore : tie.Need-slice-aggregate-explore
 slice-aggregate-explore c = search needs
@@ -54,8 +60,8 @@ slice-aggregate-explore-2 c = search needs
 explore-requires : tie.Need-explore-requires
 explore-requires c κs =
     let at-prepare = prepare-from-explore-requires c in
-    let at-initial-of = at-prepare .before .before .before in
-    let at-put-first = at-initial-of .before .before .before in
+    let at-initial-of = initial-of-from-prepare at-prepare in
+    let at-put-first = put-first-from-initial-of at-initial-of in
     let at-start = start-from-put-first at-put-first in
     let a = at-start .args in (
       at-prepare .prepare .ensures,
@@ -78,8 +84,8 @@ same-length-2 c = search needs
 returns : tie.Need-returns
 returns c =
     let at-explore = explore-from-clear (c .before .before) in
-    let at-initial-of = initial-of-from-explore at-explore in
-    let at-put-first = at-initial-of .before .before .before in
+    let at-initial-of = initial-of-from-prepare (prepare-from-explore-requires (at-explore .before)) in
+    let at-put-first = put-first-from-initial-of at-initial-of in
     let at-start = start-from-put-first at-put-first in
     let a = at-start .args in
     let s = now (a .s) in

@@ -47,12 +47,37 @@ formulas-requires c κs = search needs
 refusal-of-requires-2 : tie.Need-refusal-of-requires-2
 refusal-of-requires-2 c κs = search needs
 
+-- Places: what stands before a need, by name. Written by `named`: run it again when the code changes.
+abbrev fluents-from-else1 : tie.Else1 → tie.After-fluents
+fluents-from-else1 c = c .before .before
+
+abbrev if1-from-formulas : tie.After-formulas → tie.Else1
+if1-from-formulas c = c .before .before
+
+abbrev formulas-from-else2 : tie.Else2 → tie.After-formulas
+formulas-from-else2 c = c .before .before
+
+abbrev if2-from-effects : tie.After-effects → tie.Else2
+if2-from-effects c = c .before .before
+
+abbrev effects-from-else3 : tie.Else3 → tie.After-effects
+effects-from-else3 c = c .before .before
+
+abbrev if3-from-actions : tie.After-actions → tie.Else3
+if3-from-actions c = c .before .before
+
+abbrev start-from-else2 : tie.Else2 → tie.Start
+start-from-else2 c = fluents-from-else1 (if1-from-formulas (formulas-from-else2 c)) .before .before .before
+
+abbrev start-from-else4 : tie.Else4 → tie.Start
+start-from-else4 c = start-from-else2 (if2-from-effects (effects-from-else3 (if3-from-actions (c .before .before))))
+
 returns-2 : tie.Need-returns-2
 unfolding tablesChecked
 returns-2 c =
     let at-formulas = c .before .before .before in
-    let at-if1 = at-formulas .before .before in
-    let at-fluents = at-if1 .before .before in
+    let at-if1 = if1-from-formulas at-formulas in
+    let at-fluents = fluents-from-else1 at-if1 in
     λ next.
     clear _ _ _ _ _ (at-fluents .fluents .ensures) (at-if1 .if1 .left)
     (ap (λ (r : Refusal). unless r next) (c .refusal-of2 .ensures) ∙ faulty _ _ _ _ _ (at-formulas .formulas .ensures) (c .before .if2 .taken))
@@ -76,10 +101,10 @@ returns-3 : tie.Need-returns-3
 unfolding tablesChecked
 returns-3 c =
     let at-effects = c .before .before .before in
-    let at-if2 = at-effects .before .before in
-    let at-formulas = at-if2 .before .before in
-    let at-if1 = at-formulas .before .before in
-    let at-fluents = at-if1 .before .before in
+    let at-if2 = if2-from-effects at-effects in
+    let at-formulas = formulas-from-else2 at-if2 in
+    let at-if1 = if1-from-formulas at-formulas in
+    let at-fluents = fluents-from-else1 at-if1 in
     λ next.
     clear _ _ _ _ _ (at-fluents .fluents .ensures) (at-if1 .if1 .left)
     (clear _ _ _ _ _ (at-formulas .formulas .ensures) (at-if2 .if2 .left)
@@ -104,21 +129,17 @@ returns-4 : tie.Need-returns-4
 unfolding tablesChecked
 returns-4 c =
     let at-actions = c .before .before .before in
-    let at-if3 = at-actions .before .before in
-    let at-effects = at-if3 .before .before in
-    let at-if2 = at-effects .before .before in
-    let at-formulas = at-if2 .before .before in
-    let at-if1 = at-formulas .before .before in
-    let at-fluents = at-if1 .before .before in
+    let at-if3 = if3-from-actions at-actions in
+    let at-effects = effects-from-else3 at-if3 in
+    let at-if2 = if2-from-effects at-effects in
+    let at-formulas = formulas-from-else2 at-if2 in
+    let at-if1 = if1-from-formulas at-formulas in
+    let at-fluents = fluents-from-else1 at-if1 in
     λ next.
     clear _ _ _ _ _ (at-fluents .fluents .ensures) (at-if1 .if1 .left)
     (clear _ _ _ _ _ (at-formulas .formulas .ensures) (at-if2 .if2 .left)
     (clear _ _ _ _ _ (at-effects .effects .ensures) (at-if3 .if3 .left)
     (ap (λ (r : Refusal). unless r next) (c .refusal-of4 .ensures) ∙ faulty _ _ _ _ _ (at-actions .actions .ensures) (c .before .if4 .taken))))
-
--- Places: what stands before a need, by name. Written by `named`: run it again when the code changes.
-abbrev start-from-else4 : tie.Else4 → tie.Start
-start-from-else4 c = c .before .before .before .before .before .before .before .before .before .before .before .before .before .before .before .before .before
 
 sub-programs : tie.Need-sub-programs
 sub-programs c = omega (arith, start-from-else4 c .pre .at-end)
@@ -141,12 +162,12 @@ returns-5 c =
     let at-programs = c .before .before .before in
     let at-if4 = at-programs .before .before in
     let at-actions = at-if4 .before .before in
-    let at-if3 = at-actions .before .before in
-    let at-effects = at-if3 .before .before in
-    let at-if2 = at-effects .before .before in
-    let at-formulas = at-if2 .before .before in
-    let at-if1 = at-formulas .before .before in
-    let at-fluents = at-if1 .before .before in
+    let at-if3 = if3-from-actions at-actions in
+    let at-effects = effects-from-else3 at-if3 in
+    let at-if2 = if2-from-effects at-effects in
+    let at-formulas = formulas-from-else2 at-if2 in
+    let at-if1 = if1-from-formulas at-formulas in
+    let at-fluents = fluents-from-else1 at-if1 in
     λ next.
     clear _ _ _ _ _ (at-fluents .fluents .ensures) (at-if1 .if1 .left)
     (clear _ _ _ _ _ (at-formulas .formulas .ensures) (at-if2 .if2 .left)
@@ -163,12 +184,12 @@ returns-6 c =
     let at-programs = c .before .before .before in
     let at-if4 = at-programs .before .before in
     let at-actions = at-if4 .before .before in
-    let at-if3 = at-actions .before .before in
-    let at-effects = at-if3 .before .before in
-    let at-if2 = at-effects .before .before in
-    let at-formulas = at-if2 .before .before in
-    let at-if1 = at-formulas .before .before in
-    let at-fluents = at-if1 .before .before in
+    let at-if3 = if3-from-actions at-actions in
+    let at-effects = effects-from-else3 at-if3 in
+    let at-if2 = if2-from-effects at-effects in
+    let at-formulas = formulas-from-else2 at-if2 in
+    let at-if1 = if1-from-formulas at-formulas in
+    let at-fluents = fluents-from-else1 at-if1 in
     λ next.
     clear _ _ _ _ _ (at-fluents .fluents .ensures) (at-if1 .if1 .left)
     (clear _ _ _ _ _ (at-formulas .formulas .ensures) (at-if2 .if2 .left)

@@ -20,11 +20,18 @@ inspect-requires c κs = search needs
 enum-known-found : tie.Need-enum-known-found
 enum-known-found c = search needs
 
+-- Places: what stands before a need, by name. Written by `named`: run it again when the code changes.
+abbrev start-from-inspect : tie.After-inspect → tie.Start
+start-from-inspect c = c .before .before
+
+abbrev found-from-slice-aggregate-result : tie.After-result → tie.After-found
+found-from-slice-aggregate-result c = c .before .before .before
+
 slice-aggregate-result : tie.Need-slice-aggregate-result
 slice-aggregate-result c =
-    let at-found = c .before .before .before in
+    let at-found = found-from-slice-aggregate-result c in
     let at-inspect = at-found .before .before in
-    let at-start = at-inspect .before .before in
+    let at-start = start-from-inspect at-inspect in
     let o = in-order (in-sheet (found-of _ (sym (at-found .found .given .1) ∙ at-inspect .inspect .ensures))) in
     sym (length-take-le (at-found .found .given .0 .0 .layout .fluents) (now (at-start .args .s)) (omega (arith, o .fluents, o .formulas, o .effects, o .actions, o .programs, o .end)))
 
@@ -36,9 +43,9 @@ slice-aggregate-result-2 c = search needs
 
 returns : tie.Need-returns
 returns c =
-    let at-found = c .before .before .before in
+    let at-found = found-from-slice-aggregate-result c in
     let at-inspect = at-found .before .before in
-    let at-start = at-inspect .before .before in
+    let at-start = start-from-inspect at-inspect in
     let s = now (at-start .args .s) in
     let O = found-of s (sym (at-found .found .given .1) ∙ at-inspect .inspect .ensures) in
     let a = answered O in
@@ -46,10 +53,11 @@ returns c =
 
 returns-2 : tie.Need-returns-2
 returns-2 c =
-    let at-inspect = c .before .before .before .before in
-    let at-start = at-inspect .before .before in
+    let at-why = c .before .before in
+    let at-inspect = at-why .before .before in
+    let at-start = start-from-inspect at-inspect in
     let s = now (at-start .args .s) in
-    let r = refused-by s (sym (c .before .before .why .given .1) ∙ at-inspect .inspect .ensures) in
+    let r = refused-by s (sym (at-why .why .given .1) ∙ at-inspect .inspect .ensures) in
     (ap (λ (k : ℕ). take k s) (sym (ap (notesCount s) r)), (refl, (sym (ap numberOf r), sym (ap placeOf r))))
 
 pub notes-spec : {M : Type 1} → statement M

@@ -27,8 +27,12 @@ slice-aggregate-truth-at c = search needs
 truth-at-requires : tie.Need-truth-at-requires Inv-loop μ-loop
 truth-at-requires c κs = search needs
 
+-- Places: what stands before a need, by name. Written by `named`: run it again when the code changes.
+abbrev loop-from-truth-at : tie.After-truth-at Inv-loop μ-loop → tie.At-loop Inv-loop μ-loop
+loop-from-truth-at c = c .before .before .before .before
+
 slice-write-truths : tie.Need-slice-write-truths Inv-loop μ-loop
-slice-write-truths c = omega (arith, refill-full _ _ (c .before .before .before .before .loop .inv .1) (omega arith))
+slice-write-truths c = omega (arith, refill-full _ _ (loop-from-truth-at c .loop .inv .1) (omega arith))
 
 add-i : tie.Need-add-i Inv-loop μ-loop
 add-i c = search needs
@@ -38,7 +42,7 @@ loop-less c = search needs
 
 loop-again : tie.Need-loop-again Inv-loop μ-loop
 loop-again c =
-    let at-loop = c .before .before .before .before in
+    let at-loop = loop-from-truth-at c in
     let at-start = at-loop .before .before .before .before in
     let b = at-loop .loop .inv .1 in
     (omega arith, refill-more _ _ b (omega arith) (c .truth-at .ensures ∙ truth-same _ _ _ _ _ (at-start .pre .1 _ (omega arith)) (refill-at _ _ b false)))

@@ -37,21 +37,26 @@ effects-less : tie.Need-effects-less Inv-effects μ-effects
 effects-less c = search needs
 
 effects-again : tie.Need-effects-again Inv-effects μ-effects
-effects-again c = let p = c .before .before .before .before .effects .inv in (
-  passed-more _ _ _ _ (p .0) (omega arith) (c .before .before .effect-at .ensures .0) (c .before .changes-value .ensures)
-      (c .if1 .left),
-  p .1,
-)
+effects-again c =
+    let at-changes-value = c .before in
+    let at-effect-at = at-changes-value .before in
+    let p = at-effect-at .before .before .effects .inv in (
+      passed-more _ _ _ _ (p .0) (omega arith) (at-effect-at .effect-at .ensures .0) (at-changes-value .changes-value .ensures)
+          (c .if1 .left),
+      p .1,
+    )
 
 returns : tie.Need-returns Inv-effects μ-effects
 returns c = let p = c .before .effects .inv in passed-all _ _ _ _ (p .0) (omega arith)
 
 returns-2 : tie.Need-returns-2 Inv-effects μ-effects
 returns-2 c =
-    let at-effect-at = c .before .before .before in
+    let at-if1 = c .before in
+    let at-changes-value = at-if1 .before in
+    let at-effect-at = at-changes-value .before in
     let at-effects = at-effect-at .before .before in
     let p = at-effects .effects .inv in
-    passed-found _ _ _ _ (p .0) (omega arith) (at-effect-at .effect-at .ensures .0) (c .before .before .changes-value .ensures) (c .before .if1 .taken)
+    passed-found _ _ _ _ (p .0) (omega arith) (at-effect-at .effect-at .ensures .0) (at-changes-value .changes-value .ensures) (at-if1 .if1 .taken)
 
 pub new-value-spec : {M : Type 1} → statement M
 new-value-spec =

@@ -2,7 +2,6 @@
 use native.Mathlib.Omega.{arith}
 use borrow.Author.Tests.{lt-ltb, le-ltb}
 use Rattle.golog.specs.World.{performBy}
-use borrow.Author.Needs.{needs}
 use Rattle.state.proofs.perform.Statement.{statement}
 use Rattle.state.proofs.perform.Tie as tie
 
@@ -13,9 +12,6 @@ returns c = rw (lt-ltb 65533 _ (c .if1 .taken))
 -- Places: what stands before a need, by name. Written by `named`: run it again when the code changes.
 abbrev start-from-else1 : tie.Else1 → tie.Start
 start-from-else1 c = c .before .before .before .before .before
-
-abbrev start-from-action-at : tie.After-action-at → tie.Start
-start-from-action-at c = start-from-else1 (c .before)
 
 action-at-requires : tie.Need-action-at-requires
 action-at-requires c κs = start-from-else1 c .pre .0 .known (omega (arith, c .if1 .left))
@@ -29,7 +25,7 @@ new-values-requires c κs =
 
 returns-2 : tie.Need-returns-2
 unfolding performBy
-returns-2 c = rw (le-ltb 65533 (start-from-action-at (c .before) .args .a) (omega (arith, c .before .before .if1 .left)), ← c .before .action-at .ensures .0, c .new-values .ensures)
+returns-2 c = rw (le-ltb 65533 (start-from-else1 (c .before .before) .args .a) (omega (arith, c .before .before .if1 .left)), ← c .before .action-at .ensures .0, c .new-values .ensures)
 
 pub perform-spec : {M : Type 1} → statement M
 perform-spec = tie.close (tie.spec returns action-at-requires new-values-requires returns-2)

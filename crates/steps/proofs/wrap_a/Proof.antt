@@ -1,8 +1,9 @@
 -- Left of its sibling in a construct of the record's tag, or as it stands where that is 0. Assumes nothing.
+use Prim.Native.Nat.{_^_}
 use native.Mathlib.Omega.{arith}
 use Rattle.kinds.specs.Programs.{loops}
 use Rattle.kinds.proofs.Constructs.{construct-a}
-use Rattle.steps.proofs.Wrapping.{alone-a, closed-a, choice-few}
+use Rattle.steps.proofs.Wrapping.{alone-a, beside-a, choice-few}
 use borrow.Author.Needs.{needs}
 use Rattle.steps.proofs.wrap_a.Statement.{statement}
 use Rattle.steps.proofs.wrap_a.Tie as tie
@@ -16,20 +17,21 @@ returns c = alone-a _ _ _ _ _ (c .before .tag-a .ensures) (c .if1 .taken)
 sibling-requires : tie.Need-sibling-requires
 sibling-requires c κs = search needs
 
-close-leaf-requires : tie.Need-close-leaf-requires
-close-leaf-requires c κs =
-    let at-tag-a = c .before .before .before in
-    let at-start = at-tag-a .before .before in (
-      at-start .pre .0,
-      (
-        construct-a _ (at-tag-a .tag-a .ensures) (c .before .before .if1 .left),
-        omega (
-          arith,
-          c .sibling .ensures,
-          choice-few (loops (at-start .args .r .kind)) _ _ 65536 (at-start .pre .1 .0) (at-start .pre .1 .1 .b),
-        ),
-      ),
-    )
+-- Places: what stands before a need, by name. Written by `named`: run it again when the code changes.
+abbrev else1-from-sibling : tie.After-sibling → tie.Else1
+else1-from-sibling c = c .before .before
+
+put-leaf-right-requires : tie.Need-put-leaf-right-requires
+put-leaf-right-requires c κs =
+    let at-if1 = else1-from-sibling c in
+    let at-tag-a = at-if1 .before in
+    let at-start = at-tag-a .before .before in
+    let r = at-start .args .r in
+    record {
+      room = at-start .pre .0;
+      three = construct-a _ (at-tag-a .tag-a .ensures) (at-if1 .if1 .left);
+      fits = omega (arith, c .sibling .ensures, choice-few (loops (r .kind)) _ (r .b) (2 ^ 32) (at-start .pre .1 .0) (omega (arith, at-start .pre .1 .1 .b)));
+    }
 
 add-result : tie.Need-add-result
 add-result c = search needs
@@ -39,10 +41,10 @@ same-length c = search needs
 
 returns-2 : tie.Need-returns-2
 returns-2 c =
-    let at-sibling = c .before .before .before in
-    let at-if1 = at-sibling .before .before in
-    let at-tag-a = at-if1 .before in
-    closed-a _ _ _ _ _ (at-tag-a .tag-a .ensures) (at-if1 .if1 .left) (at-sibling .sibling .ensures) (c .before .before .close-leaf .ensures)
+    let at-put-leaf-right = c .before .before in
+    let at-sibling = at-put-leaf-right .before in
+    let at-if1 = else1-from-sibling at-sibling in
+    beside-a _ _ _ _ _ (at-if1 .before .tag-a .ensures) (at-if1 .if1 .left) (at-sibling .sibling .ensures) (at-put-leaf-right .put-leaf-right .ensures)
 
 pub wrap-a-spec : {M : Type 1} → statement M
 wrap-a-spec =
@@ -51,7 +53,7 @@ wrap-a-spec =
     tag-a-requires
     returns
     sibling-requires
-    close-leaf-requires
+    put-leaf-right-requires
     add-result
     same-length
     returns-2)

@@ -28,9 +28,12 @@ smaller-requires c κs = search needs
 returns-3 : tie.Need-returns-3
 unfolding countFrom
 returns-3 c =
-    let n = length (now (c .before .before .before .before .before .args .s)) in
-    simp (le-ltb _ _ (c .before .before .before .if1 .left))
-    (c .smaller .ensures ∙ ap (λ (t : Trailer). min (t .f) ((n - (c .before .before .before .before .before .args .at)) / 2)) (c .before .read-trailer .ensures))
+    let at-read-trailer = c .before in
+    let at-if1 = at-read-trailer .before .before in
+    let at-start = at-if1 .before .before in
+    let n = length (now (at-start .args .s)) in
+    simp (le-ltb _ _ (at-if1 .if1 .left))
+    (c .smaller .ensures ∙ ap (λ (t : Trailer). min (t .f) ((n - (at-start .args .at)) / 2)) (at-read-trailer .read-trailer .ensures))
 
 pub count-from-spec : {M : Type 1} → statement M
 count-from-spec =

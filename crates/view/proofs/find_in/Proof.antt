@@ -16,11 +16,16 @@ returns : tie.Need-returns
 unfolding foundFrom
 returns c = simp (ne-eqb _ 0 (c .if1 .taken))
 
+-- Places: what stands before a need, by name. Written by `named`: run it again when the code changes.
+abbrev start-from-else1 : tie.Else1 → tie.Start
+start-from-else1 c = c .before .before
+
 returns-2 : tie.Need-returns-2
 unfolding foundFrom
 returns-2 c =
-    let at-start = c .before .before .before in
-    simp (eq-eqb _ 0 (c .before .if1 .left)) (past-end (now (at-start .args .s)) (at-start .args .at) (at-start .args .x) (c .if2 .taken))
+    let at-if1 = c .before in
+    let at-start = start-from-else1 at-if1 in
+    simp (eq-eqb _ 0 (at-if1 .if1 .left)) (past-end (now (at-start .args .s)) (at-start .args .at) (at-start .args .x) (c .if2 .taken))
 
 part-look-in-start : tie.Need-part-look-in-start
 part-look-in-start c = search needs
@@ -31,23 +36,21 @@ part-look-in-end c = search needs
 count-from-requires : tie.Need-count-from-requires
 count-from-requires c κs = search needs
 
--- Places: what stands before a need, by name. Written by `named`: run it again when the code changes.
-abbrev start-from-count-from : tie.After-count-from → tie.Start
-start-from-count-from c = c .before .before .before .before .before
-
 look-in-requires : tie.Need-look-in-requires
 look-in-requires c κs =
-    let at-start = start-from-count-from c in
-    held-by (now (at-start .args .s)) (at-start .args .at) (c .count-from .ensures) (c .before .before .if2 .left)
+    let at-if2 = c .before .before in
+    let at-start = start-from-else1 (at-if2 .before) in
+    held-by (now (at-start .args .s)) (at-start .args .at) (c .count-from .ensures) (at-if2 .if2 .left)
 
 returns-3 : tie.Need-returns-3
 unfolding foundFrom
 returns-3 c =
-    let at-if1 = c .before .before .before .before in
-    let at-start = at-if1 .before .before in
+    let at-count-from = c .before in
+    let at-if1 = at-count-from .before .before .before in
+    let at-start = start-from-else1 at-if1 in
     let a = at-start .args in
     simp (eq-eqb _ 0 (at-if1 .if1 .left))
-    (c .look-in .ensures ∙ ap (λ (k : ℕ). lookedIn (part (now (a .s)) (a .at) (length (now (a .s)))) k (a .x)) (c .before .count-from .ensures))
+    (c .look-in .ensures ∙ ap (λ (k : ℕ). lookedIn (part (now (a .s)) (a .at) (length (now (a .s)))) k (a .x)) (at-count-from .count-from .ensures))
 
 pub find-in-spec : {M : Type 1} → statement M
 find-in-spec =

@@ -9,7 +9,9 @@ viewed-requires : tie.Need-viewed-requires
 viewed-requires c κs = search needs
 
 returns : tie.Need-returns
-returns c = c .viewed .ensures ∙ found (c .before .before .args .s) (c .before .before .args .x)
+returns c =
+    let at-start = c .before .before in
+    c .viewed .ensures ∙ found (at-start .args .s) (at-start .args .x)
 
 pub look-up-spec : {M : Type 1} → statement M
 look-up-spec = tie.close (tie.spec viewed-requires returns)

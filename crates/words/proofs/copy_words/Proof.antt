@@ -40,13 +40,17 @@ loop-less : tie.Need-loop-less Inv-loop μ-loop
 loop-less c = omega arith
 
 loop-again : tie.Need-loop-again Inv-loop μ-loop
-loop-again c = let l = c .before .before in (omega arith, copied-more _ _ (l .before .args .n) _ _ _ (l .loop .inv .1) (l .before .pre .0) (l .before .pre .1) (c .before .loop-test .taken))
+loop-again c =
+    let at-test = c .before in
+    let at-loop = at-test .before in
+    let at-start = at-loop .before in
+    (omega arith, copied-more _ _ (at-start .args .n) _ _ _ (at-loop .loop .inv .1) (at-start .pre .0) (at-start .pre .1) (at-test .loop-test .taken))
 
 same-length : tie.Need-same-length Inv-loop μ-loop
 same-length c = c .before .loop .inv .1 .kept .len
 
 returns : tie.Need-returns Inv-loop μ-loop
-returns c = copied-all _ _ _ _ _ _ (c .before .loop .inv .1) (c .loop-test .left) (c .before .loop .inv .0)
+returns c = let inv = c .before .loop .inv in copied-all _ _ _ _ _ _ (inv .1) (c .loop-test .left) (inv .0)
 
 pub copy-words-spec : {M : Type 1} → statement M
 copy-words-spec =

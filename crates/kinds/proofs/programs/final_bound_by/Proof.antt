@@ -12,23 +12,17 @@ use Rattle.kinds.proofs.programs.final_bound_by.Tie as tie
 both-final-requires : tie.Need-both-final-requires
 both-final-requires c κs = search needs
 
-flag-in-requires : tie.Need-flag-in-requires
-flag-in-requires c κs = search needs
-
-flag-in-requires-2 : tie.Need-flag-in-requires-2
-flag-in-requires-2 c κs = search needs
+either-final-requires : tie.Need-either-final-requires
+either-final-requires c κs = search needs
 
 both-final-requires-2 : tie.Need-both-final-requires-2
 both-final-requires-2 c κs = search needs
 
-flag-in-requires-3 : tie.Need-flag-in-requires-3
-flag-in-requires-3 c κs = search needs
+either-final-requires-2 : tie.Need-either-final-requires-2
+either-final-requires-2 c κs = search needs
 
-flag-in-requires-4 : tie.Need-flag-in-requires-4
-flag-in-requires-4 c κs = search needs
-
-flag-in-requires-5 : tie.Need-flag-in-requires-5
-flag-in-requires-5 c κs = search needs
+flag-in-requires : tie.Need-flag-in-requires
+flag-in-requires c κs = search needs
 
 both-final-requires-3 : tie.Need-both-final-requires-3
 both-final-requires-3 c κs = search needs
@@ -50,11 +44,11 @@ returns-3 c = rw (c .before .match .keys3) cc
 
 returns-4 : tie.Need-returns-4
 unfolding finalBoundBy finalBoundOf
-returns-4 c = rw (c .before .before .match .keys4) cc
+returns-4 c = rw (c .before .match .keys4) cc
 
 returns-5 : tie.Need-returns-5
 unfolding finalBoundBy finalBoundOf
-returns-5 c = rw (c .before .before .before .match .keys5) cc
+returns-5 c = rw (c .before .before .match .keys5) cc
 
 returns-6 : tie.Need-returns-6
 unfolding finalBoundBy finalBoundOf
@@ -87,12 +81,10 @@ final-bound-by-spec =
     tie.close
     (tie.spec
     both-final-requires
-    flag-in-requires
-    flag-in-requires-2
+    either-final-requires
     both-final-requires-2
-    flag-in-requires-3
-    flag-in-requires-4
-    flag-in-requires-5
+    either-final-requires-2
+    flag-in-requires
     both-final-requires-3
     both-final-requires-4
     returns

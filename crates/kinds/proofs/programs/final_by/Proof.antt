@@ -12,6 +12,9 @@ use Rattle.kinds.proofs.programs.final_by.Tie as tie
 both-final-requires : tie.Need-both-final-requires
 both-final-requires c κs = search needs
 
+either-final-requires : tie.Need-either-final-requires
+either-final-requires c κs = search needs
+
 flag-in-requires : tie.Need-flag-in-requires
 flag-in-requires c κs = search needs
 
@@ -21,20 +24,14 @@ flag-in-requires-2 c κs = search needs
 flag-in-requires-3 : tie.Need-flag-in-requires-3
 flag-in-requires-3 c κs = search needs
 
+choice-requires : tie.Need-choice-requires
+choice-requires c κs = search needs
+
 flag-in-requires-4 : tie.Need-flag-in-requires-4
 flag-in-requires-4 c κs = search needs
 
 flag-in-requires-5 : tie.Need-flag-in-requires-5
 flag-in-requires-5 c κs = search needs
-
-choice-requires : tie.Need-choice-requires
-choice-requires c κs = search needs
-
-flag-in-requires-6 : tie.Need-flag-in-requires-6
-flag-in-requires-6 c κs = search needs
-
-flag-in-requires-7 : tie.Need-flag-in-requires-7
-flag-in-requires-7 c κs = search needs
 
 both-final-requires-2 : tie.Need-both-final-requires-2
 both-final-requires-2 c κs = search needs
@@ -42,11 +39,11 @@ both-final-requires-2 c κs = search needs
 both-final-requires-3 : tie.Need-both-final-requires-3
 both-final-requires-3 c κs = search needs
 
-flag-in-requires-8 : tie.Need-flag-in-requires-8
-flag-in-requires-8 c κs = search needs
+flag-in-requires-6 : tie.Need-flag-in-requires-6
+flag-in-requires-6 c κs = search needs
 
-flag-in-requires-9 : tie.Need-flag-in-requires-9
-flag-in-requires-9 c κs = search needs
+flag-in-requires-7 : tie.Need-flag-in-requires-7
+flag-in-requires-7 c κs = search needs
 
 returns : tie.Need-returns
 unfolding finalBy finalOf
@@ -62,7 +59,7 @@ returns-3 c = rw (c .before .match .keys3) cc
 
 returns-4 : tie.Need-returns-4
 unfolding finalBy finalOf
-returns-4 c = rw (c .before .before .match .keys4) cc
+returns-4 c = rw (c .before .match .keys4) cc
 
 returns-5 : tie.Need-returns-5
 unfolding finalBy finalOf
@@ -99,18 +96,17 @@ final-by-spec =
     tie.close
     (tie.spec
     both-final-requires
+    either-final-requires
     flag-in-requires
     flag-in-requires-2
     flag-in-requires-3
+    choice-requires
     flag-in-requires-4
     flag-in-requires-5
-    choice-requires
-    flag-in-requires-6
-    flag-in-requires-7
     both-final-requires-2
     both-final-requires-3
-    flag-in-requires-8
-    flag-in-requires-9
+    flag-in-requires-6
+    flag-in-requires-7
     returns
     returns-2
     returns-3

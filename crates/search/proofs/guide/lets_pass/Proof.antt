@@ -22,14 +22,18 @@ mul-result c = search needs
 shared-slice-read-result : tie.Need-shared-slice-read-result
 shared-slice-read-result c = search needs
 
+-- Places: what stands before a need, by name. Written by `named`: run it again when the code changes.
+abbrev if1-from-shared-slice-read-result : tie.After-shared-slice-known → tie.Else1
+if1-from-shared-slice-read-result c = c .before .before
+
 cast-result : tie.Need-cast-result
-cast-result c = omega (arith, c .shared-slice-known .given (c .before .before .before .args .used))
+cast-result c = omega (arith, c .shared-slice-known .given (if1-from-shared-slice-read-result c .before .args .used))
 
 returns-2 : tie.Need-returns-2
 returns-2 c =
-    let a = c .before .before .before .args in
+    let a = if1-from-shared-slice-read-result c .before .args in
     let g = now (a .moves) in
-    sym (ap (passes (a .free) (drop (a .used) g)) (is-move (a .entry) (c .before .before .if1 .left)) ∙ ap (λ (l : List ℕ). passes (a .free) l (some (a .entry)))
+    sym (ap (passes (a .free) (drop (a .used) g)) (is-move (a .entry) (if1-from-shared-slice-read-result c .if1 .left)) ∙ ap (λ (l : List ℕ). passes (a .free) l (some (a .entry)))
     (next-move g (a .used) (c .before .if2 .taken)))
 
 returns-3 : tie.Need-returns-3

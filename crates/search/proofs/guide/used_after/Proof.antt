@@ -30,11 +30,12 @@ returns-2 c =
 
 returns-3 : tie.Need-returns-3
 returns-3 c =
-    let at-start = c .before .before in
+    let at-if1 = c .before in
+    let at-start = at-if1 .before in
     let a = at-start .args in
     let g = now (a .moves) in
     let none-left = no-move g (a .used) (c .if2 .left) in
-    (at-start .pre, none-left ∙ sym (ap (leftOver (drop (a .used) g)) (is-move (a .entry) (c .before .if1 .left)) ∙ ap (λ (l : List ℕ). leftOver l (some (a .entry))) none-left))
+    (at-start .pre, none-left ∙ sym (ap (leftOver (drop (a .used) g)) (is-move (a .entry) (at-if1 .if1 .left)) ∙ ap (λ (l : List ℕ). leftOver l (some (a .entry))) none-left))
 
 pub used-after-spec : {M : Type 1} → statement M
 used-after-spec = tie.close (tie.spec returns add-result returns-2 returns-3)

@@ -25,16 +25,19 @@ loop-holds c = ((λ g. (g, refl)), refl)
 abbrev start-from-loop : tie.At-loop Inv-loop μ-loop → tie.Start Inv-loop μ-loop
 start-from-loop c = c .before .before .before .before .before
 
-abbrev loop-from-next2 : tie.After-next2 Inv-loop μ-loop → tie.At-loop Inv-loop μ-loop
-loop-from-next2 c = c .before .before .before
+abbrev loop-from-next-requires : tie.After-next-arg Inv-loop μ-loop → tie.At-loop Inv-loop μ-loop
+loop-from-next-requires c = c .before .before
 
-abbrev next-from-else1 : tie.Else1 Inv-loop μ-loop → tie.After-next Inv-loop μ-loop
-next-from-else1 c = c .before .before .before .before
+abbrev loop-from-next-requires-2 : tie.After-next-arg2 Inv-loop μ-loop → tie.At-loop Inv-loop μ-loop
+loop-from-next-requires-2 c = c .before .before
+
+abbrev next-from-add-i : tie.After-cursor Inv-loop μ-loop → tie.After-next Inv-loop μ-loop
+next-from-add-i c = c .before .before .before .before .before
 
 next-requires : tie.Need-next-requires Inv-loop μ-loop
 next-requires c κs =
-    let at-start = start-from-loop (c .before .before) in
-    (at-start .pre .0, at-start .pre .1, c .before .before .loop .inv .0 (at-start .pre .2) .0)
+    let at-start = start-from-loop (loop-from-next-requires c) in
+    (at-start .pre .0, at-start .pre .1, loop-from-next-requires c .loop .inv .0 (at-start .pre .2) .0)
 
 same-length : tie.Need-same-length Inv-loop μ-loop
 same-length c = search needs
@@ -42,7 +45,7 @@ same-length c = search needs
 returns : tie.Need-returns Inv-loop μ-loop
 returns c =
     let at-next = c .before .before .before .before in
-    let at-loop = at-next .before .before .before in
+    let at-loop = loop-from-next-requires (at-next .before) in
     ((λ g e. absurd (true≢false (sym e ∙ not-true _ (c .if1 .taken)))), at-next .next .ensures .kept .len ∙ at-loop .loop .inv .1)
 
 add-i : tie.Need-add-i Inv-loop μ-loop
@@ -53,23 +56,24 @@ loop-less c = search needs
 
 loop-again : tie.Need-loop-again Inv-loop μ-loop
 loop-again c =
-    let at-next = next-from-else1 (c .before) in
-    let at-loop = at-next .before .before .before in
+    let at-next = next-from-add-i c in
+    let at-loop = loop-from-next-requires (at-next .before) in
     let G = at-next .next .ensures in
     ((λ g. let h = at-loop .loop .inv .0 g in (next-goes-on G (h .0) (not-false _ (c .before .if1 .left)), h .1)), G .kept .len ∙ at-loop .loop .inv .1)
 
 next-requires-2 : tie.Need-next-requires-2 Inv-loop μ-loop
 next-requires-2 c κs =
-    let at-start = start-from-loop (c .before .before) in
-    (at-start .pre .0, at-start .pre .1, c .before .before .loop .inv .0 (at-start .pre .2) .0)
+    let at-start = start-from-loop (loop-from-next-requires-2 c) in
+    (at-start .pre .0, at-start .pre .1, loop-from-next-requires-2 c .loop .inv .0 (at-start .pre .2) .0)
 
 same-length-2 : tie.Need-same-length-2 Inv-loop μ-loop
 same-length-2 c = search needs
 
 returns-2 : tie.Need-returns-2 Inv-loop μ-loop
 returns-2 c =
-    let at-loop = loop-from-next2 (c .before .before) in
-    let G = c .before .before .next2 .ensures in
+    let at-next2 = c .before .before in
+    let at-loop = loop-from-next-requires-2 (at-next2 .before) in
+    let G = at-next2 .next2 .ensures in
     ((λ g e. let h = at-loop .loop .inv .0 g in next-stands G (h .0) e (h .1)), G .kept .len ∙ at-loop .loop .inv .1)
 
 pub make-spec : {M : Type 1} → statement M

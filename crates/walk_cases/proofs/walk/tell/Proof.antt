@@ -13,11 +13,11 @@ configuration-requires : tie.Need-configuration-requires
 configuration-requires c κs = search needs
 
 -- Places: what stands before a need, by name. Written by `named`: run it again when the code changes.
-abbrev start-from-mul-from : tie.After-struct-known → tie.Start
-start-from-mul-from c = c .before .before .before .before .before .before .before .before .before .before .before .before .before
+abbrev survey-from-mul-from : tie.After-struct-known → tie.After-survey
+survey-from-mul-from c = c .before .before .before .before .before .before
 
-abbrev survey-from-returns : tie.After-result → tie.After-survey
-survey-from-returns c = c .before .before .before .before .before .before .before .before .before
+abbrev start-from-mul-from : tie.After-struct-known → tie.Start
+start-from-mul-from c = survey-from-mul-from c .before .before .before .before .before .before .before
 
 mul-from : tie.Need-mul-from
 mul-from c =
@@ -48,7 +48,7 @@ same-length-2 c = search needs
 
 returns : tie.Need-returns
 returns c =
-    let at-survey = survey-from-returns c in
+    let at-survey = survey-from-mul-from (c .before .before .before) in
     ((λ left p F. at-survey .survey .ensures .0 left p F .first), at-survey .survey .ensures .1 .0)
 
 pub tell-spec : {M : Type 1} → statement M

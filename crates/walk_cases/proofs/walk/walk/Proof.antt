@@ -30,32 +30,41 @@ start-from-loop-holds c = c .before .before .before .before .before .before
 abbrev start-from-loop : tie.At-loop Inv-loop μ-loop → tie.Start Inv-loop μ-loop
 start-from-loop c = start-from-loop-holds (c .before)
 
-abbrev start-from-then1 : tie.Then1 Inv-loop μ-loop → tie.Start Inv-loop μ-loop
-start-from-then1 c = start-from-loop (c .before .before)
+abbrev loop-from-then1 : tie.Then1 Inv-loop μ-loop → tie.At-loop Inv-loop μ-loop
+loop-from-then1 c = c .before .before
 
-abbrev start-from-tell : tie.After-tell Inv-loop μ-loop → tie.Start Inv-loop μ-loop
-start-from-tell c = start-from-then1 (c .before .before .before .before)
+abbrev start-from-then1 : tie.Then1 Inv-loop μ-loop → tie.Start Inv-loop μ-loop
+start-from-then1 c = start-from-loop (loop-from-then1 c)
+
+abbrev if1-from-tell : tie.After-tell Inv-loop μ-loop → tie.Then1 Inv-loop μ-loop
+if1-from-tell c = c .before .before .before .before
 
 abbrev loop-from-tell2 : tie.After-tell2 Inv-loop μ-loop → tie.At-loop Inv-loop μ-loop
 loop-from-tell2 c = c .before .before .before .before .before .before
 
-abbrev start-from-tell2 : tie.After-tell2 Inv-loop μ-loop → tie.Start Inv-loop μ-loop
-start-from-tell2 c = start-from-loop (loop-from-tell2 c)
+abbrev tell2-from-same-length-4 : tie.After-slice-known8 Inv-loop μ-loop → tie.After-tell2 Inv-loop μ-loop
+tell2-from-same-length-4 c = c .before .before .before .before
+
+abbrev tell-from-choice : tie.After-choice Inv-loop μ-loop → tie.After-tell Inv-loop μ-loop
+tell-from-choice c = c .before .before .before .before .before
+
+abbrev choice-from-make-requires : tie.After-make-arg3 Inv-loop μ-loop → tie.After-choice Inv-loop μ-loop
+choice-from-make-requires c = c .before .before .before
 
 abbrev tell-from-make-requires : tie.After-make-arg3 Inv-loop μ-loop → tie.After-tell Inv-loop μ-loop
-tell-from-make-requires c = c .before .before .before .before .before .before .before .before
+tell-from-make-requires c = tell-from-choice (choice-from-make-requires c)
 
 abbrev tell-from-make : tie.After-make Inv-loop μ-loop → tie.After-tell Inv-loop μ-loop
 tell-from-make c = tell-from-make-requires (c .before)
 
-abbrev loop-from-make : tie.After-make Inv-loop μ-loop → tie.At-loop Inv-loop μ-loop
-loop-from-make c = (tell-from-make c) .before .before .before .before .before .before
+abbrev if1-from-make : tie.After-make Inv-loop μ-loop → tie.Then1 Inv-loop μ-loop
+if1-from-make c = if1-from-tell (tell-from-make c)
 
-abbrev make-from-else2 : tie.Else2 Inv-loop μ-loop → tie.After-make Inv-loop μ-loop
-make-from-else2 c = c .before .before .before .before
+abbrev make-from-then2 : tie.Then2 Inv-loop μ-loop → tie.After-make Inv-loop μ-loop
+make-from-then2 c = c .before .before .before .before
 
-abbrev if1-from-else2 : tie.Else2 Inv-loop μ-loop → tie.Then1 Inv-loop μ-loop
-if1-from-else2 c = (tell-from-make (make-from-else2 c)) .before .before .before .before
+abbrev make-from-add-d : tie.After-st Inv-loop μ-loop → tie.After-make Inv-loop μ-loop
+make-from-add-d c = c .before .before .before .before .before .before
 
 loop-holds : tie.Need-loop-holds Inv-loop μ-loop
 loop-holds c =
@@ -71,8 +80,8 @@ choice-requires c κs = search needs
 make-requires : tie.Need-make-requires Inv-loop μ-loop
 make-requires c κs =
     let at-tell = tell-from-make-requires c in
-    let at-if1 = at-tell .before .before .before .before in
-    let at-loop = at-if1 .before .before in
+    let at-if1 = if1-from-tell at-tell in
+    let at-loop = loop-from-then1 at-if1 in
     let at-start = start-from-loop at-loop in
     let F = at-loop .loop .inv .2 .3 in
     let e = ap (λ (l : Layout). l .d) (at-start .pre .0 .0 .layout-is) in
@@ -80,20 +89,20 @@ make-requires c κs =
 
 same-length : tie.Need-same-length Inv-loop μ-loop
 same-length c =
-    let at-make = c .before .before .before .before in
-    let at-loop = loop-from-make at-make in
+    let at-make = make-from-then2 c in
+    let at-loop = loop-from-then1 (if1-from-make at-make) in
     at-make .make .ensures .1 ∙ at-loop .loop .inv .0
 
 same-length-2 : tie.Need-same-length-2 Inv-loop μ-loop
 same-length-2 c =
-    let at-tell = tell-from-make (c .before .before .before .before) in
-    let at-start = start-from-tell at-tell in
+    let at-tell = tell-from-make (make-from-then2 c) in
+    let at-start = start-from-then1 (if1-from-tell at-tell) in
     omega (arith, at-tell .tell .ensures .1 .prepared .flags-long, at-start .pre .0 .1 .flags-long)
 
 same-length-3 : tie.Need-same-length-3 Inv-loop μ-loop
 same-length-3 c =
-    let at-tell = tell-from-make (c .before .before .before .before) in
-    let at-start = start-from-tell at-tell in
+    let at-tell = tell-from-make (make-from-then2 c) in
+    let at-start = start-from-then1 (if1-from-tell at-tell) in
     omega (arith, at-tell .tell .ensures .1 .prepared .numbers-long, at-start .pre .0 .1 .numbers-long)
 
 returns : tie.Need-returns Inv-loop μ-loop
@@ -104,20 +113,20 @@ transition-requires c κs = search needs
 
 add-d : tie.Need-add-d Inv-loop μ-loop
 add-d c =
-    let at-if1 = if1-from-else2 (c .before .before) in
+    let at-if1 = if1-from-make (make-from-add-d c) in
     let at-start = start-from-then1 at-if1 in
     let O = at-start .pre .0 .0 in
     omega (arith, at-if1 .if1 .taken, laid _ (O .accepted) .d, ap (λ (l : Layout). l .d) (O .layout-is))
 
 loop-less : tie.Need-loop-less Inv-loop μ-loop
-loop-less c = omega (arith, if1-from-else2 (c .before .before) .if1 .taken)
+loop-less c = omega (arith, if1-from-make (make-from-add-d c) .if1 .taken)
 
 loop-again : tie.Need-loop-again Inv-loop μ-loop
 loop-again c =
-    let at-make = make-from-else2 (c .before .before) in
+    let at-make = make-from-add-d c in
     let at-tell = tell-from-make at-make in
-    let at-if1 = at-tell .before .before .before .before in
-    let at-loop = at-if1 .before .before in
+    let at-if1 = if1-from-tell at-tell in
+    let at-loop = loop-from-then1 at-if1 in
     let at-start = start-from-loop at-loop in
     let F = at-loop .loop .inv .2 .3 in
     let e = ap (λ (l : Layout). l .d) (at-start .pre .0 .0 .layout-is) in
@@ -130,18 +139,18 @@ tell-requires-2 : tie.Need-tell-requires-2 Inv-loop μ-loop
 tell-requires-2 c κs = search needs
 
 same-length-4 : tie.Need-same-length-4 Inv-loop μ-loop
-same-length-4 c = loop-from-tell2 (c .before .before .before .before) .loop .inv .0
+same-length-4 c = loop-from-tell2 (tell2-from-same-length-4 c) .loop .inv .0
 
 same-length-5 : tie.Need-same-length-5 Inv-loop μ-loop
 same-length-5 c =
-    let at-tell2 = c .before .before .before .before in
-    let at-start = start-from-tell2 at-tell2 in
+    let at-tell2 = tell2-from-same-length-4 c in
+    let at-start = start-from-loop (loop-from-tell2 at-tell2) in
     omega (arith, at-tell2 .tell2 .ensures .1 .prepared .flags-long, at-start .pre .0 .1 .flags-long)
 
 same-length-6 : tie.Need-same-length-6 Inv-loop μ-loop
 same-length-6 c =
-    let at-tell2 = c .before .before .before .before in
-    let at-start = start-from-tell2 at-tell2 in
+    let at-tell2 = tell2-from-same-length-4 c in
+    let at-start = start-from-loop (loop-from-tell2 at-tell2) in
     omega (arith, at-tell2 .tell2 .ensures .1 .prepared .numbers-long, at-start .pre .0 .1 .numbers-long)
 
 returns-2 : tie.Need-returns-2 Inv-loop μ-loop

@@ -15,9 +15,6 @@ slice-aggregate-prepare-2 c = search needs
 abbrev start-from-prepare-requires : tie.After-numbers → tie.Start
 start-from-prepare-requires c = c .before .before .before .before .before
 
-abbrev start-from-prepare : tie.After-prepare → tie.Start
-start-from-prepare c = start-from-prepare-requires (c .before)
-
 abbrev put-first-from-walk-requires : tie.After-numbers3 → tie.After-put-first
 put-first-from-walk-requires c = c .before .before .before .before .before .before
 
@@ -40,7 +37,7 @@ walk-requires : tie.Need-walk-requires
 walk-requires c κs =
     let at-put-first = put-first-from-walk-requires c in
     let at-prepare = at-put-first .before .before .before .before in
-    let at-start = start-from-prepare at-prepare in
+    let at-start = start-from-prepare-requires (at-prepare .before) in
     ((at-start .pre .0, at-prepare .prepare .ensures), (_, at-put-first .put-first .ensures .0))
 
 same-length : tie.Need-same-length

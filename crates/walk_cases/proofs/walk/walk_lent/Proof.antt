@@ -19,17 +19,17 @@ slice-relend-prefix-walk-from : tie.Need-slice-relend-prefix-walk-from
 slice-relend-prefix-walk-from c = search needs
 
 -- Places: what stands before a need, by name. Written by `named`: run it again when the code changes.
-abbrev start-from-else1 : tie.Else1 → tie.Start
-start-from-else1 c = c .before .before .before .before
+abbrev start-from-slice-aggregate-walk-from : tie.After-walk-from-arg → tie.Start
+start-from-slice-aggregate-walk-from c = c .before .before .before .before .before
 
 slice-aggregate-walk-from : tie.Need-slice-aggregate-walk-from
 slice-aggregate-walk-from c =
-    let at-start = start-from-else1 (c .before) in
+    let at-start = start-from-slice-aggregate-walk-from c in
     sym (length-take-le (at-start .args .found .words) (now (at-start .args .work)) (c .before .if1 .left))
 
 walk-from-requires : tie.Need-walk-from-requires
 walk-from-requires c κs =
-    let at-start = start-from-else1 (c .before) in
+    let at-start = start-from-slice-aggregate-walk-from c in
     (at-start .pre, length-take-le (at-start .args .found .words) (now (at-start .args .work)) (c .before .if1 .left))
 
 same-length : tie.Need-same-length

@@ -15,7 +15,9 @@ slice-aggregate-walk-lent : tie.Need-slice-aggregate-walk-lent
 slice-aggregate-walk-lent c = search needs
 
 walk-lent-requires : tie.Need-walk-lent-requires
-walk-lent-requires c κs = found-of _ (sym (c .before .before .found .given .1) ∙ c .before .before .before .before .inspect .ensures)
+walk-lent-requires c κs =
+    let at-found = c .before .before in
+    found-of _ (sym (at-found .found .given .1) ∙ at-found .before .before .inspect .ensures)
 
 enum-told : tie.Need-enum-told
 enum-told c = search needs

@@ -1,8 +1,8 @@
 -- The record is written after the nodes that stand there, the construct before them. Assumes nothing.
-use Rattle.words.proofs.Moved.{closed-of}
+use Rattle.words.proofs.Moved.{leaf-right}
 use borrow.Author.Needs.{needs}
-use Rattle.words.proofs.close_leaf.Statement.{statement}
-use Rattle.words.proofs.close_leaf.Tie as tie
+use Rattle.words.proofs.put_leaf_right.Statement.{statement}
+use Rattle.words.proofs.put_leaf_right.Tie as tie
 
 add-put-node : tie.Need-add-put-node
 add-put-node c = search needs
@@ -25,18 +25,14 @@ put-node-requires-2 c κs = search needs
 same-length : tie.Need-same-length
 same-length c = search needs
 
--- Places: what stands before a need, by name. Written by `named`: run it again when the code changes.
-abbrev put-node-from-put-node2 : tie.After-put-node2 → tie.After-put-node
-put-node-from-put-node2 c = c .before .before .before .before
-
 returns : tie.Need-returns
 returns c =
-    let at-put-node = put-node-from-put-node2 (c .before .before) in
-    let at-start = at-put-node .before .before .before in
-    closed-of _ _ _ _ _ _ _ (at-put-node .put-node .ensures) (c .before .before .put-node2 .ensures) (at-start .pre .1 .0) (at-start .pre .0 .inside)
+    let at-put-node2 = c .before .before in
+    let at-put-node = at-put-node2 .before .before .before .before in
+    leaf-right _ _ _ _ _ _ _ (at-put-node .put-node .ensures) (at-put-node2 .put-node2 .ensures) (search needs)
 
-pub close-leaf-spec : {M : Type 1} → statement M
-close-leaf-spec =
+pub put-leaf-right-spec : {M : Type 1} → statement M
+put-leaf-right-spec =
     tie.close
     (tie.spec
     add-put-node
