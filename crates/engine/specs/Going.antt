@@ -7,6 +7,7 @@ use mathlib.Core.List.{List, [], _∷_, List·Memᴰ}
 use mathlib.Core.Option.{Option, none, some}
 use lib.Dec.{eqb}
 use lib.ListN.{length, drop}
+use Rattle.records.specs.Bytes.{limit16}
 use Rattle.golog.specs.declared.State.{State}
 use Rattle.sheet.specs.Layout.{layoutOf}
 use Rattle.golog.specs.World.{start}
@@ -50,7 +51,7 @@ Known K (some a) = K a
 
 -- an action of the sheet, start or stop
 abbrev pub IsAction : List ℕ → ℕ → Type 0
-IsAction s a = (a < 65536) × (a < start → a < layoutOf s .a)
+IsAction s a = (a < limit16) × (a < start → a < layoutOf s .a)
 
 -- the move of a transition by its code: none where it is a test, else the action
 abbrev pub moveOf : ℕ → Option ℕ

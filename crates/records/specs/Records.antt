@@ -2,7 +2,7 @@
 use Prim.Native.Nat.{ℕ, _+_, _*_, _≤_, _<_}
 use mathlib.Core.List.{List}
 use lib.ListN.{length, getD}
-use Rattle.records.specs.Bytes.{le16}
+use Rattle.records.specs.Bytes.{limit16, le16}
 use Rattle.records.specs.declared.Fluent.{Fluent}
 use Rattle.records.specs.declared.Formula.{Formula}
 use Rattle.records.specs.declared.Effect.{Effect}
@@ -31,8 +31,8 @@ programAt t i = record { kind = le16 t (8 * i); a = le16 t (8 * i + 2); b = le16
 
 -- its a and b are two-byte numbers
 pub record TwoBytes (r : Program) : Type 0 where
-  pub a : r .a < 65536
-  pub b : r .b < 65536
+  pub a : r .a < limit16
+  pub b : r .b < limit16
 
 -- t holds n program records: some, and no more than document 01 allows
 pub record ProgramTable (t : List ℕ) (n : ℕ) : Type 0 where

@@ -2,8 +2,11 @@
 ghost use mathlib.Core.Path.{_≡_};
 ghost use Prim.Native.Nat.{_+_, _*_, _≤_, _<_};
 ghost use lib.ListN.{length, getD};
-ghost use Rattle.records.specs.Bytes.{le16, le32};
+ghost use Rattle.records.specs.Bytes.{limit16, le16, le32};
 ghost use Rattle.records.specs.Records.{fluentAt, formulaAt, effectAt, actionAt, programAt, TwoBytes};
+
+// Numbers of two bytes are below it.
+const LIMIT_16: usize = 65536;
 
 // Document 01: "Fluent, 2 bytes".
 pub struct Fluent {
@@ -55,7 +58,7 @@ pub fn wide32(x: u32) -> usize
 
 pub fn read16(s: &[u8], at: usize) -> usize
     requires { ⌜ at + 1 < length (now s) ⌝ }
-    ensures { λ r. ⌜ (r ≡ le16 (now (s .entry)) at) × (r < 65536) ⌝ }
+    ensures { λ r. ⌜ (r ≡ le16 (now (s .entry)) at) × (r < limit16) ⌝ }
 {
     wide(s[at]) + 256 * wide(s[at + 1])
 }
@@ -64,13 +67,13 @@ pub fn read32(s: &[u8], at: usize) -> usize
     requires { ⌜ at + 3 < length (now s) ⌝ }
     ensures { λ r. ⌜ (r ≡ le32 (now (s .entry)) at) × (r < 4294967296) ⌝ }
 {
-    read16(s, at) + 65536 * read16(s, at + 2)
+    read16(s, at) + LIMIT_16 * read16(s, at + 2)
 }
 
 pub fn fluent_at(t: &[u8], i: usize) -> Fluent
     requires { ⌜ 2 * i + 2 ≤ length (now t) ⌝ }
-    ensures { λ r. ⌜ r ≡ fluentAt (now (t .entry)) i ⌝ }
-    ensures { λ r. ⌜ (r .size < 256) × (r .initial < 256) ⌝ }
+    ensures record { λ r. ⌜ r ≡ fluentAt (now (t .entry)) i ⌝ }
+    ensures fields { λ r. ⌜ (r .size < 256) × (r .initial < 256) ⌝ }
 {
     let at = 2 * i;
     let size = wide(t[at]);
@@ -80,8 +83,8 @@ pub fn fluent_at(t: &[u8], i: usize) -> Fluent
 
 pub fn formula_at(t: &[u8], i: usize) -> Formula
     requires { ⌜ 6 * i + 6 ≤ length (now t) ⌝ }
-    ensures { λ r. ⌜ r ≡ formulaAt (now (t .entry)) i ⌝ }
-    ensures { λ r. ⌜ r .x < 256 ⌝ }
+    ensures record { λ r. ⌜ r ≡ formulaAt (now (t .entry)) i ⌝ }
+    ensures fields { λ r. ⌜ r .x < 256 ⌝ }
 {
     let at = 6 * i;
     let kind = wide(t[at]);
@@ -93,8 +96,8 @@ pub fn formula_at(t: &[u8], i: usize) -> Formula
 
 pub fn effect_at(t: &[u8], i: usize) -> Effect
     requires { ⌜ 4 * i + 4 ≤ length (now t) ⌝ }
-    ensures { λ r. ⌜ r ≡ effectAt (now (t .entry)) i ⌝ }
-    ensures { λ r. ⌜ (r .fluent < 256) × (r .value < 256) ⌝ }
+    ensures record { λ r. ⌜ r ≡ effectAt (now (t .entry)) i ⌝ }
+    ensures fields { λ r. ⌜ (r .fluent < 256) × (r .value < 256) ⌝ }
 {
     let at = 4 * i;
     let condition = read16(t, at);
@@ -109,8 +112,8 @@ pub fn effect_at(t: &[u8], i: usize) -> Effect
 
 pub fn action_at(t: &[u8], i: usize) -> Action
     requires { ⌜ 6 * i + 6 ≤ length (now t) ⌝ }
-    ensures { λ r. ⌜ r ≡ actionAt (now (t .entry)) i ⌝ }
-    ensures { λ r. ⌜ (r .first < 65536) × (r .count < 65536) ⌝ }
+    ensures record { λ r. ⌜ r ≡ actionAt (now (t .entry)) i ⌝ }
+    ensures fields { λ r. ⌜ (r .first < limit16) × (r .count < limit16) ⌝ }
 {
     let at = 6 * i;
     let precondition = read16(t, at);
@@ -125,8 +128,8 @@ pub fn action_at(t: &[u8], i: usize) -> Action
 
 pub fn program_at(t: &[u8], i: usize) -> Program
     requires { ⌜ 8 * i + 8 ≤ length (now t) ⌝ }
-    ensures { λ r. ⌜ r ≡ programAt (now (t .entry)) i ⌝ }
-    ensures { λ r. ⌜ TwoBytes r ⌝ }
+    ensures record { λ r. ⌜ r ≡ programAt (now (t .entry)) i ⌝ }
+    ensures fields { λ r. ⌜ TwoBytes r ⌝ }
 {
     let at = 8 * i;
     let kind = read16(t, at);

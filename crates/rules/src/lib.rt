@@ -2,6 +2,7 @@
 ghost use mathlib.Core.Path.{_≡_};
 ghost use Prim.Native.Nat.{_+_, _*_, _≤_, _<_};
 ghost use lib.ListN.{length};
+ghost use Rattle.records.specs.Bytes.{limit16};
 ghost use Rattle.records.specs.Records.{fluentAt};
 ghost use Rattle.records.specs.Lowest.{lowest};
 ghost use Rattle.rules.specs.Rules.{fluentOk, effectOk, actionOk};
@@ -23,7 +24,7 @@ fn effect_ok(nf: usize, nq: usize, size: usize, r: Effect) -> bool
 }
 
 fn action_ok(nq: usize, ne: usize, r: Action) -> bool
-    requires { ⌜ (r .first < 65536) × (r .count < 65536) ⌝ }
+    requires { ⌜ (r .first < limit16) × (r .count < limit16) ⌝ }
     ensures { λ ok. ⌜ ok ≡ actionOk nq ne r ⌝ }
 {
     (r.precondition < nq) & (r.first + r.count <= ne)
@@ -31,7 +32,7 @@ fn action_ok(nq: usize, ne: usize, r: Action) -> bool
 
 // The domain size of fluent x, 0 past the table's end.
 fn size_of(fluents: &[u8], x: usize) -> usize
-    requires { ⌜ x < 65536 ⌝ }
+    requires { ⌜ x < limit16 ⌝ }
     ensures { λ r. ⌜ r ≡ fluentAt (now (fluents .entry)) x .size ⌝ }
 {
     records::byte_in(fluents, 2 * x)

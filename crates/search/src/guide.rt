@@ -4,13 +4,11 @@ ghost use mathlib.Core.Bool.{_&&_};
 ghost use Prim.Native.Nat.{_≤_, _<_};
 ghost use lib.ListN.{length, drop};
 ghost use Rattle.runs.specs.Guide.{isNil};
+ghost use Rattle.steps.specs.Laid.{testCode};
 ghost use Rattle.engine.specs.Going.{moveOf};
 ghost use Rattle.search.specs.Outcome.{isFound};
 ghost use Rattle.search.specs.Moves.{passes, leftOver, entries, noted};
 use crate::Outcome;
-
-// The code of a transition that is no move.
-const TEST: u32 = 65536;
 
 fn found(o: Outcome) -> bool
     ensures { λ r. ⌜ r ≡ isFound o ⌝ }
@@ -28,7 +26,7 @@ pub fn lets_pass(moves: &[u16], used: usize, free: bool, entry: u32) -> bool
     requires { ⌜ used ≤ length (now moves) ⌝ }
     ensures { λ r. ⌜ r ≡ passes free (drop used (now (moves .entry))) (moveOf entry) ⌝ }
 {
-    if entry == TEST {
+    if entry == steps::TEST {
         return true;
     }
     if used < moves.len() {
@@ -40,10 +38,10 @@ pub fn lets_pass(moves: &[u16], used: usize, free: bool, entry: u32) -> bool
 // How many of the moves have been used after a transition that passed.
 pub fn used_after(moves: &[u16], used: usize, entry: u32) -> usize
     requires { ⌜ used ≤ length (now moves) ⌝ }
-    ensures { λ r. ⌜ r ≤ length (now (moves .entry)) ⌝ }
-    ensures { λ r. ⌜ drop r (now (moves .entry)) ≡ leftOver (drop used (now (moves .entry))) (moveOf entry) ⌝ }
+    ensures within { λ r. ⌜ r ≤ length (now (moves .entry)) ⌝ }
+    ensures rest { λ r. ⌜ drop r (now (moves .entry)) ≡ leftOver (drop used (now (moves .entry))) (moveOf entry) ⌝ }
 {
-    if entry == TEST {
+    if entry == steps::TEST {
         return used;
     }
     if used < moves.len() {
@@ -56,19 +54,19 @@ pub fn used_after(moves: &[u16], used: usize, entry: u32) -> usize
 pub fn entries_of(entry: u32) -> usize
     ensures { λ r. ⌜ (r ≡ entries (moveOf entry)) × (r ≤ 1) ⌝ }
 {
-    if entry == TEST { 0 } else { 1 }
+    if entry == steps::TEST { 0 } else { 1 }
 }
 
 // Whether an answer is a plan: then the move before it is written into place n of the trace.
 pub fn note(trace: &mut [u16], n: usize, entry: u32, answer: Outcome) -> bool
-    requires { ⌜ (n < length (now trace)) × (entry ≤ 65536) ⌝ }
-    ensures { λ r. ⌜ r ≡ isFound answer ⌝ }
-    ensures { λ _. ⌜ now (trace .exit) ≡ noted (moveOf entry) n answer (now (trace .entry)) ⌝ }
+    requires { ⌜ (n < length (now trace)) × (entry ≤ testCode) ⌝ }
+    ensures answer { λ r. ⌜ r ≡ isFound answer ⌝ }
+    ensures trace { λ _. ⌜ now (trace .exit) ≡ noted (moveOf entry) n answer (now (trace .entry)) ⌝ }
 {
     if !found(answer) {
         return false;
     }
-    if entry < TEST {
+    if entry < steps::TEST {
         trace[n] = entry as u16;
     }
     true

@@ -50,7 +50,7 @@ struct Seen {
 
 // Every word 0.
 pub fn clear(work: &mut [u32])
-    ensures { λ _. ⌜ now (work .exit) ≡ replicate (length (now (work .entry))) 0 ⌝ }
+    ensures work { λ _. ⌜ now (work .exit) ≡ replicate (length (now (work .entry))) 0 ⌝ }
 {
     let mut i = 0;
     while i < work.len() {
@@ -153,8 +153,8 @@ fn refresh(
 )
     requires { ⌜ Of (now s) m × Prepared (now s) (now flags) (now numbers) × (stale ≡ false → Surveyed (now s) (q .state) (q .depth) (now flags) (now numbers)) ⌝ }
     requires { ⌜ ((left : ℕ) × (p : Prog) × Frame (now s) left (now work) (q .depth) p) ⌝ }
-    ensures { λ _. ⌜ Surveyed (now (s .entry)) (q .state) (q .depth) (now (flags .exit)) (now (numbers .exit)) ⌝ }
-    ensures { λ _. ⌜ Filled (q .depth) (q .depth) (now (flags .entry)) (now (flags .exit)) (now (numbers .entry)) (now (numbers .exit)) ⌝ }
+    ensures tables { λ _. ⌜ Surveyed (now (s .entry)) (q .state) (q .depth) (now (flags .exit)) (now (numbers .exit)) ⌝ }
+    ensures written { λ _. ⌜ Filled (q .depth) (q .depth) (now (flags .entry)) (now (flags .exit)) (now (numbers .entry)) (now (numbers .exit)) ⌝ }
 {
     if stale {
         let x = engine::survey(flags, numbers, work, s, m, q.state, q.depth);
@@ -176,8 +176,8 @@ fn expand(
     first: Cursor,
 ) -> Outcome
     requires { ⌜ Going (now s) (now work) (now moves) (length (now trace)) t q first (now flags) (now numbers) ⌝ }
-    ensures { λ r. ⌜ Expanded (now (s .entry)) (now (work .entry)) (now (moves .entry)) (now (trace .entry)) (now (trace .exit)) t q ran first (now (flags .entry)) (now (numbers .entry)) r ⌝ }
-    ensures { λ _. ⌜ Preserves (now (s .entry)) (now (work .entry)) (now (work .exit)) q (now (flags .entry)) (now (flags .exit)) (now (numbers .entry)) (now (numbers .exit)) ⌝ }
+    ensures answer { λ r. ⌜ Expanded (now (s .entry)) (now (work .entry)) (now (moves .entry)) (now (trace .entry)) (now (trace .exit)) t q ran first (now (flags .entry)) (now (numbers .entry)) r ⌝ }
+    ensures tables { λ _. ⌜ Preserves (now (s .entry)) (now (work .entry)) (now (work .exit)) q (now (flags .entry)) (now (flags .exit)) (now (numbers .entry)) (now (numbers .exit)) ⌝ }
 {
     let mut cut = ran;
     let mut k = first;
@@ -216,9 +216,9 @@ fn explore(
     q: Visit,
 ) -> Outcome
     requires { ⌜ Prepared (now s) (now flags) (now numbers) × ((p : Prog) × Ready (now s) (now work) (now moves) (length (now trace)) t q p) ⌝ }
-    ensures { λ r. ⌜ ((p : Prog) → Ready (now (s .entry)) (now (work .entry)) (now (moves .entry)) (length (now (trace .entry))) t q p
+    ensures answer { λ r. ⌜ ((p : Prog) → Ready (now (s .entry)) (now (work .entry)) (now (moves .entry)) (length (now (trace .entry))) t q p
         → Reported (q .n) (q .depth) (now (trace .entry)) (now (trace .exit)) r (verdictAt (now (s .entry)) (now (moves .entry)) t q false p)) ⌝ }
-    ensures { λ _. ⌜ length (now (work .exit)) ≡ length (now (work .entry)) ⌝ }
+    ensures places { λ _. ⌜ length (now (work .exit)) ≡ length (now (work .entry)) ⌝ }
 {
     let a = look(flags, numbers, work, s, moves, t, q, false);
     let seen = a.outcome;
@@ -238,8 +238,8 @@ pub fn run(
     trace: &mut [u16],
 ) -> Outcome
     requires { ⌜ Of (now s) found × (length (now work) ≡ found .words) × (boundOf (now s) ≤ length (now trace)) ⌝ }
-    ensures { λ r. ⌜ Reported 0 0 (now (trace .entry)) (now (trace .exit)) r (verdictFrom (now (s .entry)) free (boundOf (now (s .entry))) (firstOf (now (s .entry)), now (moves .entry))) ⌝ }
-    ensures { λ _. ⌜ now (work .exit) ≡ replicate (length (now (work .entry))) 0 ⌝ }
+    ensures answer { λ r. ⌜ Reported 0 0 (now (trace .entry)) (now (trace .exit)) r (verdictFrom (now (s .entry)) free (boundOf (now (s .entry))) (firstOf (now (s .entry)), now (moves .entry))) ⌝ }
+    ensures work { λ _. ⌜ now (work .exit) ≡ replicate (length (now (work .entry))) 0 ⌝ }
 {
     engine::put_first(work, s, found);
     let state = engine::initial_of(s, found);

@@ -137,8 +137,8 @@ fn distance_ok(t: Trailer, room: usize) -> bool
 fn lay_out(t: Trailer, room: usize) -> Layout
     requires { ⌜ WithinLimits t ⌝ }
     requires { ⌜ (t .distance ≡ recordBytes t) × (t .distance ≤ room) ⌝ }
-    ensures { λ r. ⌜ r ≡ layoutIn t room ⌝ }
-    ensures { λ r. ⌜ LaidOut r (room + 18) ⌝ }
+    ensures answer { λ r. ⌜ r ≡ layoutIn t room ⌝ }
+    ensures inside { λ r. ⌜ LaidOut r (room + 18) ⌝ }
 {
     let fluents = room - t.distance;
     let formulas = fluents + 2 * t.f;
@@ -275,10 +275,10 @@ pub fn check(s: &[u8]) -> Checked
 
 // The notes: the caller's own bytes ahead of the first record. Under a number, the empty part at the slice's start.
 pub fn notes<'a>(s: &'a [u8], number: &mut u32, place: &mut usize) -> &'a [u8]
-    ensures { λ r. ⌜ now r ≡ notesOf (now (s .entry)) ⌝ }
-    ensures { λ r. ⌜ ptr r ≡ ptr (s .entry) ⌝ }
-    ensures { λ r. ⌜ now (number .exit) ≡ numberOf (checkOf (now (s .entry))) ⌝ }
-    ensures { λ r. ⌜ now (place .exit) ≡ placeOf (checkOf (now (s .entry))) ⌝ }
+    ensures answer { λ r. ⌜ now r ≡ notesOf (now (s .entry)) ⌝ }
+    ensures borrowed { λ r. ⌜ ptr r ≡ ptr (s .entry) ⌝ }
+    ensures number { λ _. ⌜ now (number .exit) ≡ numberOf (checkOf (now (s .entry))) ⌝ }
+    ensures place { λ _. ⌜ now (place .exit) ≡ placeOf (checkOf (now (s .entry))) ⌝ }
 {
     match inspect(s) {
         Inspected::Accepted { found } => {

@@ -40,9 +40,9 @@ fn tell(
 ) -> Cursor
     requires { ⌜ Of (now s) found × Prepared (now s) (now flags) (now numbers) ⌝ }
     requires { ⌜ ((left : ℕ) × (p : Prog) × Frame (now s) left (now work) d p) ⌝ }
-    ensures { λ r. ⌜ ((left : ℕ) (p : Prog) → Frame (now (s .entry)) left (now (work .entry)) d p
+    ensures answer { λ r. ⌜ ((left : ℕ) (p : Prog) → Frame (now (s .entry)) left (now (work .entry)) d p
         → Ahead (now (s .entry)) (p, st) r (transitionsOf (now (s .entry)) (p, st))) ⌝ }
-    ensures { λ _. ⌜ Surveyed (now (s .entry)) st d (now (flags .exit)) (now (numbers .exit)) ⌝ }
+    ensures tables { λ _. ⌜ Surveyed (now (s .entry)) st d (now (flags .exit)) (now (numbers .exit)) ⌝ }
 {
     let f = engine::survey(flags, numbers, work, s, found, st, d);
     report::configuration(d, st, f);
@@ -64,9 +64,9 @@ fn make(
     n: usize,
 ) -> Taken
     requires { ⌜ Of (now s) found × Surveyed (now s) st d (now flags) (now numbers) × CanGoOn (now s) st (now work) d k ⌝ }
-    ensures { λ r. ⌜ ((g : CanGoOn (now (s .entry)) st (now (work .entry)) d k) → r .made ≡ true
+    ensures answer { λ r. ⌜ ((g : CanGoOn (now (s .entry)) st (now (work .entry)) d k) → r .made ≡ true
         → ((p : Prog) × Frame (now (s .entry)) (g .left) (now (work .exit)) (d + 1) p)) ⌝ }
-    ensures { λ _. ⌜ length (now (work .exit)) ≡ length (now (work .entry)) ⌝ }
+    ensures places { λ _. ⌜ length (now (work .exit)) ≡ length (now (work .entry)) ⌝ }
 {
     let mut cursor = k;
     let mut i = 0;
