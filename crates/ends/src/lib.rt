@@ -14,10 +14,10 @@ pub fn final_rest(finals: &[bool], work: &[u32], at: usize) -> bool
     ensures { λ r. ⌜ ((g : Rest) → At g (now (work .entry)) at → r ≡ finalByTable (now (finals .entry)) g) ⌝ }
 {
     let tag = words::tag_at(work, at);
-    if tag == 0 {
+    if tag == words::GONE {
         return true;
     }
-    if tag == 1 {
+    if tag == words::LEAF {
         return records::flag_in(finals, words::record_at(work, at), true);
     }
     let left = words::size_at(work, at + 3);
@@ -27,15 +27,15 @@ pub fn final_rest(finals: &[bool], work: &[u32], at: usize) -> bool
     false
 }
 
-// Whether the right part of a construct goes, where the left one is as said: after it is final (3), always (8), where it has no
-// transition (9).
+// Whether the right part of a construct goes, where the left one is as said: in a;b where that is final, in a together b always, in
+// a over b where it has no transition.
 pub fn goes_right(tag: u32, done: bool, idle: bool) -> bool
     ensures { λ r. ⌜ r ≡ goesRight tag done idle ⌝ }
 {
-    if tag == 3 {
+    if tag == words::SEQUENCE {
         return done;
     }
-    if tag == 8 {
+    if tag == words::TOGETHER {
         return true;
     }
     idle
@@ -83,7 +83,7 @@ pub fn total_rest(
     ensures { λ r. ⌜ ((g : Rest) → At g (now (work .entry)) at → Totalled (now (finals .entry)) (now (endable .entry)) (now (counts .entry)) g r) ⌝ }
 {
     let tag = words::tag_at(work, at);
-    if tag == 0 {
+    if tag == words::GONE {
         return Totals {
             done: true,
             endable: true,
@@ -91,7 +91,7 @@ pub fn total_rest(
             soon: false,
         };
     }
-    if tag == 1 {
+    if tag == words::LEAF {
         let i = words::record_at(work, at);
         let count = records::wide32(records::number_in(counts, i, 0));
         return Totals {

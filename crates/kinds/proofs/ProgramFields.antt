@@ -120,9 +120,6 @@ module _ (nq na i : ℕ) where
 
 -- a link stands in the list where its field is a program record
 module _ (r : Program) where
-  abbrev Named : ℕ → Type 0
-  Named j = (T (hasA (r .kind)) × (j ≡ r .a)) ⊎ (T (hasB (r .kind)) × (j ≡ r .b))
-
   in-link : (b : Bool) (a : ℕ) (more : List ℕ) {j : ℕ} → List·Memᴰ j (linkIf b a more) → (T b × (j ≡ a)) ⊎ List·Memᴰ j more
   in-link true a more k = ⊎-elim (λ e. inl (tt, e)) inr (List·Memᴰ·cases-cons k)
   in-link false a more k = inr k

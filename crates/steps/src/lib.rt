@@ -107,7 +107,7 @@ fn lay_record(
 {
     let r = leaves::record_at(programs, v.n, v.interrupts, i);
     if kinds::programs::has_own(r.kind) {
-        words::put_node(work, to, 0, 0, 1);
+        words::put_node(work, to, words::GONE, 0, 1);
         return Laid {
             entry: entry_of(r),
             size: 1,
@@ -207,7 +207,7 @@ fn end_right(
 {
     match t {
         Turn::Made { entry, size } => {
-            if tag == 3 {
+            if tag == words::SEQUENCE {
                 return Turn::Made { entry, size };
             }
             words::put_copy_left(work, from, to, tag, n, size);
@@ -243,10 +243,10 @@ pub fn step_rest(
     ensures { λ r. ⌜ StepsRest (sourcesOf (now (programs .entry)) v (now (truths .entry)) (now (counts .entry))) (now (finals .entry)) from k to (now (work .entry)) (now (work .exit)) r ⌝ }
 {
     let tag = words::tag_at(work, from);
-    if tag == 0 {
+    if tag == words::GONE {
         return Turn::Passed { k, done: true };
     }
-    if tag == 1 {
+    if tag == words::LEAF {
         let i = words::record_at(work, from);
         return step_record(programs, v, truths, finals, counts, work, i, to, k);
     }
@@ -261,7 +261,7 @@ pub fn step_rest(
                 let d = final_after(done, finals, work, right);
                 return Turn::Passed { k: j, done: d };
             }
-            let at = to + past_words(tag == 3, 3 + 3 * n);
+            let at = to + past_words(tag == words::SEQUENCE, 3 + 3 * n);
             let u = step_rest(programs, v, truths, finals, counts, work, right, at, j);
             end_right(work, left, to, tag, n, done, u)
         }

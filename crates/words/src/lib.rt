@@ -4,6 +4,16 @@ ghost use Prim.Native.Nat.{_+_, _^_, _≤_, _<_};
 ghost use lib.ListN.{length, getD};
 ghost use Rattle.words.specs.Words.{Copied, Put, CanPutLeaf, CanPutCopy, LeafRight, LeafLeft, CopyRight, CopyLeft};
 
+// Tags of nodes: nothing is left, a record, else the kind of the construct.
+pub const GONE: u32 = 0;
+
+pub const LEAF: u32 = 1;
+
+// a;b and a together b; the other construct is a over b.
+pub const SEQUENCE: u32 = 3;
+
+pub const TOGETHER: u32 = 8;
+
 // The words of the node at `at`.
 pub fn tag_at(work: &[u32], at: usize) -> u32
     requires { ⌜ at + 3 ≤ length (now work) ⌝ }
@@ -53,7 +63,7 @@ pub fn put_leaf_right(work: &mut [u32], to: usize, tag: u32, n: usize, q: usize)
     requires { ⌜ CanPutLeaf to tag n q (now work) ⌝ }
     ensures { λ _. ⌜ LeafRight to tag n q (now (work .entry)) (now (work .exit)) ⌝ }
 {
-    put_node(work, to + 3 + 3 * n, 1, q, 1);
+    put_node(work, to + 3 + 3 * n, LEAF, q, 1);
     put_node(work, to, tag, 0, n + 2);
 }
 
@@ -62,7 +72,7 @@ pub fn put_leaf_left(work: &mut [u32], to: usize, tag: u32, n: usize, q: usize)
     requires { ⌜ CanPutLeaf to tag n q (now work) ⌝ }
     ensures { λ _. ⌜ LeafLeft to tag n q (now (work .entry)) (now (work .exit)) ⌝ }
 {
-    put_node(work, to + 3, 1, q, 1);
+    put_node(work, to + 3, LEAF, q, 1);
     put_node(work, to, tag, 0, n + 2);
 }
 
