@@ -52,7 +52,9 @@ module _ {D C : Type 0} (F : D → C) where
 
   module _ (moves′ : D → List (Option ℕ × D)) (fin′ : D → Bool) (transitions : C → List (Option ℕ × C)) (final : C → Bool) (same-moves : (d : D) → map (under F) (moves′ d) ≡ transitions (F d))
       (same-fin : (d : D) → fin′ d ≡ final (F d)) where
-    pub guided-same : (free : Bool) (k : ℕ) (d : D) (g : List ℕ) → search (guidedTransitions free moves′) (guidedFinal fin′) k (d, g) ≡ search (guidedTransitions free transitions) (guidedFinal final) k (F d, g)
+    pub guided-same :
+        (free : Bool) (k : ℕ) (d : D) (g : List ℕ)
+        → search (guidedTransitions free moves′) (guidedFinal fin′) k (d, g) ≡ search (guidedTransitions free transitions) (guidedFinal final) k (F d, g)
     guided-same free k d g = search-same beside (guidedTransitions free moves′) (guidedFinal fin′) (guidedTransitions free transitions) (guidedFinal final)
         (λ e. follow-same free (e .1) (moves′ (e .0)) ∙ ap (λ (l : List (Option ℕ × C)). follow free (e .1) l) (same-moves (e .0))) (λ e. ap (λ (b : Bool). isNil (e .1) && b) (same-fin (e .0))) k
         (d, g)

@@ -144,7 +144,9 @@ module _ (trace : List ℕ) (ran : Bool) {s w moves : List ℕ} {t : Task} {q : 
     pub all-tried : isNone (L .ahead) ≡ true → {o : Outcome} → o ≡ told cut → Expanded s w moves trace trace′ t q ran start flags numbers o
     all-tried e {o} eo h = subst (λ (xs : List Transition). Reported (q .n) (q .depth) trace trace′ o (branchesAt s moves t q ran xs)) (ahead-same g h) (go (L .ahead) e (L .same))
       where
-        go : (xs : List Transition) → isNone xs ≡ true → join (flagged cut) (rows xs) ≡ join (flagged ran) (rows (g .ahead)) → Reported (q .n) (q .depth) trace trace′ o (branchesAt s moves t q ran (g .ahead))
+        go :
+            (xs : List Transition) → isNone xs ≡ true → join (flagged cut) (rows xs) ≡ join (flagged ran) (rows (g .ahead))
+            → Reported (q .n) (q .depth) trace trace′ o (branchesAt s moves t q ran (g .ahead))
         go [] e same = flag-reported (q .n) (q .depth) cut (sym (tried-none from-next (t .free) (toMake moves q) cut) ∙ same) eo (L .trace-same)
         go (x ∷ xs) e same = absurd (true≢false (sym e))
 
