@@ -17,7 +17,7 @@ use Rattle.height.specs.Work.{levels, workWords}
 use Rattle.sheet.specs.Trailer.{trailerOf, limitsOk, WithinLimits, recordBytes, distanceOk}
 use Rattle.sheet.specs.Layout.{layoutIn, layoutOf, LaidOut, fluentsIn, formulasIn, effectsIn, actionsIn, programsIn}
 use Rattle.sheet.specs.Check.{refused, refusedAt, tablesChecked, heightChecked, recordsChecked, trailerChecked, checkOf, Accepts}
-use Rattle.sheet.proofs.Laws.{within, limits-exactly, placed, placed-exactly, fits, in-place}
+use Rattle.sheet.proofs.Checking.{within, limits-exactly, placed, placed-exactly, fits, in-place}
 use Rattle.sheet.specs.declared.Layout.{Layout}
 use Rattle.sheet.specs.declared.Checked.{Checked}
 use Rattle.sheet.specs.declared.Checked.the-variants.{Accepted}

@@ -29,7 +29,7 @@ use Rattle.sheet.specs.Layout.{layoutOf, layoutIn, programsIn}
 use Rattle.sheet.specs.Check.{refused, refusedAt, tablesChecked, heightChecked, trailerChecked, checkOf, Accepts}
 use Rattle.sheet.specs.Causes.{Cause, First, Figure}
 use Rattle.sheet.proofs.Accepted.{ruled, laid}
-use Rattle.sheet.proofs.Laws.{limits-exactly, placed-exactly}
+use Rattle.sheet.proofs.Checking.{limits-exactly, placed-exactly}
 use Rattle.sheet.proofs.Lower.{rules-lower, lower}
 use Rattle.sheet.proofs.Rising.{By, Told, then, last, unplaced, lowest-placed, first-answered, none-accepted}
 use Rattle.sheet.specs.declared.Trailer.{Trailer}

@@ -2,7 +2,7 @@ pub mod Accepted
 pub mod Parts
 pub mod Found
 pub mod Exactly
-pub mod Laws
+pub mod Checking
 pub mod Lower
 pub mod Numbers
 pub mod OtherNotes

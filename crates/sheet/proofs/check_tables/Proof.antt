@@ -5,7 +5,7 @@ use native.Mathlib.Omega.{arith}
 use Rattle.sheet.specs.Check.{tablesChecked}
 use Rattle.sheet.specs.Inspection.{unless}
 use Rattle.sheet.specs.declared.Refusal.{Refusal}
-use Rattle.sheet.proofs.Laws.{faulty, clear}
+use Rattle.sheet.proofs.Checking.{faulty, clear}
 use Rattle.sheet.proofs.Parts.{programs-long}
 use borrow.Author.Needs.{needs}
 use Rattle.sheet.proofs.check_tables.Statement.{statement}

@@ -6,7 +6,7 @@ use Rattle.sheet.specs.Layout.{layoutOf}
 use Rattle.sheet.specs.Check.{recordsChecked, checkOf}
 use Rattle.sheet.specs.Inspection.{inspectedIn}
 use Rattle.sheet.specs.declared.Layout.{Layout}
-use Rattle.sheet.proofs.Laws.{within, placed, short, unmarked, outside, misplaced, in-place}
+use Rattle.sheet.proofs.Checking.{within, placed, short, unmarked, outside, misplaced, in-place}
 use Rattle.sheet.proofs.Found.{laid-out, some-fault, no-fault}
 use borrow.Author.Needs.{needs}
 use Rattle.sheet.proofs.inspect.Statement.{statement}

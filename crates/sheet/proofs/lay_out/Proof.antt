@@ -1,7 +1,7 @@
 -- Each table starts where the one before ends; the last ends at the trailer. Assumes nothing.
 use mathlib.Core.Path.{refl}
 use Rattle.sheet.specs.Layout.{layoutIn}
-use Rattle.sheet.proofs.Laws.{fits}
+use Rattle.sheet.proofs.Checking.{fits}
 use borrow.Author.Needs.{needs}
 use Rattle.sheet.proofs.lay_out.Statement.{statement}
 use Rattle.sheet.proofs.lay_out.Tie as tie

@@ -10,7 +10,7 @@ use Rattle.records.proofs.Truth.{part-few}
 use Rattle.sheet.specs.Layout.{programsIn}
 use Rattle.sheet.specs.Inspection.{inspectedIn}
 use Rattle.sheet.specs.declared.Inspected.the-variants as inspected
-use Rattle.sheet.proofs.Laws.{too-high, low-enough}
+use Rattle.sheet.proofs.Checking.{too-high, low-enough}
 -- The height decides between 9 and what is found, whose figures are those of the definition. Assumes nothing.
 use Prim.Native.Nat.{ℕ, _+_, _*_}
 use mathlib.Core.Bool.{Bool, cond}
@@ -23,7 +23,7 @@ use Rattle.records.proofs.Truth.{part-few}
 use Rattle.sheet.specs.Layout.{programsIn}
 use Rattle.sheet.specs.Inspection.{inspectedIn}
 use Rattle.sheet.specs.declared.Inspected.the-variants as inspected
-use Rattle.sheet.proofs.Laws.{too-high, low-enough}
+use Rattle.sheet.proofs.Checking.{too-high, low-enough}
 use borrow.Author.Needs.{needs}
 use Rattle.sheet.proofs.measure.Statement.{statement}
 use Rattle.sheet.proofs.measure.Tie as tie

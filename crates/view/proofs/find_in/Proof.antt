@@ -7,7 +7,7 @@ use borrow.Author.Tests.{eq-eqb, ne-eqb}
 use Rattle.records.specs.Bytes.{part}
 use Rattle.lookup.specs.LookUp.{lookedIn}
 use Rattle.view.specs.View.{foundFrom}
-use Rattle.view.proofs.Laws.{past-end, held-by}
+use Rattle.view.proofs.Finding.{past-end, table-long}
 use borrow.Author.Needs.{needs}
 use Rattle.view.proofs.find_in.Statement.{statement}
 use Rattle.view.proofs.find_in.Tie as tie
@@ -40,7 +40,7 @@ look-in-requires : tie.Need-look-in-requires
 look-in-requires c κs =
     let at-if2 = c .before .before in
     let at-start = start-from-else1 (at-if2 .before) in
-    held-by (now (at-start .args .s)) (at-start .args .at) (c .count-from .ensures) (at-if2 .if2 .left)
+    table-long (now (at-start .args .s)) (at-start .args .at) (c .count-from .ensures) (at-if2 .if2 .left)
 
 returns-3 : tie.Need-returns-3
 unfolding foundFrom

@@ -1,6 +1,6 @@
 -- A view that is opened of a sheet finds what the look-up says. Assumes nothing.
 use mathlib.Core.Path.{_∙_}
-use Rattle.view.proofs.Laws.{found}
+use Rattle.view.proofs.Finding.{found}
 use borrow.Author.Needs.{needs}
 use Rattle.view.proofs.look_up.Statement.{statement}
 use Rattle.view.proofs.look_up.Tie as tie

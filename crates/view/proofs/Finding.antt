@@ -46,9 +46,9 @@ module _ (s : List ℕ) (at : ℕ) where
       simp (few, le-ltb x 0 (omega arith))
 
   -- the bytes from the offset on hold the fluents counted
-  pub held-by : {k : ℕ} → k ≡ countFrom s at → at ≤ length s → 2 * k ≤ length (part s at (length s))
+  pub table-long : {k : ℕ} → k ≡ countFrom s at → at ≤ length s → 2 * k ≤ length (part s at (length s))
   unfolding countFrom
-  held-by {k} e l =
+  table-long {k} e l =
       let half : k ≤ (length s - at) / 2 =
       elim (decLt (length s) 18) [
         | yes h ↦ rw e (simp (lt-ltb (length s) 18 h) (omega arith))
