@@ -20,9 +20,9 @@ use Rattle.sheet.specs.declared.Checked.{Checked}
 use Rattle.sheet.specs.declared.Checked.the-variants as checked
 use Rattle.demands.specs.Decoded.{boundOf}
 use Rattle.demands.specs.Planning as meant
-use Rattle.demands.specs.Planning.{planOf, replayOf, replied, acceptsOf, answer, verdictOf, NoPlanAtAll, NoPlanWithinBound}
+use Rattle.demands.specs.Planning.{planOf, replied, acceptsOf, answer, verdictOf, NoPlanAtAll, NoPlanWithinBound}
 use Rattle.demands.proofs.Demands.{plan-is, replay-is, thirteen-exactly, fourteen-exactly}
-use Rattle.planner.specs.Answers.{Stage, refused, searching, withWork, planStage, planChecked, answerAs, planAt, answerOf, replayStage, replayChecked, reply, replayAt, replyOf}
+use Rattle.planner.specs.Answers.{Stage, refused, searching, withWork, planChecked, answerAs, planAt, answerOf, replayChecked, reply, replayAt, replyOf}
 use Rattle.planner.specs.Numbers.{planNumber, planPlace, replyNumber, replyPlace, sizesNumber, sizesPlace}
 use Rattle.planner.specs.Causes.{required, PlanCause, ReplayCause}
 use Rattle.planner.specs.Sizes.{sizedAs, sizesOf}

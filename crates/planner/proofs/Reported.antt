@@ -14,7 +14,7 @@ use Rattle.sheet.specs.Check.{checkOf}
 use Rattle.sheet.specs.declared.Checked.the-variants.{Accepted}
 use Rattle.demands.specs.Decoded.{worldOf, boundOf, firstOf}
 use Rattle.demands.specs.Planning as meant
-use Rattle.demands.specs.Planning.{answer, verdictOf, acceptsOf, RunOf}
+use Rattle.demands.specs.Planning.{answer, verdictOf, acceptsOf}
 use Rattle.demands.proofs.Demands.{plan-is, replay-is, plan-transitions, longer-no}
 use Rattle.search.specs.Outcome.{lay, ReportsVerdict, Reported, isFound}
 use Rattle.search.specs.Searching.{verdictFrom}

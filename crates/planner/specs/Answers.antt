@@ -1,8 +1,8 @@
 -- To be believed: what planning and replay answer and leave, for every input (document 01, "Work area" and "Who can cause which number"),
 -- over what `demands` says of the sheet alone. Which plan and which t come out the papers leave free: here those of `planOf`, the first
 -- found depth first in listed order; what holds of them is in proofs/Demands.antt. Assumes nothing.
-use Prim.Native.Nat.{ℕ, _-_}
-use mathlib.Core.Bool.{Bool, true, false, cond}
+use Prim.Native.Nat.{ℕ}
+use mathlib.Core.Bool.{true, false, cond}
 use mathlib.Core.List.{List, _++_}
 use lib.ListN.{length, drop, replicate}
 use lib.Dec.{ltb}

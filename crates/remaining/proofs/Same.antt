@@ -2,7 +2,7 @@
 -- by kind; so do, along the table, those of every record; so do those of a tree over records. Assumes nothing.
 use Prim.Native.Nat.{ℕ}
 use mathlib.Core.Bool.{Bool, true, false, not, cond, _&&_, _||_}
-use mathlib.Core.List.{List, [], _∷_, _++_, map, map-map, map-append, append-nil}
+use mathlib.Core.List.{List, [], _∷_, _++_, map, map-append, append-nil}
 use mathlib.Core.Option.{Option, none, some}
 use mathlib.Core.Path.{_≡_, refl, sym, _∙_, ap, ap₂, subst}
 use lib.Dec.{T, eqb}
@@ -15,7 +15,7 @@ use Rattle.golog.specs.Prog.{Prog, sequence, together, over, star, iteration, w
 use Rattle.runs.specs.Guide.{only}
 use Rattle.golog.specs.Transitions.{Transition, onProg, isNone, final, transitions}
 use Rattle.remaining.specs.Rest.{Rest, gone, leaf, node, unfolded, AllLower}
-use Rattle.remaining.specs.Leaves.{RestTransition, onRest, Leaf, nilLeaf, leafWith, leafAt, leafOf, restFinal, restTransitions, Compact, compactTransitions, compactFinal, unfoldedTransition}
+use Rattle.remaining.specs.Leaves.{RestTransition, onRest, Leaf, nilLeaf, leafWith, leafAt, leafOf, restFinal, restTransitions, Compact, compactFinal}
 use Rattle.remaining.proofs.Entries.{entry-rule, lower-a, lower-b, program-step}
 
 -- the transition that one stands for, from the state s
@@ -198,7 +198,3 @@ module _ (W : World) (s : State) (p : ℕ → Program) where
 -- a held configuration is final where the one that it stands for is
 pub final-same : (W : World) (p : ℕ → Program) → AllLower p → (c : Compact) → compactFinal W p c ≡ final W (unfolded p (c .0)) (c .1)
 final-same W p low c = rest-final W (c .1) p low (c .0)
-
--- and has its transitions
-pub moves-same : (W : World) (p : ℕ → Program) → AllLower p → (c : Compact) → map (unfoldedTransition p) (compactTransitions W p c) ≡ transitions W (unfolded p (c .0)) (c .1)
-moves-same W p low c = map-map (unfoldedTransition p) (λ (x : RestTransition). (x .0, (x .1, after W (x .0) (c .1)))) (restTransitions W (c .1) p (c .0)) ∙ rest-steps W (c .1) p low (c .0)

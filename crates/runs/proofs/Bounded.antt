@@ -1,13 +1,12 @@
 -- The search over frames serves planning and replay: with a free guide and no moves it is the plain search, and with a closed guide
 -- what it says at the bound does not matter, since no plan comes of it. Assumes nothing.
 use Prim.Native.Nat.{ℕ, zero, suc}
-use mathlib.Core.Bool.{Bool, true, false, _&&_, _||_}
-use mathlib.Core.List.{List, [], _∷_, _++_, List·Memᴰ, List·Memᴰ·head, List·Memᴰ·tail}
+use mathlib.Core.Bool.{Bool, true, false, _||_}
+use mathlib.Core.List.{List, [], _∷_, _++_}
 use mathlib.Core.Option.{Option, none, some}
 use mathlib.Core.Path.{_≡_, refl, sym, _∙_, ap, ap₂}
-use lib.Dec.{eqb}
 use Rattle.runs.specs.Search.{Verdict, plan, nothing, more, isPlan, before, tries, anyTransition, unless, search}
-use Rattle.runs.specs.Guide.{isNil, only, follow1, follow, guidedTransitions, guidedFinal, accepts}
+use Rattle.runs.specs.Guide.{follow, guidedTransitions, guidedFinal, accepts}
 use Rattle.runs.specs.Bounded.{verdictWithin, join}
 
 -- the verdict on two rows of transitions, one after the other

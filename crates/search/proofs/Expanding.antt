@@ -1,6 +1,6 @@
 -- The loop over the transitions ahead of a visit's cursor: what is known by now, beside the verdict on those still ahead, is the verdict on
 -- all. The tables for the visit's depth stand while what a transition led to was searched, or are filled again. Assumes nothing.
-use Prim.Native.Nat.{ℕ, _+_, _-_, _≤_, _<_}
+use Prim.Native.Nat.{ℕ, _+_, _-_, _≤_}
 use native.Mathlib.Omega.{arith}
 use mathlib.Core.Bool.{Bool, true, false, true≢false}
 use mathlib.Core.List.{List, [], _∷_}

@@ -8,15 +8,15 @@ use mathlib.Core.List.{List, [], _∷_, append-nil}
 use mathlib.Core.Option.{Option, none, some}
 use mathlib.Core.Path.{_≡_, refl, sym, _∙_, ap, ap₂, subst}
 use lib.ListN.{length, set}
-use Rattle.runs.specs.Search.{Verdict, plan, nothing, more, isPlan, before, tries}
+use Rattle.runs.specs.Search.{Verdict, plan, nothing, more, before, tries}
 use Rattle.runs.specs.Guide.{only, follow1, follow}
 use Rattle.runs.specs.Bounded.{join, flagged}
-use Rattle.runs.proofs.Joined.{flag-nothing, join-assoc, before-flag, no-plan}
+use Rattle.runs.proofs.Joined.{flag-nothing, join-assoc, before-flag}
 use Rattle.runs.proofs.Bounded.{tries-append}
 use Rattle.search.specs.Outcome.{ReportsVerdict, Reported, isFound, isMore, told}
 use Rattle.search.specs.Moves.{passes, leftOver, entries, noted}
 use Rattle.search.specs.declared.Outcome.{Outcome}
-use Rattle.search.specs.declared.Outcome.the-variants.{Found, More}
+use Rattle.search.specs.declared.Outcome.the-variants.{Found}
 
 pub says-flag : (n d : ℕ) (trace : List ℕ) (cut : Bool) → ReportsVerdict n d trace trace (told cut) (flagged cut)
 says-flag n d trace true = (refl, refl)
@@ -31,10 +31,6 @@ told-more false = (refl, refl)
 pub noted-none : (m : Option ℕ) (n : ℕ) (o : Outcome) (trace : List ℕ) → isFound o ≡ false → noted m n o trace ≡ trace
 noted-none none n o trace e = refl
 noted-none (some a) n o trace e = ap (λ (b : Bool). cond b (set trace n a) trace) e
-
--- and the answer is that
-pub more-reported : (n d : ℕ) (trace : List ℕ) (cut : Bool) (v : Verdict) → cut ≡ true → isPlan v ≡ false → Reported n d trace trace More (join (flagged cut) v)
-more-reported n d trace cut v e h = record { says = subst (ReportsVerdict n d trace trace More) (sym (no-plan cut v e h)) (refl, refl) }
 
 -- a verdict that is a flag, told
 pub flag-reported : (n d : ℕ) (cut : Bool) {trace trace′ : List ℕ} {o : Outcome} {v : Verdict} → flagged cut ≡ v → o ≡ told cut → trace′ ≡ trace → Reported n d trace trace′ o v

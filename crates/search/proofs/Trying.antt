@@ -6,7 +6,7 @@ use mathlib.Core.Bool.{Bool, true, false, true≢false}
 use mathlib.Core.List.{List, [], _∷_}
 use mathlib.Core.Option.{Option}
 use mathlib.Core.Path.{_≡_, refl, sym, _∙_, ap, subst}
-use lib.ListN.{length, drop}
+use lib.ListN.{drop}
 use Rattle.golog.specs.declared.State.{State}
 use Rattle.golog.specs.Prog.{Prog}
 use Rattle.golog.specs.Transitions.{Configuration, Transition, isNone}

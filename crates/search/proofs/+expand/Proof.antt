@@ -8,7 +8,7 @@ use native.Mathlib.Omega.{arith}
 use borrow.Author.Tests.{not-true, not-false}
 use lib.ListN.{length}
 use Rattle.engine.specs.Going.{aheadOf}
-use Rattle.search.specs.Searching.{Ready, Going}
+use Rattle.search.specs.Searching.{Going}
 use Rattle.search.proofs.Expanding.{Loop, Turn, Searched, Dealt, begin, standing, onward, turned, going, all-tried, held, passed, seen, deeper, went, as-left}
 use Rattle.search.proofs.Trying.{can, leads, small, child}
 use borrow.Author.Needs.{needs}

@@ -2,11 +2,9 @@
 -- Assumes nothing.
 use denote.Ref.{now}
 use mathlib.Core.Bool.{Bool, false≢true, _&&_}
-use mathlib.Core.Path.{_≡_, refl, sym, _∙_, ap}
+use mathlib.Core.Path.{_∙_, ap}
 use Prim.Native.Nat.{_≤_}
 use native.Mathlib.Omega.{arith}
-use borrow.Author.Tests.{not-true, not-false}
-use lib.ListN.{drop}
 use Rattle.runs.specs.Guide.{isNil}
 use Rattle.runs.specs.Bounded.{join, flagged}
 use Rattle.search.specs.Searching.{configured, toMake}

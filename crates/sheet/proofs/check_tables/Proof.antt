@@ -1,5 +1,4 @@
 -- A table has a faulty record, after tables that have none; or no table has one. Assumes nothing.
-use Prim.Native.Nat.{ℕ}
 use mathlib.Core.Path.{_∙_, ap}
 use native.Mathlib.Omega.{arith}
 use Rattle.sheet.specs.Check.{tablesChecked}

@@ -1,26 +1,13 @@
 -- The height decides between 9 and what is found, whose figures are those of the definition. Assumes nothing.
-use Prim.Native.Nat.{ℕ, _+_, _*_}
-use mathlib.Core.Bool.{Bool, cond}
-use mathlib.Core.Path.{_≡_, _∙_, ap, ap₂}
-use native.Mathlib.Omega.{arith}
-use denote.Ref.{now}
-use Rattle.records.specs.Records.{programAt}
-use Rattle.height.specs.Work.{levels, frameWords}
-use Rattle.records.proofs.Truth.{part-few}
-use Rattle.sheet.specs.Layout.{programsIn}
-use Rattle.sheet.specs.Inspection.{inspectedIn}
+use mathlib.Core.Path.{_∙_, ap, ap₂}
 use Rattle.sheet.specs.declared.Inspected.the-variants as inspected
-use Rattle.sheet.proofs.Checking.{too-high, low-enough}
 -- The height decides between 9 and what is found, whose figures are those of the definition. Assumes nothing.
 use Prim.Native.Nat.{ℕ, _+_, _*_}
 use mathlib.Core.Bool.{Bool, cond}
-use mathlib.Core.Path.{_≡_, _∙_, ap, ap₂}
 use native.Mathlib.Omega.{arith}
 use denote.Ref.{now}
-use Rattle.records.specs.Records.{programAt}
 use Rattle.height.specs.Work.{levels, frameWords}
 use Rattle.records.proofs.Truth.{part-few}
-use Rattle.sheet.specs.Layout.{programsIn}
 use Rattle.sheet.specs.Inspection.{inspectedIn}
 use Rattle.sheet.specs.declared.Inspected.the-variants as inspected
 use Rattle.sheet.proofs.Checking.{too-high, low-enough}

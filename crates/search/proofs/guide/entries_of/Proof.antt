@@ -3,7 +3,6 @@ use mathlib.Core.Path.{sym, ap}
 use native.Mathlib.Omega.{arith}
 use Rattle.engine.proofs.Codes.{is-test, is-move}
 use Rattle.search.specs.Moves.{entries}
-use borrow.Author.Needs.{needs}
 use Rattle.search.proofs.guide.entries_of.Statement.{statement}
 use Rattle.search.proofs.guide.entries_of.Tie as tie
 

@@ -6,7 +6,6 @@ use mathlib.Core.List.{List}
 use mathlib.Core.Path.{sym, ap}
 use Rattle.runs.specs.Guide.{isNil}
 use Rattle.search.proofs.Given.{next-move, no-move}
-use borrow.Author.Needs.{needs}
 use Rattle.search.proofs.guide.is_over.Statement.{statement}
 use Rattle.search.proofs.guide.is_over.Tie as tie
 

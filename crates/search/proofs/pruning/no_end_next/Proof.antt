@@ -1,7 +1,6 @@
 -- Each test that fails answers no. Assumes nothing.
 use mathlib.Core.Bool.{false≢true}
 use borrow.Author.Tests.{not-true, not-false}
-use borrow.Author.Needs.{needs}
 use Rattle.search.proofs.pruning.no_end_next.Statement.{statement}
 use Rattle.search.proofs.pruning.no_end_next.Tie as tie
 

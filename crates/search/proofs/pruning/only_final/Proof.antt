@@ -2,7 +2,6 @@
 use mathlib.Core.Bool.{false≢true, true≢false}
 use mathlib.Core.Path.{sym, _∙_}
 use borrow.Author.Tests.{eqb-true, eq-eqb}
-use borrow.Author.Needs.{needs}
 use Rattle.search.proofs.pruning.only_final.Statement.{statement}
 use Rattle.search.proofs.pruning.only_final.Tie as tie
 
