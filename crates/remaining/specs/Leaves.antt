@@ -13,8 +13,8 @@ use Rattle.kinds.specs.Programs.{acts, finalOf, ownOf, usesA, usesB, tagA, loop
 use Rattle.golog.specs.declared.State.{State}
 use Rattle.golog.specs.World.{World, holds, possible, after}
 use Rattle.runs.specs.Guide.{only}
-use Rattle.golog.specs.Transitions.{Transition, isNone}
-use Rattle.remaining.specs.Rest.{Rest, gone, leaf, node, unfolded}
+use Rattle.golog.specs.Transitions.{isNone}
+use Rattle.remaining.specs.Rest.{Rest, gone, leaf, node}
 
 -- a transition: the move, none for a test, and what it leaves. The move gives the state
 abbrev pub RestTransition : Type 0
@@ -98,7 +98,3 @@ compactTransitions W p c = map (λ (x : RestTransition). (x .0, (x .1, after W (
 
 abbrev pub compactFinal : World → (ℕ → Program) → Compact → Bool
 compactFinal W p c = restFinal W (c .1) p (c .0)
-
--- the transition that it stands for
-abbrev pub unfoldedTransition : (ℕ → Program) → Option ℕ × Compact → Transition
-unfoldedTransition p x = (x .0, (unfolded p (x .1 .0), x .1 .1))

@@ -1,7 +1,5 @@
 -- The height decides between 9 and what is found, whose figures are those of the definition. Assumes nothing.
 use mathlib.Core.Path.{_∙_, ap, ap₂}
-use Rattle.sheet.specs.declared.Inspected.the-variants as inspected
--- The height decides between 9 and what is found, whose figures are those of the definition. Assumes nothing.
 use Prim.Native.Nat.{ℕ, _+_, _*_}
 use mathlib.Core.Bool.{Bool, cond}
 use native.Mathlib.Omega.{arith}
