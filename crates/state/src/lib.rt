@@ -53,7 +53,10 @@ pub fn possible(actions: &[u8], truths: &[bool], a: usize) -> bool
 fn changes_value(e: Effect, truths: &[bool], x: usize) -> bool
     ensures { λ r. ⌜ r ≡ changes (saidBy (now (truths .entry))) e x ⌝ }
 {
-    (e.fluent == x) & records::flag_in(truths, e.condition, false)
+    if e.fluent != x {
+        return false;
+    }
+    records::flag_in(truths, e.condition, false)
 }
 
 // The new value of fluent x under an action's effects: the first one that changes it gives it.
