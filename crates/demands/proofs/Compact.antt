@@ -18,8 +18,8 @@ use Rattle.remaining.specs.Leaves.{Compact}
 use Rattle.remaining.specs.Extended.{top}
 use Rattle.remaining.proofs.Started.{table-lower, top-started, top-rise}
 use Rattle.remaining.proofs.Nodes.{Reaches, reached-nodes}
-use Rattle.demands.specs.Decoded.{worldOf, recordsOf, interruptsIn, initialOf, firstOf, boundOf}
-use Rattle.demands.specs.Compact.{extendedRecords, compactFirst, levelsOf}
+use Rattle.demands.specs.Decoded.{worldOf, recordsOf, interruptsIn, initialOf, firstOf, boundOf, levelsOf}
+use Rattle.demands.specs.Compact.{extendedRecords, compactFirst}
 
 -- the configuration that a held one stands for
 abbrev pub fullOf : (ℕ → Program) → Compact → Configuration

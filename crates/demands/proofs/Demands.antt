@@ -25,10 +25,9 @@ use Rattle.golog.proofs.Exact.{steps-exact, final-exact}
 use Rattle.sheet.specs.Check.{Accepts, checkOf}
 use Rattle.sheet.specs.declared.Checked.the-variants.{Accepted}
 use Rattle.sheet.proofs.Accepted.{trailed}
-use Rattle.demands.specs.Decoded.{worldOf, firstOf, boundOf}
+use Rattle.demands.specs.Decoded.{worldOf, firstOf, boundOf, levelsOf}
 use Rattle.demands.specs.Planning.{Goes, Ends, transitionsIn, isFinalIn, RunEndsFinal, HistoryOfRun, NoPlanAtAll, NoPlanWithinBound, NoRunEndsFinal, RunOf, refusedBy}
 use Rattle.demands.specs.Planning.{verdictOf, acceptsOf, PlanAnswer, found, answer, plannedFrom, planOf, ReplayAnswer, replied, replayedFrom, replayOf}
-use Rattle.demands.specs.Compact.{levelsOf}
 use Rattle.demands.specs.Raised.{SameButBound, withBound}
 use Rattle.demands.proofs.Tables.{world-same, first-same}
 use Rattle.demands.proofs.Raised.{tables-same, accepted-too, bound-alone, bound-put}

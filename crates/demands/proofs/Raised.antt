@@ -16,8 +16,7 @@ use Rattle.sheet.specs.declared.Layout.{Layout}
 use Rattle.sheet.specs.declared.Checked.the-variants.{Accepted}
 use Rattle.sheet.proofs.Accepted.{Trailed, trailed, trailed-checked, laid}
 use Rattle.sheet.proofs.Tables.{SameTables, figured, figureOf, checked-alike}
-use Rattle.demands.specs.Decoded.{boundOf}
-use Rattle.demands.specs.Compact.{levelsOf}
+use Rattle.demands.specs.Decoded.{boundOf, levelsOf}
 use Rattle.demands.specs.Raised.{SameButBound, withBound}
 
 -- equal bytes up to n give equal parts up to n

@@ -1,9 +1,8 @@
--- To be believed: `levelsOf`, the h of the work figure. The rest is how the engine keeps a sheet's program: as one record, of the sheet's
--- table or of the four above it; that it stands for what runs is proved in proofs/Compact.antt. Assumes nothing.
+-- Own vocabulary: how the engine keeps a sheet's program: as one record, of the sheet's table or of the four above it. That it stands for
+-- what runs is proved in proofs/Compact.antt. Assumes nothing.
 use Prim.Native.Nat.{ℕ}
 use mathlib.Core.List.{List}
 use Rattle.records.specs.declared.Program.{Program}
-use Rattle.height.specs.Work.{levels}
 use Rattle.sheet.specs.Layout.{layoutOf}
 use Rattle.remaining.specs.Rest.{leaf}
 use Rattle.remaining.specs.Leaves.{Compact}
@@ -17,7 +16,3 @@ extendedRecords s = extended (interruptsIn s) (recordsOf s) (layoutOf s .p)
 -- the first configuration
 abbrev pub compactFirst : List ℕ → Compact
 compactFirst s = (leaf (top (interruptsIn s) (layoutOf s .p)), initialOf s)
-
--- document 01's h, "the height, plus 2 if any record has kind 11"
-abbrev pub levelsOf : List ℕ → ℕ
-levelsOf s = levels (recordsOf s) (layoutOf s .p)

@@ -8,6 +8,7 @@ use Rattle.records.specs.Records.{fluentAt, programAt}
 use Rattle.records.specs.Table.{upTo}
 use Rattle.records.specs.declared.Program.{Program}
 use Rattle.height.specs.Height.{interrupts}
+use Rattle.height.specs.Work.{levels}
 use Rattle.sheet.specs.Layout.{layoutOf, fluentsIn, formulasIn, effectsIn, actionsIn, programsIn}
 use Rattle.golog.specs.declared.State.{State}
 use Rattle.golog.specs.World.{World}
@@ -41,6 +42,10 @@ interruptsIn s = interrupts (recordsOf s) (layoutOf s .p)
 -- the first configuration: what runs, and the initial values. "The last program record is the root"
 abbrev pub firstOf : List ℕ → Configuration
 firstOf s = (started (interruptsIn s) (programOf (recordsOf s) (layoutOf s .p - 1)), initialOf s)
+
+-- the h of the work figure, "the height, plus 2 if any record has kind 11"
+abbrev pub levelsOf : List ℕ → ℕ
+levelsOf s = levels (recordsOf s) (layoutOf s .p)
 
 -- the bound D
 abbrev pub boundOf : List ℕ → ℕ

@@ -20,8 +20,8 @@ use Rattle.remaining.specs.Rest.{unfolded, nodes, high, largest}
 use Rattle.remaining.specs.Leaves.{RestTransition, restTransitions}
 use Rattle.remaining.specs.Extended.{top}
 use Rattle.remaining.proofs.Nodes.{step-nodes, step-high, step-number}
-use Rattle.demands.specs.Decoded.{interruptsIn, firstOf, boundOf}
-use Rattle.demands.specs.Compact.{extendedRecords, compactFirst, levelsOf}
+use Rattle.demands.specs.Decoded.{interruptsIn, firstOf, boundOf, levelsOf}
+use Rattle.demands.specs.Compact.{extendedRecords, compactFirst}
 use Rattle.demands.proofs.Compact.{all-lower, starts, top-levels}
 use Rattle.leaves.specs.Tallies.{extendedSize}
 use Rattle.words.specs.Words.{At, Stands, Room}

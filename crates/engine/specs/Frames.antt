@@ -7,8 +7,8 @@ use lib.ListN.{length}
 use Rattle.height.specs.Work.{header, frameWords}
 use Rattle.golog.specs.Prog.{Prog}
 use Rattle.remaining.specs.Rest.{Rest, unfolded, nodes, high}
-use Rattle.demands.specs.Decoded.{boundOf}
-use Rattle.demands.specs.Compact.{extendedRecords, levelsOf}
+use Rattle.demands.specs.Decoded.{boundOf, levelsOf}
+use Rattle.demands.specs.Compact.{extendedRecords}
 use Rattle.words.specs.Words.{At, Kept}
 use Rattle.ends.specs.Ends.{InTable}
 use Rattle.engine.specs.Tables.{extendedSizeOf}

@@ -19,8 +19,7 @@ use Rattle.sheet.specs.Notes.{FirstRecord, withNotes}
 use Rattle.sheet.proofs.OtherNotes.{check-same, tables-same}
 use Rattle.sheet.specs.declared.Checked.{Checked}
 use Rattle.sheet.specs.declared.Checked.the-variants as checked
-use Rattle.demands.specs.Decoded.{boundOf}
-use Rattle.demands.specs.Compact.{levelsOf}
+use Rattle.demands.specs.Decoded.{boundOf, levelsOf}
 use Rattle.demands.specs.Planning as meant
 use Rattle.demands.specs.Planning.{planOf, replayOf, answer, verdictOf, acceptsOf}
 use Rattle.demands.specs.Planning.{RunEndsFinal, HistoryOfRun, NoPlanAtAll, NoPlanWithinBound, NoRunEndsFinal, RunOf}

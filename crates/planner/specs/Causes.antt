@@ -6,8 +6,7 @@ use mathlib.Core.Logic.{_⊎_}
 use Prim.Native.Nat.{ℕ, _<_}
 use Rattle.height.specs.Work.{workWords}
 use Rattle.sheet.specs.Causes.{Cause}
-use Rattle.demands.specs.Decoded.{boundOf}
-use Rattle.demands.specs.Compact.{levelsOf}
+use Rattle.demands.specs.Decoded.{boundOf, levelsOf}
 use Rattle.demands.specs.Planning.{NoPlanAtAll, NoPlanWithinBound}
 
 -- "Planning and replay require (D + 1) × (64 + 3 × (1 + 2 × h × D)) u32 words"
