@@ -88,15 +88,16 @@ module _
           same = λ y. let few = leb-false 8 (q .left) (sym z ∙ y) in F (q .depth) (omega arith) (omega arith);
         }
 
+-- from where a transition leads, and from all of a list
+abbrev from-next : List ℕ → Task → Visit → Configuration × List ℕ → Verdict
+from-next s t q d = verdictFrom s (t .free) (q .left - 1) d
+
+abbrev rows : (s moves : List ℕ) → Task → Visit → List Transition → Verdict
+rows s moves t q xs = branchesOf s (t .free) (q .left) (toMake moves q) xs
+
 -- as the loop began
 module _ (trace : List ℕ) (ran : Bool) {s w moves : List ℕ} {t : Task} {q : Visit} {start : Cursor} {flags : List Bool} {numbers : List ℕ}
     (g : Going s w moves (length trace) t q start flags numbers) where
-  abbrev from-next : Configuration × List ℕ → Verdict
-  from-next d = verdictFrom s (t .free) (q .left - 1) d
-
-  abbrev rows : List Transition → Verdict
-  rows xs = branchesOf s (t .free) (q .left) (toMake moves q) xs
-
   -- where it has come to
   pub record Loop (w′ trace′ : List ℕ) (flags′ : List Bool) (numbers′ : List ℕ) (cut : Bool) (k : Cursor) (stale : Bool) : Type 0 where
     pub trace-same : trace′ ≡ trace
@@ -104,7 +105,7 @@ module _ (trace : List ℕ) (ran : Bool) {s w moves : List ℕ} {t : Task} {q : 
     pub intact : stale ≡ false → Surveyed s (q .state) (q .depth) flags′ numbers′
     pub ahead : List Transition
     pub listed : Ahead s (configured q (g .program)) k ahead
-    pub same : join (flagged cut) (rows ahead) ≡ join (flagged ran) (rows (g .ahead))
+    pub same : join (flagged cut) (rows s moves t q ahead) ≡ join (flagged ran) (rows s moves t q (g .ahead))
 
   pub begin : Loop w trace flags numbers ran start false
   begin = record {
@@ -116,119 +117,128 @@ module _ (trace : List ℕ) (ran : Bool) {s w moves : List ℕ} {t : Task} {q : 
     same = refl;
   }
 
-  module _ {w′ trace′ : List ℕ} {flags′ : List Bool} {numbers′ : List ℕ} {cut : Bool} {k : Cursor} {stale : Bool} (L : Loop w′ trace′ flags′ numbers′ cut k stale) where
-    abbrev pub standing : Frame s (q .left) w′ (q .depth) (g .program)
-    standing = frame-kept (g .ready .visited .frame) w′ (L .preserves .kept)
+module _
+    {trace : List ℕ} {ran : Bool} {s w moves : List ℕ} {t : Task} {q : Visit} {start : Cursor} {flags : List Bool} {numbers : List ℕ}
+    {g : Going s w moves (length trace) t q start flags numbers}
+    {w′ trace′ : List ℕ} {flags′ : List Bool} {numbers′ : List ℕ} {cut : Bool} {k : Cursor} {stale : Bool}
+    (L : Loop trace ran g w′ trace′ flags′ numbers′ cut k stale) where
+  abbrev pub standing : Frame s (q .left) w′ (q .depth) (g .program)
+  standing = frame-kept (g .ready .visited .frame) w′ (L .preserves .kept)
 
-    -- the visit goes on, with the tables of its state
-    abbrev pub onward : {flags₁ : List Bool} {numbers₁ : List ℕ} → Surveyed s (q .state) (q .depth) flags₁ numbers₁ → Going s w′ moves (length trace′) t q k flags₁ numbers₁
-    onward S =
-        let r = g .ready in
-        let e = ap length (L .trace-same) in
-        record {
-          program = g .program;
-          ready =
-              record {
-                visited = record { of = r .visited .of; frame = standing; used-up = r .visited .used-up };
-                traced = omega (arith, r .traced, e);
-                few = r .few;
-                deep = r .deep;
-              };
-          some-left = g .some-left;
-          surveyed = S;
-          ahead = L .ahead;
-          listed = L .listed;
-        }
+  -- the visit goes on, with the tables of its state
+  abbrev pub onward : {flags₁ : List Bool} {numbers₁ : List ℕ} → Surveyed s (q .state) (q .depth) flags₁ numbers₁ → Going s w′ moves (length trace′) t q k flags₁ numbers₁
+  onward S =
+      let r = g .ready in
+      let e = ap length (L .trace-same) in
+      record {
+        program = g .program;
+        ready =
+            record {
+              visited = record { of = r .visited .of; frame = standing; used-up = r .visited .used-up };
+              traced = omega (arith, r .traced, e);
+              few = r .few;
+              deep = r .deep;
+            };
+        some-left = g .some-left;
+        surveyed = S;
+        ahead = L .ahead;
+        listed = L .listed;
+      }
 
-    -- none is ahead any more
-    pub all-tried : isNone (L .ahead) ≡ true → {o : Outcome} → o ≡ told cut → Expanded s w moves trace trace′ t q ran start flags numbers o
-    all-tried e {o} eo h = subst (λ (xs : List Transition). Reported (q .n) (q .depth) trace trace′ o (branchesAt s moves t q ran xs)) (ahead-same g h) (go (L .ahead) e (L .same))
-      where
-        go :
-            (xs : List Transition) → isNone xs ≡ true → join (flagged cut) (rows xs) ≡ join (flagged ran) (rows (g .ahead))
-            → Reported (q .n) (q .depth) trace trace′ o (branchesAt s moves t q ran (g .ahead))
-        go [] e same = flag-reported (q .n) (q .depth) cut (sym (tried-none from-next (t .free) (toMake moves q) cut) ∙ same) eo (L .trace-same)
-        go (x ∷ xs) e same = absurd (true≢false (sym e))
+  -- none is ahead any more
+  pub all-tried : isNone (L .ahead) ≡ true → {o : Outcome} → o ≡ told cut → Expanded s w moves trace trace′ t q ran start flags numbers o
+  all-tried e {o} eo h = subst (λ (xs : List Transition). Reported (q .n) (q .depth) trace trace′ o (branchesAt s moves t q ran xs)) (ahead-same g h) (go (L .ahead) e (L .same))
+    where
+      go :
+          (xs : List Transition) → isNone xs ≡ true → join (flagged cut) (rows s moves t q xs) ≡ join (flagged ran) (rows s moves t q (g .ahead))
+          → Reported (q .n) (q .depth) trace trace′ o (branchesAt s moves t q ran (g .ahead))
+      go [] e same = flag-reported (q .n) (q .depth) cut (sym (tried-none (from-next s t q) (t .free) (toMake moves q) cut) ∙ same) eo (L .trace-same)
+      go (x ∷ xs) e same = absurd (true≢false (sym e))
 
-    -- a transition was made: the tables are those of the visit, and frames up to its own stand
-    pub record Turn (w₁ : List ℕ) (flags₁ : List Bool) (numbers₁ : List ℕ) (x : Taken) : Type 0 where
-      pub surveyed : Surveyed s (q .state) (q .depth) flags₁ numbers₁
-      pub filled : Filled (q .depth) (q .depth) flags′ flags₁ numbers′ numbers₁
-      pub kept : KeptFrames s (q .depth) w′ w₁
-      pub first : First s q (g .program) (L .ahead) w₁ x
+  -- a transition was made: the tables are those of the visit, and frames up to its own stand
+  pub record Turn (w₁ : List ℕ) (flags₁ : List Bool) (numbers₁ : List ℕ) (x : Taken) : Type 0 where
+    pub surveyed : Surveyed s (q .state) (q .depth) flags₁ numbers₁
+    pub filled : Filled (q .depth) (q .depth) flags′ flags₁ numbers′ numbers₁
+    pub kept : KeptFrames s (q .depth) w′ w₁
+    pub first : First s q (g .program) (L .ahead) w₁ x
 
-    pub turned :
-        {w₁ : List ℕ} {flags₁ : List Bool} {numbers₁ : List ℕ} {x : Taken} → Surveyed s (q .state) (q .depth) flags₁ numbers₁ → Filled (q .depth) (q .depth) flags′ flags₁ numbers′ numbers₁
-        → GoesOn s (q .state) (q .depth) k w′ w₁ x → isNone (L .ahead) ≡ false → Turn w₁ flags₁ numbers₁ x
-    turned S Z M some = record { surveyed = S; filled = Z; kept = M .kept; first = first (onward S) M some }
+  pub turned :
+      {w₁ : List ℕ} {flags₁ : List Bool} {numbers₁ : List ℕ} {x : Taken} → Surveyed s (q .state) (q .depth) flags₁ numbers₁ → Filled (q .depth) (q .depth) flags′ flags₁ numbers′ numbers₁
+      → GoesOn s (q .state) (q .depth) k w′ w₁ x → isNone (L .ahead) ≡ false → Turn w₁ flags₁ numbers₁ x
+  turned S Z M some = record { surveyed = S; filled = Z; kept = M .kept; first = first (onward S) M some }
 
-    -- it was dealt with: a plan is that of all; else the loop goes on from the cursor after it
-    pub record Dealt (x : Taken) (w″ trace″ : List ℕ) (flags″ : List Bool) (numbers″ : List ℕ) (o : Outcome) (stale″ : Bool) : Type 0 where
-      pub preserves : Preserves s w w″ q flags flags″ numbers numbers″
-      pub plan : isFound o ≡ true → Expanded s w moves trace trace″ t q ran start flags numbers o
-      pub on : isFound o ≡ false → Loop w″ trace″ flags″ numbers″ (isMore o) (x .cursor) stale″
+  -- it was dealt with: a plan is that of all; else the loop goes on from the cursor after it
+  pub record Dealt (x : Taken) (w″ trace″ : List ℕ) (flags″ : List Bool) (numbers″ : List ℕ) (o : Outcome) (stale″ : Bool) : Type 0 where
+    pub preserves : Preserves s w w″ q flags flags″ numbers numbers″
+    pub plan : isFound o ≡ true → Expanded s w moves trace trace″ t q ran start flags numbers o
+    pub on : isFound o ≡ false → Loop trace ran g w″ trace″ flags″ numbers″ (isMore o) (x .cursor) stale″
 
-    module _ {flags₁ : List Bool} {numbers₁ : List ℕ} {w₁ : List ℕ} {x : Taken} (T : Turn w₁ flags₁ numbers₁ x) where
-      abbrev pub going : Going s w′ moves (length trace′) t q k flags₁ numbers₁
-      going = onward (T .surveyed)
+module _
+    {trace : List ℕ} {ran : Bool} {s w moves : List ℕ} {t : Task} {q : Visit} {start : Cursor} {flags : List Bool} {numbers : List ℕ}
+    {g : Going s w moves (length trace) t q start flags numbers}
+    {w′ trace′ : List ℕ} {flags′ : List Bool} {numbers′ : List ℕ} {cut : Bool} {k : Cursor} {stale : Bool}
+    {L : Loop trace ran g w′ trace′ flags′ numbers′ cut k stale}
+    {flags₁ : List Bool} {numbers₁ : List ℕ} {w₁ : List ℕ} {x : Taken} (T : Turn L w₁ flags₁ numbers₁ x) where
+  abbrev pub going : Going s w′ moves (length trace′) t q k flags₁ numbers₁
+  going = onward L (T .surveyed)
 
-      dealt :
-          {w″ trace″ : List ℕ} {flags″ : List Bool} {numbers″ : List ℕ} {o : Outcome} {stale″ : Bool}
-          → Reported (q .n) (q .depth) trace′ trace″ o (branchesAt s moves t q cut (T .first .step ∷ []))
-          → Preserves s w w″ q flags flags″ numbers numbers″ → (stale″ ≡ false → SameTables (q .depth) flags₁ flags″ numbers₁ numbers″)
-          → Dealt x w″ trace″ flags″ numbers″ o stale″
-      dealt {w″} {trace″} {flags″} {numbers″} {o} {stale″} R P same = record { preserves = P; plan = plan; on = on }
-        where
-          F : First s q (g .program) (L .ahead) w₁ x
-          F = T .first
+  dealt :
+      {w″ trace″ : List ℕ} {flags″ : List Bool} {numbers″ : List ℕ} {o : Outcome} {stale″ : Bool}
+      → Reported (q .n) (q .depth) trace′ trace″ o (branchesAt s moves t q cut (T .first .step ∷ []))
+      → Preserves s w w″ q flags flags″ numbers numbers″ → (stale″ ≡ false → SameTables (q .depth) flags₁ flags″ numbers₁ numbers″)
+      → Dealt L x w″ trace″ flags″ numbers″ o stale″
+  dealt {w″} {trace″} {flags″} {numbers″} {o} {stale″} R P same = record { preserves = P; plan = plan; on = on }
+    where
+      F : First s q (g .program) (L .ahead) w₁ x
+      F = T .first
 
-          plan : isFound o ≡ true → Expanded s w moves trace trace″ t q ran start flags numbers o
-          plan y h =
-              subst (λ (xs : List Transition). Reported (q .n) (q .depth) trace trace″ o (branchesAt s moves t q ran xs)) (ahead-same g h)
-              (subst (λ (l : List ℕ). Reported (q .n) (q .depth) l trace″ o (branchesAt s moves t q ran (g .ahead))) (L .trace-same)
-              (subst (Reported (q .n) (q .depth) trace′ trace″ o) (ap (λ (xs : List Transition). join (flagged cut) (rows xs)) (sym (F .split)) ∙ L .same)
-              (tried-found from-next (t .free) (toMake moves q) cut (F .step) (F .later) (q .n) (q .depth) trace′ trace″ o R y)))
+      plan : isFound o ≡ true → Expanded s w moves trace trace″ t q ran start flags numbers o
+      plan y h =
+          subst (λ (xs : List Transition). Reported (q .n) (q .depth) trace trace″ o (branchesAt s moves t q ran xs)) (ahead-same g h)
+          (subst (λ (l : List ℕ). Reported (q .n) (q .depth) l trace″ o (branchesAt s moves t q ran (g .ahead))) (L .trace-same)
+          (subst (Reported (q .n) (q .depth) trace′ trace″ o) (ap (λ (xs : List Transition). join (flagged cut) (rows s moves t q xs)) (sym (F .split)) ∙ L .same)
+          (tried-found (from-next s t q) (t .free) (toMake moves q) cut (F .step) (F .later) (q .n) (q .depth) trace′ trace″ o R y)))
 
-          on : isFound o ≡ false → Loop w″ trace″ flags″ numbers″ (isMore o) (x .cursor) stale″
-          on y =
-              let m = tried-more from-next (t .free) (toMake moves q) cut (F .step) (F .later) (q .n) (q .depth) trace′ trace″ o R y in
-              record {
-                trace-same = m .0 ∙ L .trace-same;
-                preserves = P;
-                intact = λ e. stands (T .surveyed) (P .prepared) (same e);
-                ahead = F .later;
-                listed = F .made .ahead;
-                same = sym (m .1) ∙ ap (λ (xs : List Transition). join (flagged cut) (rows xs)) (sym (F .split)) ∙ L .same;
-              }
-
-      made-kept : KeptFrames s (q .depth) w w₁
-      made-kept = kept-trans _ _ _ _ _ (L .preserves .kept) (T .kept) (omega arith)
-
-      made-filled : Filled (q .depth) (q .depth + q .left) flags flags₁ numbers numbers₁
-      made-filled = filled-then (L .preserves .filled) (T .filled) (q .depth) (q .depth + q .left) (omega arith) (omega arith) (omega arith) (omega arith)
-
-      -- the guide held it back
-      pub held : passes (t .free) (toMake moves q) (moveOf (x .entry)) ≡ false → Loop w₁ trace′ flags₁ numbers₁ cut (x .cursor) false
-      held e =
-          subst (λ (b : Bool). Loop w₁ trace′ flags₁ numbers₁ b (x .cursor) false) (told-more cut .1)
-          (dealt (back going (T .first) cut trace′ e) record { kept = made-kept; prepared = T .surveyed .prepared; filled = made-filled }
-          (λ z. record { same-truths = refl; same-finals = refl; same-counts = refl }) .on (told-more cut .0))
-
-      -- the guide let it pass, and what came of where it leads was noted
-      pub passed :
-          {v : Visit} {w″ trace₂ trace″ : List ℕ} {flags″ : List Bool} {numbers″ : List ℕ} {o : Outcome} {stale″ : Bool}
-          → passes (t .free) (toMake moves q) (moveOf (x .entry)) ≡ true → Follows moves q x v
-          → Searched s w₁ w″ moves trace′ trace₂ t q v cut (leads going (T .first) cut) flags₁ flags″ numbers₁ numbers″ o stale″
-          → trace″ ≡ noted (moveOf (x .entry)) (q .n) o trace₂ → Dealt x w″ trace″ flags″ numbers″ o stale″
-      passed {trace₂ = trace₂} {o = o} e Y Q z =
-          let l = g .some-left in
-          let d = Y .depth-is in
-          let k = Y .left-is in
-          let P = Q .preserves in
-          let R = forth going (T .first) cut Y trace′ trace₂ o e (Q .reported) in
-          dealt (subst (λ (l : List ℕ). Reported (q .n) (q .depth) trace′ l o (branchesAt s moves t q cut (T .first .step ∷ []))) (sym z) R)
+      on : isFound o ≡ false → Loop trace ran g w″ trace″ flags″ numbers″ (isMore o) (x .cursor) stale″
+      on y =
+          let m = tried-more (from-next s t q) (t .free) (toMake moves q) cut (F .step) (F .later) (q .n) (q .depth) trace′ trace″ o R y in
           record {
-            kept = kept-trans _ _ _ _ _ made-kept (P .kept) (omega (arith, next-at s (q .depth), ap (frameAt s) d));
-            prepared = P .prepared;
-            filled = filled-then made-filled (P .filled) (q .depth) (q .depth + q .left) (omega arith) (omega arith) (omega arith) (omega arith);
-          } (Q .same)
+            trace-same = m .0 ∙ L .trace-same;
+            preserves = P;
+            intact = λ e. stands (T .surveyed) (P .prepared) (same e);
+            ahead = F .later;
+            listed = F .made .ahead;
+            same = sym (m .1) ∙ ap (λ (xs : List Transition). join (flagged cut) (rows s moves t q xs)) (sym (F .split)) ∙ L .same;
+          }
+
+  made-kept : KeptFrames s (q .depth) w w₁
+  made-kept = kept-trans _ _ _ _ _ (L .preserves .kept) (T .kept) (omega arith)
+
+  made-filled : Filled (q .depth) (q .depth + q .left) flags flags₁ numbers numbers₁
+  made-filled = filled-then (L .preserves .filled) (T .filled) (q .depth) (q .depth + q .left) (omega arith) (omega arith) (omega arith) (omega arith)
+
+  -- the guide did not let it pass
+  pub kept-back : passes (t .free) (toMake moves q) (moveOf (x .entry)) ≡ false → Loop trace ran g w₁ trace′ flags₁ numbers₁ cut (x .cursor) false
+  kept-back e =
+      subst (λ (b : Bool). Loop trace ran g w₁ trace′ flags₁ numbers₁ b (x .cursor) false) (told-more cut .1)
+      (dealt (back going (T .first) cut trace′ e) record { kept = made-kept; prepared = T .surveyed .prepared; filled = made-filled }
+      (λ z. record { same-truths = refl; same-finals = refl; same-counts = refl }) .on (told-more cut .0))
+
+  -- the guide let it pass, and what came of where it leads was noted
+  pub passed :
+      {v : Visit} {w″ trace₂ trace″ : List ℕ} {flags″ : List Bool} {numbers″ : List ℕ} {o : Outcome} {stale″ : Bool}
+      → passes (t .free) (toMake moves q) (moveOf (x .entry)) ≡ true → Follows moves q x v
+      → Searched s w₁ w″ moves trace′ trace₂ t q v cut (leads going (T .first) cut) flags₁ flags″ numbers₁ numbers″ o stale″
+      → trace″ ≡ noted (moveOf (x .entry)) (q .n) o trace₂ → Dealt L x w″ trace″ flags″ numbers″ o stale″
+  passed {trace₂ = trace₂} {o = o} e Y Q z =
+      let l = g .some-left in
+      let d = Y .depth-is in
+      let k = Y .left-is in
+      let P = Q .preserves in
+      let R = forth going (T .first) cut Y trace′ trace₂ o e (Q .reported) in
+      dealt (subst (λ (l : List ℕ). Reported (q .n) (q .depth) trace′ l o (branchesAt s moves t q cut (T .first .step ∷ []))) (sym z) R)
+      record {
+        kept = kept-trans _ _ _ _ _ made-kept (P .kept) (omega (arith, next-at s (q .depth), ap (frameAt s) d));
+        prepared = P .prepared;
+        filled = filled-then made-filled (P .filled) (q .depth) (q .depth + q .left) (omega arith) (omega arith) (omega arith) (omega arith);
+      } (Q .same)

@@ -9,7 +9,7 @@ use borrow.Author.Tests.{not-true, not-false}
 use lib.ListN.{length}
 use Rattle.engine.specs.Going.{aheadOf}
 use Rattle.search.specs.Searching.{Going}
-use Rattle.search.proofs.Expanding.{Loop, Turn, Searched, Dealt, begin, standing, onward, turned, going, all-tried, held, passed, seen, deeper, went, as-left}
+use Rattle.search.proofs.Expanding.{Loop, Turn, Searched, Dealt, begin, standing, onward, turned, going, all-tried, kept-back, passed, seen, deeper, went, as-left}
 use Rattle.search.proofs.Trying.{can, leads, small, child}
 use borrow.Author.Needs.{needs}
 use Prim.Native.Nat.{ℕ, _<_}
@@ -138,24 +138,18 @@ expand-is-spent-requires t c κs = search needs
 expand-refresh-requires : (t : ℕ) → expand-lts.Need-refresh-requires (claims t) (expand-at t) expand.Post expand-Inv-loop expand-μ-loop
 expand-refresh-requires t c κs =
     let at-loop = if1-from-refresh-requires c .before .before in
-    let at-start = start-from-loop at-loop in
     let g = at-loop .loop .inv .4 .0 in
     let L = at-loop .loop .inv .4 .1 in
-    let trace = now (at-start .args .trace) in
-    let ran = at-start .args .ran in
-    ((g .ready .visited .of, L .preserves .prepared, L .intact), (_, g .program, standing trace ran g L))
+    ((g .ready .visited .of, L .preserves .prepared, L .intact), (_, g .program, standing L))
 
 expand-next-requires : (t : ℕ) → expand-lts.Need-next-requires (claims t) (expand-at t) expand.Post expand-Inv-loop expand-μ-loop
 expand-next-requires t c κs =
     let at-refresh = refresh-from-next-requires c in
     let at-loop = loop-from-refresh at-refresh in
-    let at-start = start-from-loop at-loop in
     let g = at-loop .loop .inv .4 .0 in
     let L = at-loop .loop .inv .4 .1 in
-    let trace = now (at-start .args .trace) in
-    let ran = at-start .args .ran in
     let S = at-refresh .refresh .ensures .0 in
-    (g .ready .visited .of, S, can (onward trace ran g L S))
+    (g .ready .visited .of, S, can (onward L S))
 
 expand-lets-pass-requires : (t : ℕ) → expand-lts.Need-lets-pass-requires (claims t) (expand-at t) expand.Post expand-Inv-loop expand-μ-loop
 expand-lets-pass-requires t c κs = loop-from-next (next-from-lets-pass-requires c) .loop .inv .4 .0 .ready .visited .used-up
@@ -169,16 +163,14 @@ expand-follow-requires t c κs =
 turn-made : (t : ℕ) → (c : expand-lts.After-next (claims t) (expand-at t) expand.Post expand-Inv-loop expand-μ-loop) →
     let at-refresh = refresh-from-next c in
     let at-loop = loop-from-refresh at-refresh in
-    let at-start = start-from-loop at-loop in
-    Turn (now (at-start .args .trace)) (at-start .args .ran) (at-loop .loop .inv .4 .0) (at-loop .loop .inv .4 .1) (c .next .last .0) (at-refresh .refresh .last .0)
+    Turn (at-loop .loop .inv .4 .1) (c .next .last .0) (at-refresh .refresh .last .0)
     (at-refresh .refresh .last .1 .0) (c .next .result)
 turn-made t c =
     let at-refresh = refresh-from-next c in
     let at-if1 = if1-from-refresh-requires (at-refresh .before) in
     let at-is-spent = at-if1 .before in
     let at-loop = at-is-spent .before in
-    let at-start = start-from-loop at-loop in
-    turned (now (at-start .args .trace)) (at-start .args .ran) (at-loop .loop .inv .4 .0) (at-loop .loop .inv .4 .1) (at-refresh .refresh .ensures .0) (at-refresh .refresh .ensures .1)
+    turned (at-loop .loop .inv .4 .1) (at-refresh .refresh .ensures .0) (at-refresh .refresh .ensures .1)
     (c .next .ensures) (sym (at-is-spent .is-spent .ensures _ _ _ (at-loop .loop .inv .4 .1 .listed)) ∙ not-true _ (at-if1 .if1 .taken))
 
 expand-look-requires : (t : ℕ) → expand-lts.Need-look-requires (claims t) (expand-at t) expand.Post expand-Inv-loop expand-μ-loop
@@ -186,14 +178,9 @@ expand-look-requires t c κs =
     let at-follow = follow-from-look-requires c in
     let at-next = next-from-follow at-follow in
     let at-loop = loop-from-next at-next in
-    let at-start = start-from-loop at-loop in
-    let g = at-loop .loop .inv .4 .0 in
-    let L = at-loop .loop .inv .4 .1 in
-    let trace = now (at-start .args .trace) in
-    let ran = at-start .args .ran in
     let T = turn-made t at-next in
     let Y = at-follow .follow .ensures in
-    let C = child (going trace ran g L T) (T .first) (at-loop .loop .cut) Y in
+    let C = child (going T) (T .first) (at-loop .loop .cut) Y in
     (T .surveyed .prepared, (_, C .visited))
 
 expand-expand-requires : (t : ℕ) → expand-lts.Need-expand-requires (claims t) (expand-at t) expand.Post expand-Inv-loop expand-μ-loop
@@ -205,12 +192,9 @@ expand-expand-requires t c κs =
     let at-loop = loop-from-next at-next in
     let at-start = start-from-loop at-loop in
     let g = at-loop .loop .inv .4 .0 in
-    let L = at-loop .loop .inv .4 .1 in
-    let trace = now (at-start .args .trace) in
-    let ran = at-start .args .ran in
     let T = turn-made t at-next in
     let Y = at-follow .follow .ensures in
-    let C = child (going trace ran g L T) (T .first) (at-loop .loop .cut) Y in
+    let C = child (going T) (T .first) (at-loop .loop .cut) Y in
     let l = g .some-left in
     (omega (arith, at-start .pre .0, Y .left-is), deeper (at-loop .loop .trace) Y C (at-look .look .ensures) (not-true _ (at-if3 .if3 .taken)))
 
@@ -222,15 +206,11 @@ searched : (t : ℕ) → (c : expand-lts.Joined3 (claims t) (expand-at t) expand
     let at-refresh = refresh-from-next at-next in
     let at-loop = loop-from-refresh at-refresh in
     let at-start = start-from-loop at-loop in
-    let g = at-loop .loop .inv .4 .0 in
-    let L = at-loop .loop .inv .4 .1 in
-    let trace = now (at-start .args .trace) in
-    let ran = at-start .args .ran in
     let T = turn-made t at-next in
     (length (c .if3 .work) ≡ length (now (at-start .args .work))) × (length (c .if3 .trace) ≡ length (now (at-start .args .trace)))
     × (length (c .if3 .flags) ≡ length (now (at-start .args .flags))) × (length (c .if3 .numbers) ≡ length (now (at-start .args .numbers)))
     × Searched (now (at-start .args .s)) (at-next .next .last .0) (c .if3 .work) (now (at-start .args .moves)) (at-loop .loop .trace) (c .if3 .trace) (at-start .args .t) (at-start .args .q)
-    (at-follow .follow .result) (at-loop .loop .cut) (leads (going trace ran g L T) (T .first) (at-loop .loop .cut)) (at-refresh .refresh .last .0) (c .if3 .flags)
+    (at-follow .follow .result) (at-loop .loop .cut) (leads (going T) (T .first) (at-loop .loop .cut)) (at-refresh .refresh .last .0) (c .if3 .flags)
     (at-refresh .refresh .last .1 .0) (c .if3 .numbers) (c .if3 .o) (c .if3 .stale)
 searched t c =
     let at-look = look-from-joined3 c in
@@ -238,14 +218,10 @@ searched t c =
     let at-next = next-from-follow at-follow in
     let at-refresh = refresh-from-next at-next in
     let at-loop = loop-from-refresh at-refresh in
-    let at-start = start-from-loop at-loop in
     let g = at-loop .loop .inv .4 .0 in
-    let L = at-loop .loop .inv .4 .1 in
-    let trace = now (at-start .args .trace) in
-    let ran = at-start .args .ran in
     let T = turn-made t at-next in
     let Y = at-follow .follow .ensures in
-    let C = child (going trace ran g L T) (T .first) (at-loop .loop .cut) Y in
+    let C = child (going T) (T .first) (at-loop .loop .cut) Y in
     let work-long = at-next .next .kept .0 ∙ at-loop .loop .inv .0 in
     let trace-long = at-loop .loop .inv .1 in
     let flags-long = at-look .look .kept .0 ∙ at-refresh .refresh .kept .0 ∙ at-loop .loop .inv .2 in
@@ -273,23 +249,18 @@ expand-note-requires t c κs =
     let at-if3 = c .before in
     let at-next = next-from-joined3 at-if3 in
     let at-loop = loop-from-next at-next in
-    let at-start = start-from-loop at-loop in
     let g = at-loop .loop .inv .4 .0 in
-    let L = at-loop .loop .inv .4 .1 in
-    let trace = now (at-start .args .trace) in
-    let ran = at-start .args .ran in
     let T = turn-made t at-next in
     let r = g .ready in
     let l = g .some-left in
-    (omega (arith, r .traced, searched t at-if3 .1), small (going trace ran g L T) (T .first) (at-loop .loop .cut))
+    (omega (arith, r .traced, searched t at-if3 .1), small (going T) (T .first) (at-loop .loop .cut))
 
 -- the transition is dealt with
 noted-dealt : (t : ℕ) → (c : expand-lts.After-note (claims t) (expand-at t) expand.Post expand-Inv-loop expand-μ-loop) →
     let at-if3 = if3-from-note c in
     let at-next = next-from-joined3 at-if3 in
     let at-loop = loop-from-next at-next in
-    let at-start = start-from-loop at-loop in
-    Dealt (now (at-start .args .trace)) (at-start .args .ran) (at-loop .loop .inv .4 .0) (at-loop .loop .inv .4 .1) (at-next .next .result) (at-if3 .if3 .work) (c .note .last .0)
+    Dealt (at-loop .loop .inv .4 .1) (at-next .next .result) (at-if3 .if3 .work) (c .note .last .0)
     (at-if3 .if3 .flags) (at-if3 .if3 .numbers) (at-if3 .if3 .o) (at-if3 .if3 .stale)
 noted-dealt t c =
     let at-if3 = if3-from-note c in
@@ -298,13 +269,8 @@ noted-dealt t c =
     let at-lets-pass = at-if2 .before in
     let at-next = next-from-lets-pass at-lets-pass in
     let at-loop = loop-from-next at-next in
-    let at-start = start-from-loop at-loop in
-    let g = at-loop .loop .inv .4 .0 in
-    let L = at-loop .loop .inv .4 .1 in
-    let trace = now (at-start .args .trace) in
-    let ran = at-start .args .ran in
     let T = turn-made t at-next in
-    passed trace ran g L T (sym (at-lets-pass .lets-pass .ensures) ∙ at-if2 .if2 .taken) (at-follow .follow .ensures) (searched t at-if3 .4) (c .note .ensures .1)
+    passed T (sym (at-lets-pass .lets-pass .ensures) ∙ at-if2 .if2 .taken) (at-follow .follow .ensures) (searched t at-if3 .4) (c .note .ensures .1)
 
 expand-same-length : (t : ℕ) → expand-lts.Need-same-length (claims t) (expand-at t) expand.Post expand-Inv-loop expand-μ-loop
 expand-same-length t c = searched t (if3-from-note (note-from-then4 c)) .0
@@ -360,17 +326,13 @@ expand-loop-again-2 t c =
     let at-next = next-from-lets-pass (c .before) in
     let at-refresh = refresh-from-next at-next in
     let at-loop = loop-from-refresh at-refresh in
-    let at-start = start-from-loop at-loop in
     let g = at-loop .loop .inv .4 .0 in
-    let L = at-loop .loop .inv .4 .1 in
-    let trace = now (at-start .args .trace) in
-    let ran = at-start .args .ran in
     let T = turn-made t at-next in (
       at-next .next .kept .0 ∙ at-loop .loop .inv .0,
       at-loop .loop .inv .1,
       at-refresh .refresh .kept .0 ∙ at-loop .loop .inv .2,
       at-refresh .refresh .kept .1 .0 ∙ at-loop .loop .inv .3,
-      (g, held trace ran g L T (sym (c .before .lets-pass .ensures) ∙ c .if2 .left)),
+      (g, kept-back T (sym (c .before .lets-pass .ensures) ∙ c .if2 .left)),
     )
 
 expand-unfound-requires : (t : ℕ) → expand-lts.Need-unfound-requires (claims t) (expand-at t) expand.Post expand-Inv-loop expand-μ-loop
@@ -393,13 +355,9 @@ expand-returns-2 t c =
     let at-if1 = c .before in
     let at-is-spent = at-if1 .before in
     let at-loop = at-is-spent .before in
-    let at-start = start-from-loop at-loop in
-    let g = at-loop .loop .inv .4 .0 in
     let L = at-loop .loop .inv .4 .1 in
-    let trace = now (at-start .args .trace) in
-    let ran = at-start .args .ran in
     let none = sym (at-is-spent .is-spent .ensures _ _ _ (L .listed)) ∙ not-false _ (at-if1 .if1 .left) in
-    (all-tried trace ran g L none (c .unfound .ensures), L .preserves)
+    (all-tried L none (c .unfound .ensures), L .preserves)
 
 pub +expand-spec : {M : Type 1} → statement M
 +expand-spec = close μ-expand λ t. expand-lts.spec (claims t)
