@@ -37,8 +37,8 @@ unfoldable pub countsOf : World → State → (ℕ → Program) → (m : ℕ) �
 countsOf W s p m = map cappedCount (upTo (leafAt W s p) m) ++ replicate (mostRecords - m) 0
 
 -- how many transitions a record has, up to there, by tables of actions, of truths and of lower records
-abbrev pub countIn : Program → (actions : List ℕ) (truths : List Bool) (running : Bool) (finals : List Bool) (counts : List ℕ) → ℕ
-countIn r actions truths running finals counts = min cap (countBy r (possibleIn actions truths (r .a)) truths running finals counts)
+abbrev pub cappedCountBy : Program → (actions : List ℕ) (truths : List Bool) (running : Bool) (finals : List Bool) (counts : List ℕ) → ℕ
+cappedCountBy r actions truths running finals counts = min cap (countBy r (possibleIn actions truths (r .a)) truths running finals counts)
 
 -- the action of a record that performs one is start, stop or in the table
 abbrev pub ReadsActions : (actions : List ℕ) → (ℕ → Program) → Type 0

@@ -10,7 +10,7 @@ ghost use Rattle.kinds.specs.Programs.{acts};
 ghost use Rattle.remaining.specs.Extended.{mostRecords, empty, virtual, tableOf};
 ghost use Rattle.state.specs.Truths.{possibleIn};
 ghost use Rattle.state.specs.Ranges.{InActions};
-ghost use Rattle.leaves.specs.Tallies.{cap, extendedSize, countIn, Tallied};
+ghost use Rattle.leaves.specs.Tallies.{cap, extendedSize, cappedCountBy, Tallied};
 ghost use Rattle.leaves.specs.Endable.{finalBoundsOf, doubtBy, skipsOf, Tallyable};
 use records::Program;
 
@@ -109,7 +109,7 @@ fn count_at(
     counts: &[u32],
 ) -> u32
     requires { ⌜ (T (acts (r .kind)) → InActions (now actions) (r .a)) ⌝ }
-    ensures { λ k. ⌜ k ≡ countIn r (now (actions .entry)) (now (truths .entry)) running (now (finals .entry)) (now (counts .entry)) ⌝ }
+    ensures { λ k. ⌜ k ≡ cappedCountBy r (now (actions .entry)) (now (truths .entry)) running (now (finals .entry)) (now (counts .entry)) ⌝ }
 {
     let can = can_act(r, actions, truths);
     capped(kinds::programs::count_by(r, can, truths, running, finals, counts))
