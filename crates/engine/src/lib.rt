@@ -334,13 +334,13 @@ pub fn survey(
 {
     judge(flags, numbers, s, found, st, d);
     tally(numbers, flags, s, found, st, d);
-    let x = total(flags, numbers, work, d, d * found.frame + height::HEADER);
+    let totals = total(flags, numbers, work, d, d * found.frame + height::HEADER);
     Findings {
-        done: x.done,
-        soon: x.soon,
+        done: totals.done,
+        soon: totals.soon,
         first: Cursor {
             next: 0,
-            end: x.count,
+            end: totals.count,
         },
     }
 }
