@@ -59,7 +59,8 @@ module _ (W : World) (p : ℕ → Program) (m : ℕ) (endable : List Bool) (E : 
 
   module _ (low : AllLower p) (s : State) where
     abbrev Soon : Rest → Type 0
-    Soon g = (x : RestTransition) → List·Memᴰ x (restTransitions W s p g) → (t : State) → restFinal W t p (x .1) ≡ true → soonByTable (finalsOf W s p m) endable (countsOf W s p m) g ≡ true
+    Soon g = (x : RestTransition) → List·Memᴰ x (restTransitions W s p g) → (t : State) → restFinal W t p (x .1) ≡ true
+        → soonByTable (finalsOf W s p m) endable (countsOf W s p m) g ≡ true
 
     -- the right part goes by the tables where it does
     goes-by : (tag : ℕ) (l : Rest) → InTable p m l → goesRight tag (finalByTable (finalsOf W s p m) l) (eqb (countByTable (finalsOf W s p m) (countsOf W s p m) l) 0) ≡ goesRight tag

@@ -26,7 +26,8 @@ one-iff m n p q t u true = (
 )
 one-iff m n p q t u false = (λ h. absurd (List·Memᴰ·not-nil h), λ h. absurd (h .0))
 
-mapped-in : (f : Prog → Prog) (m : Option ℕ) (p : Prog) (t : State) (xs : List Transition) → List·Memᴰ (m, (p, t)) (map (onProg f) xs) → (g : Prog) × (p ≡ f g) × List·Memᴰ (m, (g, t)) xs
+mapped-in : (f : Prog → Prog) (m : Option ℕ) (p : Prog) (t : State) (xs : List Transition) → List·Memᴰ (m, (p, t)) (map (onProg f) xs)
+    → (g : Prog) × (p ≡ f g) × List·Memᴰ (m, (g, t)) xs
 mapped-in f m p t [] h = absurd (List·Memᴰ·not-nil h)
 mapped-in f m p t (x ∷ xs) h = go (λ k. mapped-in f m p t xs k) (List·Memᴰ·cases-cons h)
   where

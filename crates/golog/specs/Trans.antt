@@ -56,7 +56,8 @@ Trans W (while q a) s m p t = (g : Prog) × (p ≡ sequence g (while q a)) × (T
 -- concurrent execution
 Trans W (together a b) s m p t = ((g : Prog) × (p ≡ together g b) × Trans W a s m g t) ⊎ ((g : Prog) × (p ≡ together a g) × Trans W b s m g t)
 -- concurrency with different priorities: the second only where the first has no transition
-Trans W (over a b) s m p t = ((g : Prog) × (p ≡ over g b) × Trans W a s m g t) ⊎ ((g : Prog) × (p ≡ over a g) × (((n : Option ℕ) (z : Prog) (u : State) → ¬ Trans W a s n z u) × Trans W b s m g t))
+Trans W (over a b) s m p t = ((g : Prog) × (p ≡ over g b) × Trans W a s m g t)
+    ⊎ ((g : Prog) × (p ≡ over a g) × (((n : Option ℕ) (z : Prog) (u : State) → ¬ Trans W a s n z u) × Trans W b s m g t))
 -- concurrent iteration
 Trans W (iteration a) s m p t = (g : Prog) × (p ≡ together g (iteration a)) × Trans W a s m g t
 -- interrupt: while Interrupts_running do if φ then δ else False?, where no axiom lets False? go

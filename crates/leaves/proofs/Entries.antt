@@ -73,7 +73,8 @@ module _ (W : World) (s : State) (p : ℕ → Program) where
   counts-exact low m i h k = omega (arith, counts-at m i h, few-steps low i k)
 
   -- the transitions of a record's part a, counted
-  pub first-exact : AllLower p → (m i : ℕ) → i < m → rise p i ≤ 18 → {truths : List Bool} {can : ℕ → Bool} {running : Bool} → SeesRecord W s truths can (p i) → s .running ≡ running
+  pub first-exact : AllLower p → (m i : ℕ) → i < m → rise p i ≤ 18 → {truths : List Bool} {can : ℕ → Bool} {running : Bool} → SeesRecord W s truths can (p i)
+      → s .running ≡ running
       → firstBy (p i) truths running (countsOf W s p m) ≡ cond (usesA (p i .kind) (holds W (p i .c) s) (s .running)) (length (leafOf W s p (p i .a) .transitions)) 0
   unfolding firstBy
   first-exact low m i h k S e =

@@ -120,7 +120,8 @@ module _ {W : World} {s : State} {p : ℕ → Program} {m : ℕ} {endable : List
 
     pub next : i < length finals → {f : Bool} → f ≡ finalBy (p i) truths running finals → Done W s p m endable (set finals i f) (getD skips (i + 1) m)
     next z {f} ef = record {
-      right = λ a h k. written (λ (x : Bool). x ≡ leafOf W s p a .final) true finals i f z a (λ n. other a h k n (decLt a i)) (λ u. ef ∙ final-right ∙ ap (λ (b : ℕ). leafOf W s p b .final) (sym u));
+      right = λ a h k. written (λ (x : Bool). x ≡ leafOf W s p a .final) true finals i f z a (λ n. other a h k n (decLt a i))
+          (λ u. ef ∙ final-right ∙ ap (λ (b : ℕ). leafOf W s p b .final) (sym u));
       rest = λ a h. let o = S .onward (i + 1) (omega arith) in getD-set-other finals i a f true (λ u. omega (arith, o, h)) ∙ D .rest a (omega (arith, o, h));
     }
       where

@@ -159,7 +159,8 @@ module _ (W : World) (s : State) (p : ℕ → Program) where
   both-final false false P Q = refl
 
   both-steps : (sq tog : Bool) (N : Rest → Rest → Rest) → ((g h : Rest) → unfolded p (N g h) ≡ Both sq tog (unfolded p g) (unfolded p h))
-      → (l r : Rest) {fl : Bool} {L R : List RestTransition} → fl ≡ final W (unfolded p l) s → Stands W s p L (transitions W (unfolded p l) s) → Stands W s p R (transitions W (unfolded p r) s)
+      → (l r : Rest) {fl : Bool} {L R : List RestTransition} → fl ≡ final W (unfolded p l) s → Stands W s p L (transitions W (unfolded p l) s)
+      → Stands W s p R (transitions W (unfolded p r) s)
       → Stands W s p (map (onRest (λ (g : Rest). N g r)) L ++ map (onRest (λ (g : Rest). cond sq g (N l g))) (only (cond sq fl (cond tog true (isNone L))) R))
       (transitions W (Both sq tog (unfolded p l) (unfolded p r)) s)
   unfolding transitions

@@ -64,7 +64,8 @@ module _ (b : Bool) (p : ℕ → Program) (n : ℕ) (low : Lower p n) where
           omega (arith, virtual-lower b n k a m)
 
   program-above : (k : ℕ) → let r = getD (virtual b n) k empty in programOf (extended b p n) (n + k) ≡ construct r (programOf (extended b p n) (r .a)) (programOf (extended b p n) (r .b))
-  program-above k = program-step (extended b p n) table-lower (n + k) ∙ ap (λ (r : Program). construct r (programOf (extended b p n) (r .a)) (programOf (extended b p n) (r .b))) (table-above b p n k)
+  program-above k = program-step (extended b p n) table-lower (n + k) ∙ ap (λ (r : Program). construct r (programOf (extended b p n) (r .a)) (programOf (extended b p n) (r .b)))
+      (table-above b p n k)
 
 module _ (p : ℕ → Program) (n : ℕ) (low : Lower p n) (some-record : 1 ≤ n) where
   -- what runs, as one record

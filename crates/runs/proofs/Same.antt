@@ -28,7 +28,8 @@ module _ {D C : Type 0} (F : D → C) where
   any-same [] = refl
   any-same (x ∷ xs) = refl
 
-  module _ (moves′ : D → List (Option ℕ × D)) (fin′ : D → Bool) (transitions : C → List (Option ℕ × C)) (final : C → Bool) (same-moves : (d : D) → map (under F) (moves′ d) ≡ transitions (F d))
+  module _ (moves′ : D → List (Option ℕ × D)) (fin′ : D → Bool) (transitions : C → List (Option ℕ × C)) (final : C → Bool)
+      (same-moves : (d : D) → map (under F) (moves′ d) ≡ transitions (F d))
       (same-fin : (d : D) → fin′ d ≡ final (F d)) where
     pub search-same : (k : ℕ) (d : D) → search moves′ fin′ k d ≡ search transitions final k (F d)
     search-same zero d = ap₂ unless (same-fin d) (any-same (moves′ d) ∙ ap anyTransition (same-moves d))
@@ -50,13 +51,15 @@ module _ {D C : Type 0} (F : D → C) where
   follow-same free g [] = refl
   follow-same free g (x ∷ xs) = map-append (under beside) (follow1 free g (x .0) (x .1)) (follow free g xs) ∙ ap₂ _++_ (follow1-same free g (x .0) (x .1)) (follow-same free g xs)
 
-  module _ (moves′ : D → List (Option ℕ × D)) (fin′ : D → Bool) (transitions : C → List (Option ℕ × C)) (final : C → Bool) (same-moves : (d : D) → map (under F) (moves′ d) ≡ transitions (F d))
+  module _ (moves′ : D → List (Option ℕ × D)) (fin′ : D → Bool) (transitions : C → List (Option ℕ × C)) (final : C → Bool)
+      (same-moves : (d : D) → map (under F) (moves′ d) ≡ transitions (F d))
       (same-fin : (d : D) → fin′ d ≡ final (F d)) where
     pub guided-same :
         (free : Bool) (k : ℕ) (d : D) (g : List ℕ)
         → search (guidedTransitions free moves′) (guidedFinal fin′) k (d, g) ≡ search (guidedTransitions free transitions) (guidedFinal final) k (F d, g)
     guided-same free k d g = search-same beside (guidedTransitions free moves′) (guidedFinal fin′) (guidedTransitions free transitions) (guidedFinal final)
-        (λ e. follow-same free (e .1) (moves′ (e .0)) ∙ ap (λ (l : List (Option ℕ × C)). follow free (e .1) l) (same-moves (e .0))) (λ e. ap (λ (b : Bool). isNil (e .1) && b) (same-fin (e .0))) k
+        (λ e. follow-same free (e .1) (moves′ (e .0)) ∙ ap (λ (l : List (Option ℕ × C)). follow free (e .1) l) (same-moves (e .0)))
+        (λ e. ap (λ (b : Bool). isNil (e .1) && b) (same-fin (e .0))) k
         (d, g)
 
     pub accepts-same : (k : ℕ) (d : D) (h : List ℕ) → accepts moves′ fin′ k d h ≡ accepts transitions final k (F d) h

@@ -163,7 +163,8 @@ module _
     pub first : First s q (g .program) (L .ahead) w₁ x
 
   pub turned :
-      {w₁ : List ℕ} {flags₁ : List Bool} {numbers₁ : List ℕ} {x : Taken} → Surveyed s (q .state) (q .depth) flags₁ numbers₁ → Filled (q .depth) (q .depth) flags′ flags₁ numbers′ numbers₁
+      {w₁ : List ℕ} {flags₁ : List Bool} {numbers₁ : List ℕ} {x : Taken} → Surveyed s (q .state) (q .depth) flags₁ numbers₁
+      → Filled (q .depth) (q .depth) flags′ flags₁ numbers′ numbers₁
       → GoesOn s (q .state) (q .depth) k w′ w₁ x → isNone (L .ahead) ≡ false → Turn w₁ flags₁ numbers₁ x
   turned S Z M some = record { surveyed = S; filled = Z; kept = M .kept; first = first (onward S) M some }
 

@@ -64,7 +64,8 @@ module _ {C : Type 0} (f : C × List ℕ → Verdict) (free : Bool) (g : List �
   pub branch-one : (cut : Bool) (x : Option ℕ × C) → join (flagged cut) (branches (one x)) ≡ join (flagged cut) (branch x)
   branch-one cut x = ap (join (flagged cut)) (only-branch x)
 
-  module _ (cut : Bool) (x : Option ℕ × C) (xs : List (Option ℕ × C)) (n d : ℕ) (trace trace′ : List ℕ) (o : Outcome) (R : Reported n d trace trace′ o (join (flagged cut) (branches (one x))))
+  module _ (cut : Bool) (x : Option ℕ × C) (xs : List (Option ℕ × C)) (n d : ℕ) (trace trace′ : List ℕ) (o : Outcome)
+      (R : Reported n d trace trace′ o (join (flagged cut) (branches (one x))))
     where
       -- an answer that is found is that of all
       pub tried-found : isFound o ≡ true → Reported n d trace trace′ o (join (flagged cut) (branches (x ∷ xs)))

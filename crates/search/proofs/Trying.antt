@@ -36,7 +36,8 @@ renamed :
 renamed s free p trace trace′ o cut en ed el es eg R = rw (← en, ← ed, ← el, ← es, ← eg) R
 
 -- two readings of a visit have the same transitions ahead
-pub ahead-same : {s w moves : List ℕ} {trace : ℕ} {t : Task} {q : Visit} {k : Cursor} {flags : List Bool} {numbers : List ℕ} (g h : Going s w moves trace t q k flags numbers) → g .ahead ≡ h .ahead
+pub ahead-same : {s w moves : List ℕ} {trace : ℕ} {t : Task} {q : Visit} {k : Cursor} {flags : List Bool} {numbers : List ℕ} (g h : Going s w moves trace t q k flags numbers)
+    → g .ahead ≡ h .ahead
 ahead-same {s} {q = q} {k = k} g h =
     g .listed .ahead-are
     ∙ ap (λ (p : Prog). drop (k .next) (transitionsOf s (configured q p))) (frame-same (g .ready .visited .frame) (h .ready .visited .frame))
@@ -88,7 +89,8 @@ module _ {s w moves : List ℕ} {trace : ℕ} {t : Task} {q : Visit} {k : Cursor
     one before after o = subst (Reported (q .n) (q .depth) before after o) (sym (branch-one from-next (t .free) (toMake moves q) cut (F .step)))
 
     -- held back by the guide
-    pub back : (before : List ℕ) → passes (t .free) (toMake moves q) (moveOf (x .entry)) ≡ false → Reported (q .n) (q .depth) before before (told cut) (branchesAt s moves t q cut (F .step ∷ []))
+    pub back : (before : List ℕ) → passes (t .free) (toMake moves q) (moveOf (x .entry)) ≡ false
+        → Reported (q .n) (q .depth) before before (told cut) (branchesAt s moves t q cut (F .step ∷ []))
     back before e =
         one before before (told cut)
         (held-back from-next (t .free) (toMake moves q) (F .step .0) (F .step .1) (q .n) (q .depth) before before (told cut) cut

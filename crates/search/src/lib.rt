@@ -176,7 +176,8 @@ fn expand(
     first: Cursor,
 ) -> Outcome
     requires { ⌜ Going (now s) (now work) (now moves) (length (now trace)) t q first (now flags) (now numbers) ⌝ }
-    ensures answer { λ r. ⌜ Expanded (now (s .entry)) (now (work .entry)) (now (moves .entry)) (now (trace .entry)) (now (trace .exit)) t q ran first (now (flags .entry)) (now (numbers .entry)) r ⌝ }
+    ensures answer { λ r. ⌜ Expanded (now (s .entry)) (now (work .entry)) (now (moves .entry)) (now (trace .entry)) (now (trace .exit)) t q ran first (now (flags .entry))
+        (now (numbers .entry)) r ⌝ }
     ensures tables { λ _. ⌜ Preserves (now (s .entry)) (now (work .entry)) (now (work .exit)) q (now (flags .entry)) (now (flags .exit)) (now (numbers .entry)) (now (numbers .exit)) ⌝ }
 {
     let mut cut = ran;
@@ -238,7 +239,8 @@ pub fn run(
     trace: &mut [u16],
 ) -> Outcome
     requires { ⌜ Of (now s) found × (length (now work) ≡ found .words) × (boundOf (now s) ≤ length (now trace)) ⌝ }
-    ensures answer { λ r. ⌜ Reported 0 0 (now (trace .entry)) (now (trace .exit)) r (verdictFrom (now (s .entry)) free (boundOf (now (s .entry))) (firstOf (now (s .entry)), now (moves .entry))) ⌝ }
+    ensures answer { λ r. ⌜ Reported 0 0 (now (trace .entry)) (now (trace .exit)) r
+        (verdictFrom (now (s .entry)) free (boundOf (now (s .entry))) (firstOf (now (s .entry)), now (moves .entry))) ⌝ }
     ensures work { λ _. ⌜ now (work .exit) ≡ replicate (length (now (work .entry))) 0 ⌝ }
 {
     engine::put_first(work, s, found);

@@ -28,7 +28,8 @@ passed true n p x e = (cc, cc)
 passed false n p x e = (refl, e)
 
 -- and has found no faulty record
-kept : (number : ℕ) (ok : ℕ → Bool) (n : ℕ) (next : Checked) {w : ℕ} → refusedAt number (lowest ok n) n next ≡ Accepted w → ((i : ℕ) → i < n → ok i ≡ true) × (next ≡ Accepted w)
+kept : (number : ℕ) (ok : ℕ → Bool) (n : ℕ) (next : Checked) {w : ℕ} → refusedAt number (lowest ok n) n next ≡ Accepted w
+    → ((i : ℕ) → i < n → ok i ≡ true) × (next ≡ Accepted w)
 unfolding refusedAt
 kept number ok n next e =
     let r = passed (ltb (lowest ok n) n) number (lowest ok n) next e in

@@ -99,7 +99,8 @@ module _ (says : ℕ → Bool) (effects : List ℕ) (n : ℕ) where
       pick j (no q) b = L .above j (omega arith) ∙ sym (given-stays (0 + j) (getD values j 0) (r .count) (r .first) h (omega arith))
 
 -- where formulas say the same of a precondition, an action is as possible
-pub possible-same : (says said : ℕ → Bool) (action : ℕ → Action) (a : ℕ) → says (action a .precondition) ≡ said (action a .precondition) → possibleBy says action a ≡ possibleBy said action a
+pub possible-same : (says said : ℕ → Bool) (action : ℕ → Action) (a : ℕ) → says (action a .precondition) ≡ said (action a .precondition)
+    → possibleBy says action a ≡ possibleBy said action a
 unfolding possibleBy
 possible-same says said action a e = ap (λ (b : Bool). special a || b) e
 

@@ -32,7 +32,8 @@ use Rattle.steps.specs.Laid.{codeOf, Sources, Counted, CanLay, Built, La
 use Rattle.steps.proofs.Nth.{nth-member, Both, from-first, from-second, second-goes}
 
 -- what was built of a transition is small: at most two nodes more for each level
-pub built-few : (W : World) (s : State) (p : ℕ → Program) → AllLower p → (g : Rest) (k to e n : ℕ) (w : List ℕ) → Built (restTransitions W s p g) k to e n w → n ≤ nodes g + 2 * high p g
+pub built-few : (W : World) (s : State) (p : ℕ → Program) → AllLower p → (g : Rest) (k to e n : ℕ) (w : List ℕ) → Built (restTransitions W s p g) k to e n w
+    → n ≤ nodes g + 2 * high p g
 built-few W s p low g k to e n w B = omega (arith, B .size-is, step-nodes W s p low g (B .move, B .rest) (nth-member (restTransitions W s p g) k (B .nth)))
 
 leaf-few : (W : World) (s : State) (p : ℕ → Program) → AllLower p → (i k to e n : ℕ) (w : List ℕ) → Built (leafOf W s p i .transitions) k to e n w → n ≤ 1 + 2 * rise p i
@@ -99,7 +100,8 @@ module _ {W : World} {s : State} {v : Sources} (C : Counted W s v) where
 
     steps-are : leafOf W s p i .transitions ≡ own ++ parts
     unfolding leafWith A B ua ub own parts
-    steps-are = ap (λ (x : Leaf). x .transitions) (subst (λ (r : Program). leafOf W s p i ≡ leafWith W s r i (leafOf W s p (r .a)) (leafOf W s p (r .b))) (sym (I .is)) (leaf-step W s p (C .lower) i))
+    steps-are = ap (λ (x : Leaf). x .transitions) (subst (λ (r : Program). leafOf W s p i ≡ leafWith W s r i (leafOf W s p (r .a)) (leafOf W s p (r .b))) (sym (I .is))
+        (leaf-step W s p (C .lower) i))
 
     -- an act or a test: its own
     pub own-step : (k : ℕ) → k < length (leafOf W s (v .records) i .transitions) → hasOwn (r .kind) ≡ true → getElem? (leafOf W s (v .records) i .transitions) k ≡ some (ownMove r, gone)
@@ -174,7 +176,8 @@ module _ {W : World} {s : State} {v : Sources} (C : Counted W s v) where
             let few = leaf-few W s p (C .lower) (r .a) k at e n w₁ (L .built) in
             record { inside = omega (arith, R .inside, L .kept .len, few, a-lower (a-goes .0) .1); small = omega (arith, R .small, L .kept .len) }
 
-        pub a-lays : {w w₁ w′ : List ℕ} {to x tag e n n′ : ℕ} → tag ≡ tagA (r .kind) → x ≡ past (eqb tag 0) 3 → Lays (leafOf W s (v .records) (r .a) .transitions) k (to + x) w w₁ e n
+        pub a-lays : {w w₁ w′ : List ℕ} {to x tag e n n′ : ℕ} → tag ≡ tagA (r .kind) → x ≡ past (eqb tag 0) 3
+            → Lays (leafOf W s (v .records) (r .a) .transitions) k (to + x) w w₁ e n
             → Wrapped (wrapA (tagA (r .kind)) (siblingA r i)) (to + past (eqb (tagA (r .kind)) 0) 3) to n n′ w₁ w′ → Lays (leafOf W s (v .records) i .transitions) k to w w′ e n′
         unfolding parts A
         a-lays {w} {w₁} {w′} {to} {x} {tag} {e} {n} {n′} et ex M X =
@@ -211,12 +214,14 @@ module _ {W : World} {s : State} {v : Sources} (C : Counted W s v) where
               room = record { inside = omega (arith, R .inside); small = R .small };
             }
 
-        pub b-room : {w w₁ : List ℕ} {to at e n : ℕ} → Room w to (1 + 2 * rise (v .records) i) → Lays (leafOf W s (v .records) (r .b) .transitions) (k - first) at w w₁ e n → Room w₁ to (n + 2)
+        pub b-room : {w w₁ : List ℕ} {to at e n : ℕ} → Room w to (1 + 2 * rise (v .records) i) → Lays (leafOf W s (v .records) (r .b) .transitions) (k - first) at w w₁ e n
+            → Room w₁ to (n + 2)
         b-room {w} {w₁} {to} {at} {e} {n} R L =
             let few = leaf-few W s p (C .lower) (r .b) (k - first) at e n w₁ (L .built) in
             record { inside = omega (arith, R .inside, L .kept .len, few, b-lower (b-goes .0) .1); small = omega (arith, R .small, L .kept .len) }
 
-        pub b-lays : {w w₁ w′ : List ℕ} {to x tag e n n′ : ℕ} → tag ≡ tagB (r .kind) → x ≡ past (eqb tag 0) 6 → Lays (leafOf W s (v .records) (r .b) .transitions) (k - first) (to + x) w w₁ e n
+        pub b-lays : {w w₁ w′ : List ℕ} {to x tag e n n′ : ℕ} → tag ≡ tagB (r .kind) → x ≡ past (eqb tag 0) 6
+            → Lays (leafOf W s (v .records) (r .b) .transitions) (k - first) (to + x) w w₁ e n
             → Wrapped (wrapB (tagB (r .kind)) (r .a)) (to + past (eqb (tagB (r .kind)) 0) 6) to n n′ w₁ w′ → Lays (leafOf W s (v .records) i .transitions) k to w w′ e n′
         unfolding parts B
         b-lays {w} {w₁} {w′} {to} {x} {tag} {e} {n} {n′} et ex M X =
@@ -230,7 +235,8 @@ module _ {W : World} {s : State} {v : Sources} (C : Counted W s v) where
             }
 
     -- a transition of its own leaves nothing
-    pub own-lays : {w w′ : List ℕ} {to k e : ℕ} → k < getD (v .counts) i 0 → hasOwn (r .kind) ≡ true → Room w to (1 + 2 * rise (v .records) i) → Put to 0 0 1 w w′ → e ≡ codeOf (ownMove r)
+    pub own-lays : {w w′ : List ℕ} {to k e : ℕ} → k < getD (v .counts) i 0 → hasOwn (r .kind) ≡ true → Room w to (1 + 2 * rise (v .records) i) → Put to 0 0 1 w w′
+        → e ≡ codeOf (ownMove r)
         → Lays (leafOf W s (v .records) i .transitions) k to w w′ e 1
     unfolding nodes
     own-lays {w} {w′} {to} {k} h l R P ee = record {

@@ -65,7 +65,8 @@ module _ {v : Sources} {finals : List Bool} {w : List ℕ} {f to : ℕ} (K : Can
   can-holds = record { rest = K .rest; at = K .at }
 
   -- what is so of what is known to stand there is so of whatever stands there
-  pub whatever : {k : ℕ} {w′ : List ℕ} {r : Turn} → ((W : World) (s : State) → Tabled W s v finals → Stepped W s (v .records) (K .rest) k to w w′ r) → StepsRest v finals f k to w w′ r
+  pub whatever : {k : ℕ} {w′ : List ℕ} {r : Turn} → ((W : World) (s : State) → Tabled W s v finals → Stepped W s (v .records) (K .rest) k to w w′ r)
+      → StepsRest v finals f k to w w′ r
   whatever {k} {w′} {r} h W s T g A = subst (λ (g : Rest). Stepped W s (v .records) g k to w w′ r) (at-unique (K .rest) g w f (K .at) A) (h W s T)
 
   pub gone-left : {k : ℕ} → K .rest ≡ gone → StepsRest v finals f k to w w (Passed k true)
@@ -106,7 +107,8 @@ pub record Split (v : Sources) (finals : List Bool) (w : List ℕ) (f to tag lef
   pub small : length w < 2 ^ 32
   pub size-is : sizeAt w f ≡ 1 + nodes (parts .l) + nodes (parts .r)
 
-pub split : {v : Sources} {finals : List Bool} {w : List ℕ} {f to : ℕ} (K : CanStep v finals w f to) {tag left : ℕ} → tag ≡ getD w f 0 → (tag ≡ 0 → ⊥) → (tag ≡ 1 → ⊥) → left ≡ getD w (f + 3 + 2) 0
+pub split : {v : Sources} {finals : List Bool} {w : List ℕ} {f to : ℕ} (K : CanStep v finals w f to) {tag left : ℕ} → tag ≡ getD w f 0 → (tag ≡ 0 → ⊥)
+    → (tag ≡ 1 → ⊥) → left ≡ getD w (f + 3 + 2) 0
     → Split v finals w f to tag left (K .rest)
 unfolding nodes largest sizeAt
 split {v} {finals} {w} {f} {to} K {tag} {left} e n0 n1 el =

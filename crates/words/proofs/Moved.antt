@@ -100,7 +100,8 @@ leaf-left to g n q w w₁ w′ P Q K = record {
       (subst (λ (x : ℕ). At t w₁ x) (omega (arith, leaf-nodes q)) (at-above (to + 3) 1 q 1 w w₁ P t (to + 6) (omega arith) A));
 }
 
-pub copy-right : (f to g n m : ℕ) (w w₁ w′ : List ℕ) → Copied f (to + 3 + 3 * n) (3 * m) w w₁ → Put to g 0 (1 + n + m) w₁ w′ → CanPutCopy f to g n m w → CopyRight f to g n m w w′
+pub copy-right : (f to g n m : ℕ) (w w₁ w′ : List ℕ) → Copied f (to + 3 + 3 * n) (3 * m) w w₁ → Put to g 0 (1 + n + m) w₁ w′ → CanPutCopy f to g n m w
+    → CopyRight f to g n m w w′
 copy-right f to g n m w w₁ w′ C Q K = record {
   kept = kept-trans to to w w₁ w′ (kept-less to _ w w₁ (C .kept) (omega arith)) (kept-put to to _ _ _ w₁ w′ Q (omega arith)) (omega arith);
   at = λ l r L el R er.

@@ -5,7 +5,9 @@
 mod c;
 
 use c::{compiled, repository, run, WARNINGS};
+use model::refusal::Refusal;
 use sheets::examples::examples;
+use std::fs;
 use std::path::{Path, PathBuf};
 use std::process::Command;
 use std::sync::LazyLock;
@@ -76,4 +78,14 @@ fn the_example_in_c_says_why_not() {
     assert_eq!(output(&PLAN, b"no sheet"), (refused.to_string(), Some(1)));
     let missing = run(&PLAN, &["no such file".to_string()], &[]).expect("the program runs");
     assert_eq!((missing.stdout, missing.status.code()), (vec![], Some(2)));
+}
+
+/// Its own words stand only for what a caller need not know by document 01's letters: 2, 10, 12, 13 and 14.
+#[test]
+fn the_example_in_c_names_causes_as_document_01_does() {
+    let source = fs::read_to_string(repository().join("examples/plan.c")).expect("the example");
+    for number in [1, 3, 4, 5, 6, 7, 8, 9, 11] {
+        let cause = Refusal::number(number).cause();
+        assert!(source.contains(&format!("    \"{cause}\",\n")), "{number}: {cause}");
+    }
 }

@@ -25,7 +25,8 @@ returns-4 c =
     let kind = c .before .args .kind in
     let r = c .match .rest in
     by-kind (λ (k : ℕ). kind ≡ k → Unused ≡ fieldC k)
-    (λ e. refl) (λ e. refl) (λ e. refl) (λ e. refl) (λ e. refl) (λ e. refl) (λ e. absurd (r .0 .0 .1 e)) (λ e. absurd (r .0 .1 e)) (λ e. refl) (λ e. refl) (λ e. refl) (λ e. absurd (r .1 e))
+    (λ e. refl) (λ e. refl) (λ e. refl) (λ e. refl) (λ e. refl) (λ e. refl) (λ e. absurd (r .0 .0 .1 e)) (λ e. absurd (r .0 .1 e)) (λ e. refl) (λ e. refl) (λ e. refl)
+    (λ e. absurd (r .1 e))
     (λ k e. refl)
     kind refl
 
