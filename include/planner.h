@@ -4,7 +4,8 @@
  *     rt staticlib planner_c        writes target/staticlib/libplanner_c.a
  *     cc -Iinclude program.c target/staticlib/libplanner_c.a
  *
- * examples/plan.c is a program to copy from. "Document 01" is the paper that fixes sheets, programs, plans and numbers.
+ * examples/plan.c is a program to copy from. "Document 01" is the paper that fixes sheets, programs, plans and numbers;
+ * "document 02" has what was asked for since.
  *
  * Buffers. Every buffer is the caller's: it is lent for the time of one call, nothing is retained, allocated or shared
  * between calls, and calls on different buffers may run at the same time.
@@ -14,8 +15,8 @@
  *  - Work, trace and the single results are written. No two of them overlap, nor does one overlap a sheet or a history.
  *    They may hold anything before the call.
  *
- * Time and stack. planner_plan and planner_replay search, which may take time exponential in D; a call cannot be broken
- * off. A call takes at most PLANNER_STACK bytes of stack.
+ * Time and stack. planner_plan and planner_replay search, which may take time exponential in D; where there is a plan,
+ * in the number of its transitions. A call cannot be broken off. It takes at most PLANNER_STACK bytes of stack.
  *
  * Answers. Every function returns a number; the place and the other results come through pointers.
  *  - 0: accepted, found, answered. The place is 0.
@@ -110,8 +111,10 @@ static inline uint32_t planner_sizes(const uint8_t *sheet, size_t sheet_len, siz
 
 /*
  * Plans. Number 0: the first *n entries of trace are the history of a run of *t transitions, at most D, that ends
- * final. An entry is an action's number, PLANNER_START or PLANNER_STOP. Work needs as many words as planner_check says,
- * trace D entries; both may be longer.
+ * final, and it is the first such plan (document 02, F-1): no run of fewer transitions ends final, and of those of as
+ * many none has a smaller history: smaller at the first differing entry, a proper beginning counting as smaller. So a
+ * higher D alone keeps *n, *t and these entries as they are. An entry is an action's number, PLANNER_START or
+ * PLANNER_STOP. Work needs as many words as planner_check says, trace D entries; both may be longer.
  * Numbers 1 to 11, 13 and 14.
  */
 static inline uint32_t planner_plan(const uint8_t *sheet, size_t sheet_len, uint32_t *work, size_t work_len,

@@ -1,4 +1,4 @@
--- The thirteen worked cases, the further rows and the edges, each list by one computation. Assumes nothing.
+-- The thirteen worked cases, the further rows, those of F-1 and the edges, each list by one computation. Assumes nothing.
 use mathlib.Core.List.{flatten}
 use mathlib.Core.Path.{refl}
 use Rattle.records.specs.Records.{fluentAt, formulaAt, effectAt, actionAt, programAt}
@@ -18,7 +18,7 @@ use Rattle.golog.specs.World.{holds, possibleBy, given, each, changed, performB
 use Rattle.golog.specs.Prog.{construct, programOf}
 use Rattle.golog.specs.Transitions.{final, transitions}
 use Rattle.demands.specs.Planning.{verdictOf, acceptsOf, planOf, replayOf}
-use Rattle.demands.specs.Cases.{All, rows, further, edges}
+use Rattle.demands.specs.Cases.{All, rows, further, firsts, edges}
 
 -- opens what the rows compute with: records, their rules, height, check, formulas and effects, programs and their steps, plan and replay
 computing : Unit {0}
@@ -38,6 +38,10 @@ all-cases = (refl, (refl, ((refl, refl), (refl, ((refl, refl), (refl, ((refl, re
 pub all-further : All further
 unfolding computing
 all-further = ((refl, refl, refl, refl, refl, refl, refl), ((refl, refl, refl, refl, refl, refl), ((refl, refl, refl, refl, refl, refl), ((refl, refl, refl, refl, refl, refl), tt))))
+
+pub all-firsts : All firsts
+unfolding computing
+all-firsts = (refl, (refl, (refl, (refl, (refl, tt)))))
 
 pub all-edges : All edges
 unfolding computing

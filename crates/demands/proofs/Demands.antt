@@ -3,7 +3,7 @@
 -- The runs are those of the paper's Trans and Final (golog, specs/Trans.antt) from a sheet's first configuration; planOf and
 -- replayOf (specs/Planning.antt) are what the calls answer. A sheet is accepted when no cause of 1 to 9 holds of it.
 -- Assumes nothing.
-use mathlib.Core.Path.{_≡_, refl, sym, _∙_, ap, ap₂}
+use mathlib.Core.Path.{_≡_, refl, sym, _∙_, ap, ap₂, subst}
 use mathlib.Core.Bool.{Bool, true, false}
 use mathlib.Core.List.{List}
 use mathlib.Core.Logic.{_↔_, Iff·trans, Iff·not}
@@ -13,12 +13,14 @@ use lib.Dec.{T}
 use lib.ListN.{length}
 use Rattle.height.specs.Work.{workWords}
 use Rattle.runs.specs.Runs.{ExactlyOne}
-use Rattle.runs.specs.Search.{Verdict, plan, nothing, more, search, Lists, DecidesFinal, Means}
-use Rattle.runs.proofs.Searched.{search-means}
-use Rattle.runs.proofs.Verdicts.{plan-iff, nothing-iff, more-iff, exactly-one, says}
+use Rattle.runs.specs.Search.{Verdict, plan, nothing, more, Lists, DecidesFinal, Means}
+use Rattle.runs.specs.First.{First}
+use Rattle.runs.specs.Earliest.{firstPlan, MeansFirst}
+use Rattle.runs.proofs.Firsts.{first-plan-means, same-first, first-plan-exactly, first-exists, first-unique, first-stays}
+use Rattle.runs.proofs.Verdicts.{plan-iff, nothing-iff, more-iff, exactly-one}
 use Rattle.runs.proofs.Raised.{none-of-any-length, plan-stays, nothing-stays}
 use Rattle.runs.proofs.Histories.{run-length}
-use Rattle.runs.proofs.Guided.{accepts-iff, plan-accepted}
+use Rattle.runs.proofs.Guided.{accepts-iff}
 use Rattle.golog.specs.World.{World}
 use Rattle.golog.specs.Transitions.{Configuration}
 use Rattle.golog.proofs.Exact.{steps-exact, final-exact}
@@ -26,7 +28,8 @@ use Rattle.sheet.specs.Check.{Accepts, checkOf}
 use Rattle.sheet.specs.declared.Checked.the-variants.{Accepted}
 use Rattle.sheet.proofs.Accepted.{trailed}
 use Rattle.demands.specs.Decoded.{worldOf, firstOf, boundOf, levelsOf}
-use Rattle.demands.specs.Planning.{Goes, Ends, transitionsIn, isFinalIn, RunEndsFinal, HistoryOfRun, NoPlanAtAll, NoPlanWithinBound, NoRunEndsFinal, RunOf, refusedBy}
+use Rattle.demands.specs.Planning.{Goes, Ends, transitionsIn, isFinalIn, RunEndsFinal, HistoryOfRun, NoPlanAtAll, NoPlanWithinBound, NoRunEndsFinal, RunOf, FirstPlan}
+use Rattle.demands.specs.Planning.{refusedBy}
 use Rattle.demands.specs.Planning.{verdictOf, acceptsOf, PlanAnswer, found, answer, plannedFrom, planOf, ReplayAnswer, replied, replayedFrom, replayOf}
 use Rattle.demands.specs.Raised.{SameButBound, withBound}
 use Rattle.demands.proofs.Tables.{world-same, first-same}
@@ -39,8 +42,13 @@ listed W c m d = steps-exact W (c .0) (c .1) m (d .0) (d .1)
 pub decided : (W : World) → DecidesFinal (isFinalIn W) (Ends W)
 decided W c = final-exact W (c .0) (c .1)
 
-pub means : (W : World) (k : ℕ) (c : Configuration) → Means (Goes W) (Ends W) k c (search (transitionsIn W) (isFinalIn W) k c)
-means W = search-means (Goes W) (Ends W) (transitionsIn W) (isFinalIn W) (listed W) (decided W)
+pub means : (W : World) (k : ℕ) (c : Configuration) → Means (Goes W) (Ends W) k c (firstPlan (transitionsIn W) (isFinalIn W) k c)
+means W = first-plan-means (Goes W) (Ends W) (transitionsIn W) (isFinalIn W) (listed W) (decided W)
+
+-- what says the first plan, or that there is none, is the verdict on a sheet
+pub verdict-is : (s : List ℕ) (v : Verdict) → MeansFirst (Goes (worldOf s)) (Ends (worldOf s)) (boundOf s) (firstOf s) v → v ≡ verdictOf s
+unfolding verdictOf
+verdict-is s v m = let W = worldOf s in same-first (Goes W) (Ends W) (transitionsIn W) (isFinalIn W) (listed W) (decided W) (boundOf s) (firstOf s) v m
 
 -- an answer and the verdict that it comes from
 found-plan : (v : Verdict) (h : List ℕ) (t : ℕ) → (answer v ≡ found h t) ↔ (v ≡ plan h t)
@@ -106,23 +114,30 @@ module _ (s : List ℕ) (accepted : Accepts s) where
   pub longer-no : (h : List ℕ) → boundOf s < length h → replayOf s h ≡ replied false
   longer-no h l = history-refused h .1 (λ (n, d, few, run, end). omega (arith, few, run-length (Goes (worldOf s)) n (firstOf s) h d run))
 
-  -- "every plan handed out is such a history"
-  pub plan-accepted-history : (h : List ℕ) (t : ℕ) → planOf s ≡ found h t → replayOf s h ≡ replied true
-  unfolding acceptsOf verdictOf
-  plan-accepted-history h t e =
-      replay-is h
-      ∙ yes-true (acceptsOf s h) .1
-      (plan-accepted (transitionsIn (worldOf s)) (isFinalIn (worldOf s)) (boundOf s) (firstOf s) h t
-      (found-plan (verdictOf s) h t .0 (same-answer (found h t) .0 e)))
+  -- "the plan is the first": it comes out exactly where it is
+  pub first-exactly : (h : List ℕ) (t : ℕ) → (planOf s ≡ found h t) ↔ FirstPlan s h t
+  unfolding verdictOf
+  first-exactly h t =
+      let W = worldOf s in
+      Iff·trans (same-answer (found h t))
+      (Iff·trans (found-plan (verdictOf s) h t)
+      (first-plan-exactly (Goes W) (Ends W) (transitionsIn W) (isFinalIn W) (listed W) (decided W) (boundOf s) (firstOf s) h t))
+
+  -- "Plan and t are thus decided by a definition": there is a first plan exactly where some run of at most D transitions ends final, and one
+  -- only
+  pub first-there : ((h : List ℕ) × (t : ℕ) × FirstPlan s h t) ↔ RunEndsFinal s
+  first-there = let W = worldOf s in first-exists (Goes W) (Ends W) (transitionsIn W) (isFinalIn W) (listed W) (decided W) (boundOf s) (firstOf s)
+
+  pub first-alone : (h g : List ℕ) (t u : ℕ) → FirstPlan s h t → FirstPlan s g u → (h ≡ g) × (t ≡ u)
+  first-alone = let W = worldOf s in first-unique (Goes W) (Ends W) (boundOf s) (firstOf s)
 
   -- "A plan returns n moves and t, the transitions of one run of at most D that ends final with that history"
   pub plan-transitions : (h : List ℕ) (t : ℕ) → planOf s ≡ found h t → (t ≤ boundOf s) × RunOf s h t
-  unfolding verdictOf
-  plan-transitions h t e =
-      let W = worldOf s in
-      let m = says (Goes W) (Ends W) (search (transitionsIn W) (isFinalIn W)) (means W) (boundOf s) (firstOf s) (plan h t)
-      (found-plan (verdictOf s) h t .0 (same-answer (found h t) .0 e)) in
-      (m .1, (m .0, m .2, m .3))
+  plan-transitions h t e = let F = first-exactly h t .0 e in (F .within, F .plan)
+
+  -- "every plan handed out is such a history"
+  pub plan-accepted-history : (h : List ℕ) (t : ℕ) → planOf s ≡ found h t → replayOf s h ≡ replied true
+  plan-accepted-history h t e = let (l, (d, run, end)) = plan-transitions h t e in history-accepted h .1 (t, d, l, run, end)
 
   -- "A plan comes out exactly when some run of at most D transitions ends final"
   pub plan-exactly : ((h : List ℕ) × (t : ℕ) × (planOf s ≡ found h t)) ↔ RunEndsFinal s
@@ -133,7 +148,7 @@ module _ (s : List ℕ) (accepted : Accepts s) where
         λ (h, t, e). (h, t, found-plan (verdictOf s) h t .0 (same-answer (found h t) .0 e)),
         λ (h, t, e). (h, t, same-answer (found h t) .1 (found-plan (verdictOf s) h t .1 e)),
       )
-      (plan-iff (Goes W) (Ends W) (search (transitionsIn W) (isFinalIn W)) (means W) (boundOf s) (firstOf s))
+      (plan-iff (Goes W) (Ends W) (firstPlan (transitionsIn W) (isFinalIn W)) (means W) (boundOf s) (firstOf s))
 
   -- "13 exactly when none does and no run has D + 1"
   pub thirteen-exactly : (planOf s ≡ refusedBy 13) ↔ NoPlanAtAll s
@@ -142,7 +157,7 @@ module _ (s : List ℕ) (accepted : Accepts s) where
       let W = worldOf s in
       Iff·trans (same-answer (refusedBy 13))
       (Iff·trans (answer-nothing (verdictOf s))
-      (nothing-iff (Goes W) (Ends W) (search (transitionsIn W) (isFinalIn W)) (means W) (boundOf s) (firstOf s)))
+      (nothing-iff (Goes W) (Ends W) (firstPlan (transitionsIn W) (isFinalIn W)) (means W) (boundOf s) (firstOf s)))
 
   -- 13 at every length: it is no matter of the bound
   pub thirteen-none-ends : planOf s ≡ refusedBy 13 → NoRunEndsFinal s
@@ -155,36 +170,46 @@ module _ (s : List ℕ) (accepted : Accepts s) where
       let W = worldOf s in
       Iff·trans (same-answer (refusedBy 14))
       (Iff·trans (answer-more (verdictOf s))
-      (more-iff (Goes W) (Ends W) (search (transitionsIn W) (isFinalIn W)) (means W) (boundOf s) (firstOf s)))
+      (more-iff (Goes W) (Ends W) (firstPlan (transitionsIn W) (isFinalIn W)) (means W) (boundOf s) (firstOf s)))
 
   -- the three verdicts exclude each other, and one always holds
   pub one-verdict : ExactlyOne (RunEndsFinal s) (NoPlanAtAll s) (NoPlanWithinBound s)
   one-verdict =
       let W = worldOf s in
-      exactly-one (Goes W) (Ends W) (search (transitionsIn W) (isFinalIn W)) (means W) (boundOf s) (firstOf s)
+      exactly-one (Goes W) (Ends W) (firstPlan (transitionsIn W) (isFinalIn W)) (means W) (boundOf s) (firstOf s)
 
 -- "Raising D alone keeps a plan a plan and 13 a 13": two sheets that differ in D alone
 module _ (s s′ : List ℕ) (accepted : Accepts s) (accepted′ : Accepts s′) (but : SameButBound s s′) (raised : boundOf s ≤ boundOf s′) where
   -- the verdict within any bound is that of the first sheet
-  verdict-same : verdictOf s′ ≡ search (transitionsIn (worldOf s)) (isFinalIn (worldOf s)) (boundOf s′) (firstOf s)
+  verdict-same : verdictOf s′ ≡ firstPlan (transitionsIn (worldOf s)) (isFinalIn (worldOf s)) (boundOf s′) (firstOf s)
   unfolding verdictOf
   verdict-same =
       let same = tables-same s s′ accepted but in
-      ap₂ (λ (W : World) (c : Configuration). search (transitionsIn W) (isFinalIn W) (boundOf s′) c) (world-same same) (first-same same)
+      ap₂ (λ (W : World) (c : Configuration). firstPlan (transitionsIn W) (isFinalIn W) (boundOf s′) c) (world-same same) (first-same same)
 
   pub plan-stays-plan : (h : List ℕ) (t : ℕ) → planOf s ≡ found h t → (g : List ℕ) × (u : ℕ) × (planOf s′ ≡ found g u)
   unfolding verdictOf
   plan-stays-plan h t e =
       let W = worldOf s in
-      let r = plan-stays (Goes W) (Ends W) (search (transitionsIn W) (isFinalIn W)) (means W) (boundOf s′) (boundOf s) (firstOf s) h t raised
+      let r = plan-stays (Goes W) (Ends W) (firstPlan (transitionsIn W) (isFinalIn W)) (means W) (boundOf s′) (boundOf s) (firstOf s) h t raised
       (found-plan (verdictOf s) h t .0 (same-answer s accepted (found h t) .0 e)) in
       (r .0, r .1, same-answer s′ accepted′ (found (r .0) (r .1)) .1 (found-plan (verdictOf s′) (r .0) (r .1) .1 (verdict-same ∙ r .2)))
+
+  -- and the very same one
+  pub first-stays-first : (h : List ℕ) (t : ℕ) → planOf s ≡ found h t → planOf s′ ≡ found h t
+  first-stays-first h t e =
+      let same = tables-same s s′ accepted but in
+      let W = worldOf s in
+      let F = first-stays (Goes W) (Ends W) (boundOf s′) (boundOf s) (firstOf s) h t raised (first-exactly s accepted h t .0 e) in
+      first-exactly s′ accepted′ h t .1
+      (subst (λ (U : World). First (Goes U) (Ends U) (boundOf s′) (firstOf s′) h t) (sym (world-same same))
+      (subst (λ (c : Configuration). First (Goes W) (Ends W) (boundOf s′) c h t) (sym (first-same same)) F))
 
   pub thirteen-stays-thirteen : planOf s ≡ refusedBy 13 → planOf s′ ≡ refusedBy 13
   unfolding verdictOf
   thirteen-stays-thirteen e =
       let W = worldOf s in
-      let r = nothing-stays (Goes W) (Ends W) (search (transitionsIn W) (isFinalIn W)) (means W) (boundOf s′) (boundOf s) (firstOf s) raised
+      let r = nothing-stays (Goes W) (Ends W) (firstPlan (transitionsIn W) (isFinalIn W)) (means W) (boundOf s′) (boundOf s) (firstOf s) raised
       (answer-nothing (verdictOf s) .0 (same-answer s accepted (refusedBy 13) .0 e)) in
       same-answer s′ accepted′ (refusedBy 13) .1 (answer-nothing (verdictOf s′) .1 (verdict-same ∙ r))
 
@@ -207,6 +232,10 @@ module _ (s : List ℕ) (accepted : Accepts s) (d : ℕ) where
     -- "keeps a plan a plan"
     pub raised-plan-stays : (h : List ℕ) (t : ℕ) → planOf s ≡ found h t → (g : List ℕ) × (u : ℕ) × (planOf (withBound s d) ≡ found g u)
     raised-plan-stays = plan-stays-plan s (withBound s d) accepted (_, raised-accepted small) (raised-alone .0) higher
+
+    -- the very same plan
+    pub raised-first-stays : (h : List ℕ) (t : ℕ) → planOf s ≡ found h t → planOf (withBound s d) ≡ found h t
+    raised-first-stays = first-stays-first s (withBound s d) accepted (_, raised-accepted small) (raised-alone .0) higher
 
     -- "and 13 a 13"
     pub raised-thirteen-stays : planOf s ≡ refusedBy 13 → planOf (withBound s d) ≡ refusedBy 13

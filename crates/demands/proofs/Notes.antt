@@ -2,7 +2,7 @@
 use mathlib.Core.Path.{_≡_, refl, _∙_, ap}
 use mathlib.Core.List.{List}
 use Prim.Native.Nat.{ℕ}
-use Rattle.runs.specs.Search.{search}
+use Rattle.runs.specs.Earliest.{firstPlan}
 use Rattle.runs.specs.Guide.{accepts}
 use Rattle.sheet.specs.Check.{checkOf}
 use Rattle.sheet.specs.Notes.{FirstRecord, withNotes}
@@ -28,7 +28,7 @@ module _ (s other : List ℕ) (first : FirstRecord s) where
   -- so the same verdict, and the same histories accepted
   verdict-same : verdictOf (withNotes s other) ≡ verdictOf s
   unfolding verdictOf
-  verdict-same = λ i. search (transitionsIn (world-same i)) (isFinalIn (world-same i)) (bound-same i) (first-same i)
+  verdict-same = λ i. firstPlan (transitionsIn (world-same i)) (isFinalIn (world-same i)) (bound-same i) (first-same i)
 
   accepts-same : (h : List ℕ) → acceptsOf (withNotes s other) h ≡ acceptsOf s h
   unfolding acceptsOf

@@ -1,5 +1,6 @@
 -- To be believed: the thirteen worked cases of document 01 (its example of three sections) as a list of equations about whole sheets in
--- bytes; beside them further rows, for the kinds that no case has, and document 01's edges of the check. Assumes nothing.
+-- bytes; beside them further rows, for the kinds that no case has, rows for F-1 of document 02, and document 01's edges of the check. Assumes
+-- nothing.
 use Prim.Native.Nat.{ℕ, zero, suc, _+_, _*_}
 use mathlib.Core.Bool.{true, false}
 use mathlib.Core.List.{List, [], _∷_, _++_, flatten}
@@ -213,6 +214,22 @@ further =
     -- iteration of (act 0 | (act 2; test 1)), D 3: the test does not hold after act 2 and holds after another round's act 0
     × (replayOf (sheetTwice 3 (act 0 ∷ act 2 ∷ test 1 ∷ sequence 1 2 ∷ choice 0 3 ∷ iteration 4 ∷ [])) (2 ∷ 0 ∷ []) ≡ replied true)
     × (replayOf (sheetTwice 3 (act 0 ∷ act 2 ∷ test 1 ∷ sequence 1 2 ∷ choice 0 3 ∷ star 4 ∷ [])) (2 ∷ 0 ∷ []) ≡ replied false))
+    ∷ []
+
+-- document 02, F-1: "the plan is the first: fewest transitions, and among those the history that is smaller at the first differing entry, a
+-- proper beginning counting as smaller"
+abbrev pub firsts : List (Type 0)
+firsts =
+    -- star(act 0); act 1, D 12: no more transitions than needed
+    (planOf (sheetOf 12 starThenAct) ≡ found (0 ∷ 1 ∷ []) 2)
+    -- (act 0; act 0) | act 2, D 2: fewer transitions, although the history is larger
+    ∷ (planOf (sheetTwice 2 (act 0 ∷ sequence 0 0 ∷ act 2 ∷ choice 1 2 ∷ [])) ≡ found (2 ∷ []) 1)
+    -- act 2 | act 0, D 1: the smaller entry, although it is listed later
+    ∷ (planOf (sheetTwice 1 (act 2 ∷ act 0 ∷ choice 0 1 ∷ [])) ≡ found (0 ∷ []) 1)
+    -- (act 0; act 2) | (act 0; test 3), D 2: a proper beginning
+    ∷ (planOf (sheetTwice 2 (act 0 ∷ act 2 ∷ sequence 0 1 ∷ test 3 ∷ sequence 0 3 ∷ choice 2 4 ∷ [])) ≡ found (0 ∷ []) 2)
+    -- ((act 0; test 3) | (act 0; act 0)); act 2, D 3: 0 is smaller than 0 0, but 0 2 is larger than 0 0 2
+    ∷ (planOf (sheetTwice 3 (act 0 ∷ test 3 ∷ sequence 0 1 ∷ sequence 0 0 ∷ choice 2 3 ∷ act 2 ∷ sequence 4 5 ∷ [])) ≡ found (0 ∷ 0 ∷ 2 ∷ []) 3)
     ∷ []
 
 -- n fluents that are always 0, and the root nil

@@ -8,7 +8,9 @@ use Rattle.golog.specs.World.{World}
 use Rattle.golog.specs.Transitions.{Configuration, final, transitions}
 use Rattle.golog.specs.Trans.{Trans, Final}
 use Rattle.runs.specs.Runs.{Run, Legal, FinalRun, NoneAtAll, NoneWithin}
-use Rattle.runs.specs.Search.{Verdict, plan, nothing, more, search}
+use Rattle.runs.specs.Search.{Verdict, plan, nothing, more}
+use Rattle.runs.specs.First.{First}
+use Rattle.runs.specs.Earliest.{firstPlan}
 use Rattle.runs.specs.Guide.{accepts}
 use Rattle.sheet.specs.Check.{refusalOf, checkOf}
 use Rattle.sheet.specs.declared.Refusal.{Refusal}
@@ -54,9 +56,13 @@ NoRunEndsFinal s = (n : ℕ) (h : List ℕ) (d : Configuration) → Run (Goes (w
 abbrev pub RunOf : List ℕ → List ℕ → ℕ → Type 0
 RunOf s h t = (d : Configuration) × Run (Goes (worldOf s)) t (firstOf s) h d × Ends (worldOf s) d
 
--- the verdict on an accepted sheet: a plan, 13 or 14
+-- document 02, F-1: "the plan is the first": fewest transitions, and among those the smallest history
+abbrev pub FirstPlan : List ℕ → (h : List ℕ) → (t : ℕ) → Type 0
+FirstPlan s h t = First (Goes (worldOf s)) (Ends (worldOf s)) (boundOf s) (firstOf s) h t
+
+-- the verdict on an accepted sheet: the first plan, 13 or 14
 unfoldable pub verdictOf : List ℕ → Verdict
-verdictOf s = search (transitionsIn (worldOf s)) (isFinalIn (worldOf s)) (boundOf s) (firstOf s)
+verdictOf s = firstPlan (transitionsIn (worldOf s)) (isFinalIn (worldOf s)) (boundOf s) (firstOf s)
 
 -- whether a history is accepted on an accepted sheet
 unfoldable pub acceptsOf : List ℕ → List ℕ → Bool

@@ -1,9 +1,9 @@
 -- What is found of the parts of a construct says what is to be found of it: final where both are; its transitions are those of the left
--- part and, where that one lets it go, those of the right part. Assumes nothing.
+-- part and, where that one lets it go, those of the right part; and it is as far from its end as both together. Assumes nothing.
 use mathlib.Core.Path.{_≡_, refl, sym, ap, ap₂, _∙_}
-use mathlib.Core.Bool.{Bool, true, false, not, cond, _&&_, _||_}
+use mathlib.Core.Bool.{Bool, true, false, cond, _&&_}
 use mathlib.Core.List.{List}
-use Prim.Native.Nat.{ℕ, _+_, _*_, _^_, _<_}
+use Prim.Native.Nat.{ℕ, _+_, _^_, _<_, max}
 use native.Mathlib.Omega.{arith}
 use lib.Dec.{eqb}
 use lib.ListN.{getD}
@@ -12,7 +12,8 @@ use Rattle.records.proofs.Truth.{part-few}
 use Rattle.remaining.specs.Rest.{Rest, gone, leaf, node, nodes}
 use Rattle.remaining.specs.Leaves.{goesRight}
 use Rattle.words.proofs.Standing.{nodes-pos}
-use Rattle.ends.specs.Ends.{finalByTable, countByTable, soonByTable, joined, Totalled}
+use Rattle.leaves.specs.Distances.{farthest}
+use Rattle.ends.specs.Ends.{finalByTable, countByTable, farByTable, soonOf, soonByTable, joined, Below, Totalled}
 use Rattle.ends.specs.declared.Totals.{Totals}
 
 -- the right part goes by the construct
@@ -45,49 +46,59 @@ module _ (finals : List Bool) where
     pub final-first : x ≡ false → false ≡ finalByTable finals g
     final-first z = ap (λ (b : Bool). b && finalByTable finals r) (sym z) ∙ final-both refl
 
-module _ (finals endable : List Bool) (counts : List ℕ) where
-  pub total-gone : {g : Rest} → g ≡ gone → Totalled finals endable counts g (record { done = true; endable = true; count = 0; soon = false })
-  unfolding countByTable soonByTable
-  total-gone e = record {
+small : (n k : ℕ) → k < 2 ^ 32 → soonOf n k < 2 ^ 32
+small n k l = go (eqb n 0)
+  where
+    go : (b : Bool) → cond b farthest (max 1 k) < 2 ^ 32
+    go true = omega arith
+    go false = omega arith
+
+module _ (finals : List Bool) (distances counts : List ℕ) where
+  pub total-gone : {g : Rest} → g ≡ gone → Totalled finals distances counts g (record { done = true; count = 0; far = 0; soon = farthest })
+  unfolding countByTable farByTable soonByTable
+  total-gone {g} e = record {
     done-is = final-gone finals e;
-    endable-is = final-gone endable e;
     count-is = ap (countByTable finals counts) (sym e);
-    soon-is = ap (soonByTable finals endable counts) (sym e);
-    few = omega (arith, nodes-pos gone, ap nodes e);
+    far-is = ap (farByTable distances) (sym e);
+    soon-is = ap (soonByTable finals distances counts) (sym e);
+    few = omega (arith, nodes-pos g);
   }
 
-  pub total-leaf : {g : Rest} {n i j : ℕ} {x y : Bool} → g ≡ leaf j → i ≡ j → n ≡ getD counts i 0 → n < 2 ^ 32 → x ≡ getD finals i true → y ≡ getD endable i true
-      → Totalled finals endable counts g (record { done = x; endable = y; count = n; soon = not (eqb n 0) })
-  unfolding countByTable soonByTable nodes
-  total-leaf {n = n} {j = j} e ei en small ex ey =
-      let k : n ≡ getD counts j 0 = en ∙ ap (λ (i : ℕ). getD counts i 0) ei in
+  pub total-leaf : {g : Rest} {n k z i j : ℕ} {x : Bool} → g ≡ leaf j → i ≡ j → n ≡ getD counts i 0 → n < 2 ^ 32 → k ≡ getD distances i 0 → k < 2 ^ 32
+      → x ≡ getD finals i true → z ≡ soonOf n k → Totalled finals distances counts g (record { done = x; count = n; far = k; soon = z })
+  unfolding countByTable farByTable soonByTable
+  total-leaf {g} {n} {k} {j = j} e ei en ln ek lk ex ez =
+      let u : n ≡ getD counts j 0 = en ∙ ap (λ (i : ℕ). getD counts i 0) ei in
+      let v : k ≡ getD distances j 0 = ek ∙ ap (λ (i : ℕ). getD distances i 0) ei in
       record {
         done-is = final-leaf finals e ei ex;
-        endable-is = final-leaf endable e ei ey;
-        count-is = k ∙ ap (countByTable finals counts) (sym e);
-        soon-is = ap (λ (n : ℕ). not (eqb n 0)) k ∙ ap (soonByTable finals endable counts) (sym e);
-        few = omega (arith, ap nodes e);
+        count-is = u ∙ ap (countByTable finals counts) (sym e);
+        far-is = v ∙ ap (farByTable distances) (sym e);
+        soon-is = ez ∙ ap₂ soonOf u v ∙ ap (soonByTable finals distances counts) (sym e);
+        few = omega (arith, small n k lk, nodes-pos g);
       }
 
-  module _ {g l r : Rest} {tag : ℕ} (e : g ≡ node tag l r) {x y : Totals} (F : Totalled finals endable counts l x) (G : Totalled finals endable counts r y) where
-    pub total-few : x .count + y .count < 2 ^ 32 * nodes g
+  module _ {g l r : Rest} {tag : ℕ} (e : g ≡ node tag l r) {x y : Totals} (F : Totalled finals distances counts l x) (G : Totalled finals distances counts r y) where
+    nodes-are : nodes g ≡ 1 + nodes l + nodes r
     unfolding nodes
-    total-few = omega (arith, ap nodes e, F .few, G .few)
+    nodes-are = ap nodes e
+
+    -- both are few enough to be added, where the nodes fit a word
+    pub totals-few : nodes g < 2 ^ 31 → Below (2 ^ 63) x × Below (2 ^ 63) y
+    totals-few h = omega (arith, nodes-are, F .few, G .few)
 
     goes-is : goesRight tag (x .done) (eqb (x .count) 0) ≡ goesRight tag (finalByTable finals l) (eqb (countByTable finals counts l) 0)
     goes-is = ap₂ (λ (d : Bool) (n : ℕ). goesRight tag d (eqb n 0)) (F .done-is) (F .count-is)
 
-    pub total-node : Totalled finals endable counts g (joined tag x y)
-    unfolding countByTable soonByTable
+    pub total-node : Totalled finals distances counts g (joined tag x y)
+    unfolding countByTable farByTable soonByTable
     total-node = record {
       done-is = final-both finals e (F .done-is) (G .done-is);
-      endable-is = final-both endable e (F .endable-is) (G .endable-is);
       count-is =
           ap₂ (λ (b : Bool) (m : ℕ). x .count + cond b m 0) goes-is (G .count-is)
           ∙ ap (λ (n : ℕ). n + cond (goesRight tag (finalByTable finals l) (eqb (countByTable finals counts l) 0)) (countByTable finals counts r) 0) (F .count-is)
           ∙ ap (countByTable finals counts) (sym e);
-      soon-is =
-          ap₂ _||_ (ap₂ _&&_ (F .soon-is) (G .endable-is)) (ap₂ _&&_ (ap₂ _&&_ goes-is (F .endable-is)) (G .soon-is))
-          ∙ ap (soonByTable finals endable counts) (sym e);
-      few = omega (arith, total-few, part-few (goesRight tag (x .done) (eqb (x .count) 0)) (y .count));
+      far-is = ap₂ _+_ (F .far-is) (G .far-is) ∙ ap (farByTable distances) (sym e);
+      soon-is = rw (goes-is, F .far-is, F .soon-is, G .far-is, G .soon-is) (ap (soonByTable finals distances counts) (sym e));
+      few = omega (arith, nodes-are, F .few, G .few, part-few (goesRight tag (x .done) (eqb (x .count) 0)) (y .count));
     }

@@ -1,15 +1,16 @@
 -- Own vocabulary: finality and the number of transitions of a remaining program, by tables of those of its records (document 01, "Steps and
--- endings"), and whether it may be final in some state, now or after one transition. That they are those of the meaning is in
--- proofs/Tabled.antt and proofs/Endings.antt. Assumes nothing.
+-- endings"), and how far it is from its end at least. That they are those of the meaning is in proofs/Tabled.antt and proofs/Endings.antt.
+-- Assumes nothing.
 use mathlib.Core.Path.{_≡_}
-use Prim.Native.Nat.{ℕ, _+_, _*_, _^_, _≤_, _<_}
-use mathlib.Core.Bool.{Bool, true, false, not, cond, _&&_, _||_}
+use Prim.Native.Nat.{ℕ, _+_, _*_, _^_, _≤_, _<_, min, max}
+use mathlib.Core.Bool.{Bool, true, cond, _&&_}
 use mathlib.Core.List.{List}
 use lib.Dec.{eqb}
 use lib.ListN.{getD}
 use Rattle.records.specs.declared.Program.{Program}
 use Rattle.remaining.specs.Rest.{Rest, gone, leaf, node, nodes, largest, high}
 use Rattle.remaining.specs.Leaves.{goesRight}
+use Rattle.leaves.specs.Distances.{farthest}
 use Rattle.ends.specs.declared.Totals.{Totals}
 
 -- final: a construct, where both parts are
@@ -25,30 +26,50 @@ countByTable finals counts (leaf i) = getD counts i 0
 countByTable finals counts (node tag l r) =
     countByTable finals counts l + cond (goesRight tag (finalByTable finals l) (eqb (countByTable finals counts l) 0)) (countByTable finals counts r) 0
 
--- a transition may leave what is final in some state: one of a part, beside the other part as it is
-unfoldable pub soonByTable : (finals endable : List Bool) (counts : List ℕ) → Rest → Bool
-soonByTable finals endable counts gone = false
-soonByTable finals endable counts (leaf i) = not (eqb (getD counts i 0) 0)
-soonByTable finals endable counts (node tag l r) =
-    (soonByTable finals endable counts l && finalByTable endable r)
-    || (goesRight tag (finalByTable finals l) (eqb (countByTable finals counts l) 0) && finalByTable endable l && soonByTable finals endable counts r)
+-- how far it is from its end at least: as far as its parts together
+unfoldable pub farByTable : (distances : List ℕ) → Rest → ℕ
+farByTable distances gone = 0
+farByTable distances (leaf i) = getD distances i 0
+farByTable distances (node tag l r) = farByTable distances l + farByTable distances r
+
+-- the same by way of any transition, that one counted: of a record that has so many, and is so far from its end
+abbrev pub soonOf : (count far : ℕ) → ℕ
+soonOf count far = cond (eqb count 0) farthest (max 1 far)
+
+-- of a construct, from those of its parts: a transition of one leaves the other as it is
+abbrev pub soonBoth : (goes : Bool) (farL soonL farR soonR : ℕ) → ℕ
+soonBoth goes farL soonL farR soonR = min (soonL + farR) (cond goes (farL + soonR) farthest)
+
+-- of what remains; where there is no transition, every number is right
+unfoldable pub soonByTable : (finals : List Bool) (distances counts : List ℕ) → Rest → ℕ
+soonByTable finals distances counts gone = farthest
+soonByTable finals distances counts (leaf i) = soonOf (getD counts i 0) (getD distances i 0)
+soonByTable finals distances counts (node tag l r) =
+    soonBoth (goesRight tag (finalByTable finals l) (eqb (countByTable finals counts l) 0))
+    (farByTable distances l) (soonByTable finals distances counts l) (farByTable distances r) (soonByTable finals distances counts r)
 
 -- the totals of a construct, from those of its parts
 abbrev pub joined : (tag : ℕ) → Totals → Totals → Totals
 joined tag l r = record {
   done = l .done && r .done;
-  endable = l .endable && r .endable;
   count = l .count + cond (goesRight tag (l .done) (eqb (l .count) 0)) (r .count) 0;
-  soon = (l .soon && r .endable) || (goesRight tag (l .done) (eqb (l .count) 0) && l .endable && r .soon);
+  far = l .far + r .far;
+  soon = soonBoth (goesRight tag (l .done) (eqb (l .count) 0)) (l .far) (l .soon) (r .far) (r .soon);
 }
 
--- the totals are those of g; a count fits a word, so they are few enough to add
-pub record Totalled (finals endable : List Bool) (counts : List ℕ) (g : Rest) (t : Totals) : Type 0 where
+-- no number of the totals is as large as n
+pub record Below (n : ℕ) (t : Totals) : Type 0 where
+  pub count-below : t .count < n
+  pub far-below : t .far < n
+  pub soon-below : t .soon < n
+
+-- the totals are those of g; each number of a table fits a word, so they are few enough to add
+pub record Totalled (finals : List Bool) (distances counts : List ℕ) (g : Rest) (t : Totals) : Type 0 where
   pub done-is : t .done ≡ finalByTable finals g
-  pub endable-is : t .endable ≡ finalByTable endable g
   pub count-is : t .count ≡ countByTable finals counts g
-  pub soon-is : t .soon ≡ soonByTable finals endable counts g
-  pub few : t .count < 2 ^ 32 * nodes g
+  pub far-is : t .far ≡ farByTable distances g
+  pub soon-is : t .soon ≡ soonByTable finals distances counts g
+  pub few : Below (2 ^ 32 * nodes g) t
 
 -- the height of the table that runs: 16, and 2 for the interrupts (document 01, "Work area": h)
 abbrev pub mostLevels : ℕ

@@ -72,6 +72,25 @@ module _ {s w : List ℕ} {left d : ℕ} {p : Prog} (F : Frame s left w d p) whe
             };
       }
 
+  -- room for fewer transitions
+  pub frame-fewer : (n : ℕ) → n ≤ left → Frame s n w d p
+  frame-fewer n l =
+      let r = F .roomy in
+      let h = 2 * levelsOf s in
+      record {
+        rest = F .rest;
+        stands-for = F .stands-for;
+        words-are = F .words-are;
+        roomy =
+            record {
+              large = omega (arith, r .large, mul-le-mul {n₁ = h} {m₁ = n} {n₂ = h} {m₂ = left} (omega arith) l);
+              inside = omega (arith, r .inside, mul-le-mul {n₁ = frameOf s} {m₁ = n} {n₂ = frameOf s} {m₂ = left} (omega arith) l);
+              small = r .small;
+              high-is = r .high-is;
+              within = r .within;
+            };
+      }
+
   -- one program stands in a frame
   pub frame-same : {left′ : ℕ} {q : Prog} → Frame s left′ w d q → p ≡ q
   frame-same G =

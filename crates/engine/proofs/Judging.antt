@@ -23,16 +23,19 @@ use Rattle.state.specs.Truths.{truthsOf, possibleIn, AreTruths}
 use Rattle.state.proofs.Truths.{are-truths}
 use Rattle.leaves.specs.Tallies.{extendedSize, cappedCount, countsOf, Tallied}
 use Rattle.leaves.specs.Endable.{Endable, finalBoundsOf, skipsOf, Skips, FinalsKnown, Tallyable}
+use Rattle.leaves.specs.Distances.{Distances, distancesOf}
 use Rattle.leaves.proofs.Marking.{bounds-above, bounds-after, places-few}
+use Rattle.leaves.proofs.Measuring.{distances-below}
 use Rattle.leaves.proofs.Skipping.{skips-settled}
 use Rattle.leaves.proofs.Entries.{finals-whole, counts-whole}
-use Rattle.engine.specs.Tables.{Only, flagPlaces, endableIn, truthsFrom, truthsAt, finalsAt, numberPlaces, skipsIn, countsFrom, countsAt, extendedSizeOf, Prepared, Judged, Surveyed}
+use Rattle.engine.specs.Tables.{Only, flagPlaces, endableIn, truthsFrom, truthsAt, finalsAt, numberPlaces, skipsIn, distancesIn, countsFrom, countsAt}
+use Rattle.engine.specs.Tables.{extendedSizeOf, Prepared, Judged, Surveyed}
 use Rattle.sheet.specs.Inspection.{Of}
 use Rattle.sheet.specs.declared.Inspection.{Inspection}
 use Rattle.sheet.proofs.Found.{by-found, of-found}
 use Rattle.engine.proofs.Actions.{acts-read}
 use Rattle.engine.proofs.Seen.{sees}
-use Rattle.engine.proofs.Tables.{finals-long, counts-long, endable-kept, skips-kept, none-by}
+use Rattle.engine.proofs.Tables.{finals-long, counts-long, endable-kept, skips-kept, distances-kept, none-by}
 
 -- the table that runs and its number of records, by the names of a layout
 abbrev pub runs : List ℕ → Layout → (interrupts : Bool) → ℕ → Program
@@ -64,8 +67,9 @@ module _ {s : List ℕ} {m : Inspection} (O : Of s m) where
       → marks ≡ finalBoundsOf true (runs s (m .layout) (m .interrupts)) (many (m .layout) (m .interrupts))
       → ((d i : ℕ) → getD (countsAt d numbers) i 0 ≡ 0)
       → skipsIn numbers ≡ skipsOf (runs s (m .layout) (m .interrupts)) (many (m .layout) (m .interrupts)) marks
+      → distancesIn numbers ≡ distancesOf (runs s (m .layout) (m .interrupts)) (many (m .layout) (m .interrupts))
       → Prepared s flags numbers
-  prepared {flags} {numbers} marks n k e eb ec es =
+  prepared {flags} {numbers} marks n k e eb ec es ed =
       let low = all-lower s (O .accepted) in
       let e₂ = e ∙ of-found O (λ (l : Layout) (b : Bool). marks ≡ finalBoundsOf true (runs s l b) (many l b)) eb in
       let E : Endable (extendedRecords s) (extendedSizeOf s) (endableIn flags) =
@@ -73,13 +77,14 @@ module _ {s : List ℕ} {m : Inspection} (O : Of s m) where
       let S = skips-settled (extendedRecords s) (extendedSizeOf s) (endableIn flags) low E in
       let e₃ = of-found O (λ (l : Layout) (b : Bool). skipsIn numbers ≡ skipsOf (runs s l b) (many l b) marks) es in
       let e₄ = e₃ ∙ ap (skipsOf (extendedRecords s) (extendedSizeOf s)) (sym e) in
+      let e₅ = of-found O (λ (l : Layout) (b : Bool). distancesIn numbers ≡ distancesOf (runs s l b) (many l b)) ed in
       record {
         flags-long = n;
         numbers-long = k;
-        endable = E;
         none-final = λ i l. ap (λ (x : List Bool). getD x i true) e₂ ∙ bounds-after true (extendedRecords s) (extendedSizeOf s) i l;
         none-counted = λ d i l. ec d i;
         skipping = subst (Skips (extendedRecords s) (extendedSizeOf s) (endableIn flags)) (sym e₄) S;
+        distances = subst (Distances (extendedRecords s) (extendedSizeOf s)) (sym e₅) (distances-below (extendedRecords s) (extendedSizeOf s) low);
       }
 
   module _ {flags : List Bool} {numbers : List ℕ} (P : Prepared s flags numbers) where
@@ -97,10 +102,10 @@ module _ {s : List ℕ} {m : Inspection} (O : Of s m) where
     prepared-kept flags′ n e = record {
       flags-long = n ∙ P .flags-long;
       numbers-long = P .numbers-long;
-      endable = subst (Endable (extendedRecords s) (extendedSizeOf s)) (sym e) (P .endable);
       none-final = λ i l. ap (λ (x : List Bool). getD x i true) e ∙ P .none-final i l;
       none-counted = P .none-counted;
       skipping = subst (λ (x : List Bool). Skips (extendedRecords s) (extendedSizeOf s) x (skipsIn numbers)) (sym e) (P .skipping);
+      distances = P .distances;
     }
 
     -- told of a state
@@ -163,10 +168,10 @@ module _ {s : List ℕ} {m : Inspection} (O : Of s m) where
               record {
                 flags-long = P .flags-long;
                 numbers-long = n ∙ P .numbers-long;
-                endable = P .endable;
                 none-final = P .none-final;
                 none-counted = λ e i l. none-by d e i (P .numbers-long) K n (P .none-counted e i l) (here i l);
                 skipping = subst (Skips (extendedRecords s) (extendedSizeOf s) (endableIn flags)) (sym (skips-kept (omega arith) K)) (P .skipping);
+                distances = subst (Distances (extendedRecords s) (extendedSizeOf s)) (sym (distances-kept (omega arith) K n (omega (arith, P .numbers-long)))) (P .distances);
               };
           truths-are = J .truths-are;
           tabled =

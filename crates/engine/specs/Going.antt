@@ -1,6 +1,6 @@
 -- Own vocabulary: going through a configuration's transitions in listed order, from a cursor on: what strategies know of the engine.
 -- Assumes nothing.
-use Prim.Native.Nat.{ℕ, suc, _+_, _-_, _<_}
+use Prim.Native.Nat.{ℕ, suc, _+_, _-_, _≤_, _<_}
 use mathlib.Core.Path.{_≡_}
 use mathlib.Core.Bool.{Bool, true, false, cond}
 use mathlib.Core.List.{List, [], _∷_, List·Memᴰ}
@@ -13,6 +13,7 @@ use Rattle.sheet.specs.Layout.{layoutOf}
 use Rattle.golog.specs.World.{start}
 use Rattle.golog.specs.Transitions.{Configuration, Transition}
 use Rattle.golog.specs.Prog.{Prog}
+use Rattle.golog.specs.Distance.{distance}
 use Rattle.demands.specs.Decoded.{worldOf}
 use Rattle.demands.specs.Planning.{transitionsIn, isFinalIn}
 use Rattle.steps.specs.Laid.{testCode}
@@ -34,15 +35,12 @@ pub record Ahead (s : List ℕ) (c : Configuration) (k : Cursor) (xs : List Tran
   pub ahead-are : xs ≡ drop (k .next) (transitionsOf s c)
   pub end-is : k .end ≡ length (transitionsOf s c)
 
--- no transition of c leads to a configuration that is final
-abbrev pub NoneEnds : List ℕ → Configuration → Type 0
-NoneEnds s c = (x : Transition) → List·Memᴰ x (transitionsOf s c) → isFinal s (x .1) ≡ false
-
--- what a survey tells of c: whether it is final, the first cursor, and perhaps that no transition leads to a final configuration
+-- what a survey tells of c: whether it is final, the first cursor, and how far it is from its end at least by way of any transition, that
+-- one counted
 pub record Tells (s : List ℕ) (c : Configuration) (r : Findings) : Type 0 where
   pub final-is : r .done ≡ isFinal s c
   pub first : Ahead s c (r .first) (transitionsOf s c)
-  pub none-ends : r .soon ≡ false → NoneEnds s c
+  pub far : (x : Transition) → List·Memᴰ x (transitionsOf s c) → r .soon ≤ suc (distance (x .1 .0))
 
 -- a test, or a move that has K
 abbrev pub Known : (ℕ → Type 0) → Option ℕ → Type 0

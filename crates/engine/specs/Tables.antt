@@ -14,7 +14,8 @@ use Rattle.demands.specs.Compact.{extendedRecords}
 use Rattle.state.specs.Truths.{AreTruths}
 use Rattle.remaining.specs.Extended.{mostRecords}
 use Rattle.leaves.specs.Tallies.{extendedSize, finalsOf}
-use Rattle.leaves.specs.Endable.{Endable, Skips, FinalsKnown}
+use Rattle.leaves.specs.Endable.{Skips, FinalsKnown}
+use Rattle.leaves.specs.Distances.{Distances}
 use Rattle.steps.specs.Laid.{sourcesOf}
 use Rattle.steps.specs.declared.Setting.{Setting}
 use Rattle.steps.specs.Stepped.{Tabled}
@@ -81,15 +82,22 @@ finalsAt d flags = window (finalsFrom d) mostRecords flags
 abbrev pub skipPlaces : ℕ
 skipPlaces = 261
 
--- numbers: from each place on, the first record whose finality depends on the state; then for each set how many transitions each record has
+-- numbers: from each place on, the first record whose finality depends on the state; then how far each record is from its end; then for
+-- each set how many transitions each record has; then how many configurations were surveyed
 abbrev pub numberPlaces : ℕ
-numberPlaces = 2341
+numberPlaces = 2602
+
+abbrev pub surveysAt : ℕ
+surveysAt = 2601
 
 abbrev pub skipsIn : List ℕ → List ℕ
 skipsIn numbers = take skipPlaces numbers
 
+abbrev pub distancesIn : List ℕ → List ℕ
+distancesIn numbers = window skipPlaces mostRecords numbers
+
 abbrev pub countsFrom : (d : ℕ) → ℕ
-countsFrom d = skipPlaces + mostRecords * setOf d
+countsFrom d = skipPlaces + mostRecords + mostRecords * setOf d
 
 abbrev pub countsAt : (d : ℕ) → List ℕ → List ℕ
 countsAt d numbers = window (countsFrom d) mostRecords numbers
@@ -102,10 +110,10 @@ extendedSizeOf s = extendedSize (interruptsIn s) (layoutOf s .p)
 pub record Prepared (s : List ℕ) (flags : List Bool) (numbers : List ℕ) : Type 0 where
   pub flags-long : length flags ≡ flagPlaces
   pub numbers-long : length numbers ≡ numberPlaces
-  pub endable : Endable (extendedRecords s) (extendedSizeOf s) (endableIn flags)
   pub none-final : (i : ℕ) → extendedSizeOf s ≤ i → getD (endableIn flags) i true ≡ true
   pub none-counted : (d i : ℕ) → extendedSizeOf s ≤ i → getD (countsAt d numbers) i 0 ≡ 0
   pub skipping : Skips (extendedRecords s) (extendedSizeOf s) (endableIn flags) (skipsIn numbers)
+  pub distances : Distances (extendedRecords s) (extendedSizeOf s) (distancesIn numbers)
 
 -- what the formulas say in the state st, and which records are final in it, stands there too, for depth d
 pub record Judged (s : List ℕ) (st : State) (d : ℕ) (flags : List Bool) (numbers : List ℕ) : Type 0 where

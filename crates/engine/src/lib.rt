@@ -22,8 +22,9 @@ ghost use Rattle.leaves.specs.Endable.{Skips};
 ghost use Rattle.words.specs.Words.{At, Stands};
 ghost use Rattle.ends.specs.Ends.{Totalled};
 ghost use Rattle.state.specs.Truths.{AreTruths};
-ghost use Rattle.engine.specs.Tables.{window, Only, mostFormulas, setFlags, truthsOn, finalsOn, FinalsOn, SameFrom, flagPlaces, numberPlaces};
-ghost use Rattle.engine.specs.Tables.{endableIn, truthsFrom, finalsAt, countsFrom, countsAt, Prepared, Judged, Surveyed, Filled};
+ghost use Rattle.engine.specs.Tables.{window, Only, mostFormulas, setFlags, truthsOn, finalsOn, FinalsOn, SameFrom, flagPlaces};
+ghost use Rattle.engine.specs.Tables.{numberPlaces, surveysAt};
+ghost use Rattle.engine.specs.Tables.{endableIn, truthsFrom, finalsAt, distancesIn, countsFrom, countsAt, Prepared, Judged, Surveyed, Filled};
 ghost use Rattle.engine.specs.Frames.{Frame};
 ghost use Rattle.engine.specs.Going.{isFinal, Ahead, Tells, Known, IsAction, moveOf, CanGoOn, GoesOn};
 ghost use Rattle.engine.specs.Turns.{Turns};
@@ -40,7 +41,13 @@ pub const SETS: usize = 8;
 // The places of the two slices that hold the tables.
 pub const FLAGS: usize = leaves::RECORDS + SETS * (sheet::MOST_FORMULAS + leaves::RECORDS);
 
-pub const NUMBERS: usize = leaves::SKIPS + SETS * leaves::RECORDS;
+pub const NUMBERS: usize = SURVEYS + 1;
+
+// Where among the numbers those of the sets begin: behind the skips and the distances.
+const COUNTS: usize = leaves::SKIPS + leaves::RECORDS;
+
+// Where among them it is counted how many configurations were surveyed.
+const SURVEYS: usize = COUNTS + SETS * leaves::RECORDS;
 
 // How far the transitions of a configuration have been gone through: the number of the next one, and how many there are.
 pub struct Cursor {
@@ -48,10 +55,11 @@ pub struct Cursor {
     pub end: usize,
 }
 
-// What a survey tells of a configuration: whether it is final, whether a transition may lead to a final one, and the first cursor.
+// What a survey tells of a configuration: whether it is final, how far it is from its end at least by way of any transition, that one
+// counted, and the first cursor.
 pub struct Findings {
     pub done: bool,
-    pub soon: bool,
+    pub soon: usize,
     pub first: Cursor,
 }
 
@@ -140,7 +148,8 @@ fn copy_numbers(to: &mut [u32], from: &[u32])
     }
 }
 
-// Fills in once what depends on the sheet alone: which records may be final in some state, and which depend on it.
+// Fills in once what depends on the sheet alone: which records may be final in some state, which depend on it, and how far each is from
+// its end.
 pub fn prepare(flags: &mut [bool], numbers: &mut [u32], s: &[u8], found: Inspection)
     requires { ⌜ Of (now s) found × (length (now flags) ≡ flagPlaces) × (length (now numbers) ≡ numberPlaces) × ((i : ℕ) → getD (now numbers) i 0 ≡ 0) ⌝ }
     ensures { λ _. ⌜ Prepared (now (s .entry)) (now (flags .exit)) (now (numbers .exit)) ⌝ }
@@ -151,8 +160,10 @@ pub fn prepare(flags: &mut [bool], numbers: &mut [u32], s: &[u8], found: Inspect
     let t = &s[a..b];
     let endable = leaves::bounds(t, l.p, found.interrupts, true);
     let skips = leaves::skips(t, l.p, found.interrupts, &endable);
+    let distances = leaves::distances(t, l.p, found.interrupts);
     copy_flags(&mut flags[..leaves::RECORDS], &endable);
     copy_numbers(&mut numbers[..leaves::SKIPS], &skips);
+    copy_numbers(&mut numbers[leaves::SKIPS..COUNTS], &distances);
 }
 
 // Where the tables for depth d begin: among the flags what the formulas say, and behind it which records are final.
@@ -166,7 +177,7 @@ fn flags_from(d: usize) -> usize
 fn counts_from(d: usize) -> usize
     ensures { λ r. ⌜ (r ≡ countsFrom d) × (r + mostRecords ≤ numberPlaces) ⌝ }
 {
-    leaves::SKIPS + leaves::RECORDS * (d % SETS)
+    COUNTS + leaves::RECORDS * (d % SETS)
 }
 
 // Takes over for every record whether it may be final: so it is final, unless that depends on the state.
@@ -301,7 +312,7 @@ fn tally(numbers: &mut [u32], flags: &[bool], s: &[u8], found: Inspection, st: S
 // What the tables for depth d say of the remaining program at `at`.
 fn total(flags: &[bool], numbers: &[u32], work: &[u32], d: usize, at: usize) -> Totals
     requires { ⌜ (length (now flags) ≡ flagPlaces) × (length (now numbers) ≡ numberPlaces) × Stands (now work) at × (length (now work) < 2 ^ 32) ⌝ }
-    ensures { λ r. ⌜ ((g : Rest) → At g (now (work .entry)) at → Totalled (finalsAt d (now (flags .entry))) (endableIn (now (flags .entry))) (countsAt d (now (numbers .entry))) g r) ⌝ }
+    ensures { λ r. ⌜ ((g : Rest) → At g (now (work .entry)) at → Totalled (finalsAt d (now (flags .entry))) (distancesIn (now (numbers .entry))) (countsAt d (now (numbers .entry))) g r) ⌝ }
 {
     let from = flags_from(d) + sheet::MOST_FORMULAS;
     let to = from + leaves::RECORDS;
@@ -309,11 +320,26 @@ fn total(flags: &[bool], numbers: &[u32], work: &[u32], d: usize, at: usize) -> 
     let last = first + leaves::RECORDS;
     ends::total_rest(
         &flags[from..to],
-        &flags[..leaves::RECORDS],
+        &numbers[leaves::SKIPS..COUNTS],
         &numbers[first..last],
         work,
         at,
     )
+}
+
+fn count_survey(numbers: &mut [u32])
+    requires { ⌜ length (now numbers) ≡ numberPlaces ⌝ }
+    ensures written { λ _. ⌜ Only surveysAt 1 (now (numbers .entry)) (now (numbers .exit)) ⌝ }
+{
+    let k = numbers[SURVEYS];
+    numbers[SURVEYS] = std::num::wrapping_add_u32(k, 1);
+}
+
+// How many configurations were surveyed since the tables were prepared: what a search has cost. It begins anew at 2^32.
+pub fn surveys(numbers: &[u32]) -> u32
+    requires { ⌜ length (now numbers) ≡ numberPlaces ⌝ }
+{
+    numbers[SURVEYS]
 }
 
 // Surveys the configuration of frame d and the state: the tables for depth d become those of the state.
@@ -334,6 +360,7 @@ pub fn survey(
 {
     judge(flags, numbers, s, found, st, d);
     tally(numbers, flags, s, found, st, d);
+    count_survey(numbers);
     let totals = total(flags, numbers, work, d, d * found.frame + height::HEADER);
     Findings {
         done: totals.done,

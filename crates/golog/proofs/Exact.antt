@@ -9,8 +9,8 @@ use mathlib.Core.Logic.{_⊎_, inl, inr, _↔_}
 use mathlib.Core.Option.{Option, none, some}
 use mathlib.Core.Path.{_≡_, refl, ap, _∙_}
 use lib.Dec.{T}
-use Rattle.runs.proofs.Tests.{and-iff, only-iff, append-iff}
-use Rattle.golog.proofs.Tests.{same, or-iff, not-iff}
+use Rattle.runs.proofs.Tests.{and-iff, or-iff, only-iff, append-iff}
+use Rattle.golog.proofs.Tests.{same, not-iff}
 use Rattle.golog.specs.declared.State.{State}
 use Rattle.golog.specs.World.{World, holds, possible, perform}
 use Rattle.golog.specs.Prog.{Prog, nil, act, test, sequence, choice, together, over, star, iteration, ifThenElse, while, interrupt}

@@ -10,11 +10,11 @@ use lib.ListN.{getD}
 use Rattle.kinds.specs.Truth.{truthOf}
 use Rattle.kinds.specs.Formulas.{fieldA, fieldB, hasA, hasB, PartsLower}
 use Rattle.kinds.proofs.FormulaKinds.{by-kind, formulaOf}
-use Rattle.runs.proofs.Tests.{and-iff, eqb-iff}
+use Rattle.runs.proofs.Tests.{and-iff, or-iff, eqb-iff, ltb-iff}
 use Rattle.golog.specs.declared.State.{State}
 use Rattle.golog.specs.World.{World, truths, holds}
 use Rattle.golog.specs.Says.{valueOf, Says}
-use Rattle.golog.proofs.Tests.{same, or-iff, not-iff, ltb-iff, equal-iff}
+use Rattle.golog.proofs.Tests.{same, not-iff, equal-iff}
 use Rattle.golog.proofs.Truths.{holds-at, holds-is}
 
 module _ (W : World) (s : State) (lower : List Bool) (x a b : ℕ) where

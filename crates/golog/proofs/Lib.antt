@@ -5,3 +5,4 @@ pub mod Formulas
 pub mod Moves
 pub mod Acts
 pub mod Construct
+pub mod Distance

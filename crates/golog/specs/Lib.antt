@@ -4,3 +4,4 @@ pub mod Prog
 pub mod Trans
 pub mod Transitions
 pub mod Decoded
+pub mod Distance

@@ -2,7 +2,7 @@
 -- 2 test, 3 a;b, 4 a|b, 5 star, 6 if, 7 while, 8 together, 9 over, 10 concurrent iteration, 11 interrupt. That the fields' roles are
 -- document 01's rule is proved in proofs/ProgramFields.antt; that no kind does more, or less, than the columns say, in
 -- remaining/proofs/Same.antt. The functions of these names are in src/programs.rt. Assumes nothing.
-use Prim.Native.Nat.{ℕ, _+_}
+use Prim.Native.Nat.{ℕ, _+_, min}
 use mathlib.Core.Bool.{Bool, true, false, not, cond, _&&_, _||_}
 use mathlib.Core.List.{List, [], _∷_}
 use lib.Dec.{eqb, ltb, leb}
@@ -164,3 +164,11 @@ countBy r can truths running finals counts =
 -- how many of them are its part a's: they come first
 unfoldable pub firstBy : Program → (truths : List Bool) (running : Bool) (counts : List ℕ) → ℕ
 firstBy r truths running counts = cond (usesA (r .kind) (getD truths (r .c) false) running) (getD counts (r .a) 0) 0
+
+-- how far it is from its end at least, in transitions and whatever the states, where its parts are da and db from theirs
+unfoldable pub distanceOf : (kind da db : ℕ) → ℕ
+distanceOf kind da db = getD (0 ∷ 1 ∷ 1 ∷ (da + db) ∷ min da db ∷ 0 ∷ min da db ∷ 0 ∷ (da + db) ∷ (da + db) ∷ 0 ∷ 0 ∷ []) kind 0
+
+-- the same by what is tabled of lower records
+unfoldable pub distanceBy : Program → (distances : List ℕ) → ℕ
+distanceBy r distances = distanceOf (r .kind) (getD distances (r .a) 0) (getD distances (r .b) 0)

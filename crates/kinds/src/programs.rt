@@ -2,10 +2,10 @@
 // column that is asked for. Tables are read in the arms, so that a kind reads no more than it uses.
 ghost use mathlib.Core.Path.{_≡_};
 ghost use mathlib.Core.Bool.{true, not, cond, _&&_, _||_};
-ghost use Prim.Native.Nat.{_+_, _^_, _<_};
+ghost use Prim.Native.Nat.{_+_, _^_, _<_, min};
 ghost use lib.ListN.{getD};
 ghost use Rattle.kinds.specs.Programs.{fieldA, fieldB, fieldC, fieldOk, programOk, isRecord, hasA, hasB, acts};
-ghost use Rattle.kinds.specs.Programs.{finalBy, finalBoundBy, hasOwn, usesA, tagA, loops, tagB, countBy, firstBy};
+ghost use Rattle.kinds.specs.Programs.{finalBy, finalBoundBy, distanceBy, hasOwn, usesA, tagA, loops, tagB, countBy, firstBy};
 use records::Program;
 
 // The last kind of program record.
@@ -313,4 +313,30 @@ pub fn first_by(r: Program, truths: &[bool], running: bool, counts: &[u32]) -> u
 {
     let goes = uses_a(r.kind, records::flag_in(truths, r.c, false), running);
     part(counts, r.a, goes) as usize
+}
+
+// The lesser of what is tabled of two parts.
+fn lesser(table: &[u32], a: usize, b: usize) -> u64
+    ensures { λ r. ⌜ r ≡ min (getD (now (table .entry)) a 0) (getD (now (table .entry)) b 0) ⌝ }
+{
+    let x = part(table, a, true);
+    let y = part(table, b, true);
+    if x < y { x } else { y }
+}
+
+// How far a record is from its end at least, in transitions and whatever the states, by what is tabled of lower records.
+pub fn distance_by(r: Program, distances: &[u32]) -> u64
+    ensures { λ k. ⌜ k ≡ distanceBy r (now (distances .entry)) ⌝ }
+{
+    let kind = r.kind;
+    match kind {
+        1 => 1,
+        2 => 1,
+        3 => both_if(distances, r.a, r.b, true),
+        4 => lesser(distances, r.a, r.b),
+        6 => lesser(distances, r.a, r.b),
+        8 => both_if(distances, r.a, r.b, true),
+        9 => both_if(distances, r.a, r.b, true),
+        _ => 0,
+    }
 }

@@ -3,3 +3,4 @@ pub mod Filling
 pub mod Entries
 pub mod Skipping
 pub mod Marking
+pub mod Measuring

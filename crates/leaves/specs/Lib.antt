@@ -1,2 +1,3 @@
 pub mod Tallies
 pub mod Endable
+pub mod Distances

@@ -1,5 +1,5 @@
 // Tables over the program records, each by one pass: for a state, whether each record is final and how many transitions it has; and for
-// every state at once, whether it may be final, whether it surely is, and which records depend on the state.
+// every state at once, whether it may be final, whether it surely is, which records depend on the state, and how far each is from its end.
 ghost use mathlib.Core.Path.{_≡_};
 ghost use mathlib.Core.Bool.{true, _&&_};
 ghost use Prim.Native.Nat.{_≤_, _<_, min};
@@ -10,8 +10,9 @@ ghost use Rattle.kinds.specs.Programs.{acts};
 ghost use Rattle.remaining.specs.Extended.{mostRecords, empty, virtual, tableOf};
 ghost use Rattle.state.specs.Truths.{possibleIn};
 ghost use Rattle.state.specs.Ranges.{InActions};
-ghost use Rattle.leaves.specs.Tallies.{cap, extendedSize, cappedCountBy, Tallied};
+ghost use Rattle.leaves.specs.Tallies.{extendedSize, cappedCountBy, Tallied};
 ghost use Rattle.leaves.specs.Endable.{finalBoundsOf, doubtBy, skipsOf, Tallyable};
+ghost use Rattle.leaves.specs.Distances.{distancesOf};
 use records::Program;
 
 // How many program records can run: those of a sheet, and four more.
@@ -21,7 +22,10 @@ pub const RECORDS: usize = 260;
 pub const SKIPS: usize = 261;
 
 // Counts end here.
-const CAP: u64 = 1000000;
+const CAP: u32 = 1000000;
+
+// Distances end here: one more than the largest bound, so that it makes no difference how much farther an end is.
+pub const FARTHEST: usize = 65;
 
 // The records above the first n, where there are interrupts.
 fn virtual_at(n: usize, k: usize) -> Program
@@ -83,10 +87,10 @@ pub fn record_at(programs: &[u8], n: usize, interrupts: bool, i: usize) -> Progr
     }
 }
 
-fn capped(n: u64) -> u32
-    ensures { λ r. ⌜ r ≡ min cap n ⌝ }
+fn capped(n: u64, most: u32) -> u32
+    ensures { λ r. ⌜ r ≡ min most n ⌝ }
 {
-    if n < CAP { n as u32 } else { CAP as u32 }
+    if n < most as u64 { n as u32 } else { most }
 }
 
 // Whether a record performs an action, and one that is possible.
@@ -112,7 +116,10 @@ fn count_at(
     ensures { λ k. ⌜ k ≡ cappedCountBy r (now (actions .entry)) (now (truths .entry)) running (now (finals .entry)) (now (counts .entry)) ⌝ }
 {
     let can = can_act(r, actions, truths);
-    capped(kinds::programs::count_by(r, can, truths, running, finals, counts))
+    capped(
+        kinds::programs::count_by(r, can, truths, running, finals, counts),
+        CAP,
+    )
 }
 
 pub fn places_of(n: usize, interrupts: bool) -> usize
@@ -192,4 +199,21 @@ pub fn skips(programs: &[u8], n: usize, interrupts: bool, endable: &[bool]) -> [
         skips[i] = first;
     }
     skips
+}
+
+// How far each record of the table that runs is from its end at least, in transitions and whatever the states.
+pub fn distances(programs: &[u8], n: usize, interrupts: bool) -> [u32; RECORDS]
+    requires { ⌜ ProgramTable (now programs) n ⌝ }
+    ensures { λ r. ⌜ r ≡ distancesOf (tableOf (now (programs .entry)) n interrupts) (extendedSize interrupts n) ⌝ }
+{
+    let m = places_of(n, interrupts);
+    let mut distances = [0u32; RECORDS];
+    let mut i = 0;
+    while i < m {
+        let r = record_at(programs, n, interrupts, i);
+        let k = kinds::programs::distance_by(r, &distances);
+        distances[i] = capped(k, FARTHEST as u32);
+        i += 1;
+    }
+    distances
 }

@@ -22,12 +22,12 @@ use Rattle.sheet.specs.declared.Checked.the-variants as checked
 use Rattle.demands.specs.Decoded.{boundOf, levelsOf}
 use Rattle.demands.specs.Planning as meant
 use Rattle.demands.specs.Planning.{planOf, replayOf, answer, verdictOf, acceptsOf}
-use Rattle.demands.specs.Planning.{RunEndsFinal, HistoryOfRun, NoPlanAtAll, NoPlanWithinBound, NoRunEndsFinal, RunOf}
+use Rattle.demands.specs.Planning.{RunEndsFinal, HistoryOfRun, NoPlanAtAll, NoPlanWithinBound, NoRunEndsFinal, RunOf, FirstPlan}
 use Rattle.demands.specs.Entries.{KnownEntry}
 use Rattle.demands.specs.Raised.{withBound}
-use Rattle.demands.proofs.Demands.{plan-is, replay-is, history-accepted, history-refused, plan-accepted-history, plan-transitions}
+use Rattle.demands.proofs.Demands.{plan-is, replay-is, history-accepted, history-refused, plan-accepted-history, plan-transitions, first-exactly}
 use Rattle.demands.proofs.Demands.{plan-exactly, thirteen-exactly, thirteen-none-ends, fourteen-exactly}
-use Rattle.demands.proofs.Demands.{raised-alone, raised-accepted, raised-plan-stays, raised-thirteen-stays}
+use Rattle.demands.proofs.Demands.{raised-alone, raised-accepted, raised-plan-stays, raised-first-stays, raised-thirteen-stays}
 use Rattle.demands.proofs.Entries.{unknown-entry-no}
 use Rattle.demands.proofs.Notes.{bound-same, plan-same, replay-same}
 use Rattle.planner.specs.Answers.{Stage, refused, searching, withWork, planStage, replayStage, planChecked, replayChecked}
@@ -228,6 +228,28 @@ module _ (s : List ℕ) (w : ℕ) (accepted : checkOf s ≡ checked.Accepted w) 
             ap replyYes (reply-is h ∙ ap reply (plan-accepted-history s (w, accepted) h t (f .2))),
           )
 
+      -- document 02, F-1: "the plan is the first": a plan with n moves, t transitions and this history in the trace is handed out exactly
+      -- where it is the first
+      pub first-handed-out :
+          (h : List ℕ) (t : ℕ)
+          → (let a = answerOf s (length work) (length trace) in
+          (planNumber a ≡ 0) × (planMoves a ≡ length h) × (planTransitions a ≡ t) × (traceOf s (length work) trace ≡ h ++ drop (length h) trace))
+          ↔ FirstPlan s h t
+      first-handed-out h t = (
+        λ (e, n, u, q).
+            let f = number-none-iff .0 e in
+            let g = f .0 in
+            let a = answer-is ∙ ap answerAs (f .2) in
+            let z : length g ≡ length h = sym (ap planMoves a) ∙ n in
+            let long = sym (trace-is ∙ ap (λ (a : meant.PlanAnswer). traced a trace) (f .2)) ∙ q in
+            let same : g ≡ h = sym (take-at g (drop (length g) trace) (length h) z) ∙ ap (take (length h)) long ∙ take-at h (drop (length h) trace) (length h) refl in
+            first-exactly s (w, accepted) h t .0 (f .2 ∙ ap₂ meant.found same (sym (ap planTransitions a) ∙ u)),
+        λ F.
+            let e = first-exactly s (w, accepted) h t .1 F in
+            let a = answer-is ∙ ap answerAs e in
+            (ap planNumber a, ap planMoves a, ap planTransitions a, trace-is ∙ ap (λ (a : meant.PlanAnswer). traced a trace) e),
+      )
+
       -- Demand 3: "A plan comes out exactly when some run of at most D transitions ends final"
       pub found-exactly : (planNumber (answerOf s (length work) (length trace)) ≡ 0) ↔ RunEndsFinal s
       found-exactly = Iff·trans number-none-iff (plan-exactly s (w, accepted))
@@ -264,6 +286,22 @@ module _
   plan-stays e =
       let f = number-none-iff s w accepted work enough trace long .0 e in
       number-none-iff (withBound s d) _ accepted′ work′ enough′ trace′ longer .1 (raised-plan-stays s (w, accepted) d raised small (f .0) (f .1) (f .2))
+
+  -- and the very same plan: n, t, and the moves in the trace
+  pub first-stays : planNumber (answerOf s (length work) (length trace)) ≡ 0
+      → (answerOf (withBound s d) (length work′) (length trace′) ≡ answerOf s (length work) (length trace))
+      × (let n = planMoves (answerOf s (length work) (length trace)) in take n (traceOf (withBound s d) (length work′) trace′) ≡ take n (traceOf s (length work) trace))
+  first-stays e =
+      let (h, t, f) = number-none-iff s w accepted work enough trace long .0 e in
+      let f′ = raised-first-stays s (w, accepted) d raised small h t f in
+      let a = answer-is s w accepted work enough trace long ∙ ap answerAs f in
+      let q = trace-is s w accepted work enough trace long ∙ ap (λ (a : meant.PlanAnswer). traced a trace) f in
+      let q′ = trace-is (withBound s d) _ accepted′ work′ enough′ trace′ longer ∙ ap (λ (a : meant.PlanAnswer). traced a trace′) f′ in
+      let n = planMoves (answerOf s (length work) (length trace)) in
+      let z : length h ≡ n = sym (ap planMoves a) in (
+        answer-is (withBound s d) _ accepted′ work′ enough′ trace′ longer ∙ ap answerAs f′ ∙ sym a,
+        ap (take n) q′ ∙ take-at h (drop (length h) trace′) n z ∙ sym (ap (take n) q ∙ take-at h (drop (length h) trace) n z),
+      )
 
   pub thirteen-stays : planNumber (answerOf s (length work) (length trace)) ≡ 13 → planNumber (answerOf (withBound s d) (length work′) (length trace′)) ≡ 13
   thirteen-stays e =

@@ -1,6 +1,6 @@
 -- To be believed: what planning and replay answer and leave, for every input (document 01, "Work area" and "Who can cause which number"),
--- over what `demands` says of the sheet alone. Which plan and which t come out the papers leave free: here those of `planOf`, the first
--- found depth first in listed order; what holds of them is in proofs/Demands.antt. Assumes nothing.
+-- over what `demands` says of the sheet alone. Which plan and which t come out document 02 decides (F-1): the first plan's, by
+-- proofs/Demands.antt. Assumes nothing.
 use Prim.Native.Nat.{ℕ}
 use mathlib.Core.Bool.{true, false, cond}
 use mathlib.Core.List.{List, _++_}

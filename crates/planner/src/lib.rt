@@ -6,7 +6,6 @@ ghost use Rattle.sheet.specs.Check.{refusalOf, checkOf, numberOf, placeOf};
 ghost use Rattle.sheet.specs.Notes.{notesOf};
 ghost use Rattle.sheet.specs.Inspection.{Of};
 ghost use Rattle.lookup.specs.LookUp.{lookOf};
-ghost use Rattle.search.specs.Outcome.{isFound};
 ghost use Rattle.planner.specs.Answers.{answerOf, traceOf, planWork, replyOf, replayWork};
 ghost use Rattle.planner.specs.declared.Planned.the-variants.{Refused};
 ghost use Rattle.planner.specs.Reports.{plannedAs, repliedAs};
@@ -97,13 +96,13 @@ fn answer_of(o: Outcome) -> Planned
     }
 }
 
-fn reply_of(o: Outcome) -> Replayed
-    ensures { λ r. ⌜ r ≡ repliedAs (isFound o) ⌝ }
+fn reply_of(accepted: bool) -> Replayed
+    ensures { λ r. ⌜ r ≡ repliedAs accepted ⌝ }
 {
-    match o {
-        Outcome::Found { n: _, t: _ } => Replayed::Yes,
-        Outcome::Nothing => Replayed::No,
-        Outcome::More => Replayed::No,
+    if accepted {
+        Replayed::Yes
+    } else {
+        Replayed::No
     }
 }
 
@@ -123,11 +122,11 @@ fn plan_found(s: &[u8], found: Inspection, work: &mut [u32], trace: &mut [u16]) 
     if work.len() < words {
         return refused(11);
     }
-    let none = [0u16; 1];
-    answer_of(search::run(s, found, true, &none[..0], &mut work[..words], trace))
+    answer_of(first::plan(s, found, &mut work[..words], trace))
 }
 
-// Plans: a history of moves that some run of at most D transitions makes and that ends final, or why there is none.
+// Plans: the first plan, or why there is none: of the runs of at most D transitions that end final those of fewest transitions, and of their
+// histories the smallest.
 pub fn plan(s: &[u8], work: &mut [u32], trace: &mut [u16]) -> Planned
     ensures answer { λ r. ⌜ r ≡ answerOf (now (s .entry)) (length (now (work .entry))) (length (now (trace .entry))) ⌝ }
     ensures trace { λ _. ⌜ now (trace .exit) ≡ traceOf (now (s .entry)) (length (now (work .entry))) (now (trace .entry)) ⌝ }
@@ -160,8 +159,7 @@ fn replay_found(s: &[u8], found: Inspection, history: &[u16], work: &mut [u32]) 
         search::clear(&mut work[..required]);
         return Replayed::No;
     }
-    let mut trace = [0u16; sheet::MOST_TRANSITIONS];
-    reply_of(search::run(s, found, false, history, &mut work[..required], &mut trace))
+    reply_of(search::accepts(s, found, history, &mut work[..required]))
 }
 
 // Replays a history: whether some run of at most D transitions makes exactly these moves and ends final.

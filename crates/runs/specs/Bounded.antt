@@ -1,18 +1,18 @@
 -- Own vocabulary: the bounded search that a strategy makes, for any transition system: the guided search, but at the bound it asks only
--- whether there is a transition at all. Free and with no moves to make it is plain planning, closed it finds a plan exactly where replay
--- does: proofs/Bounded.antt. And verdicts on rows of transitions, one after the other. Assumes nothing.
+-- whether there is a transition at all. Where nothing is asked it is plain planning, and under any guide it finds the plan that the guided
+-- search does: proofs/Bounded.antt. And verdicts on rows of transitions, one after the other. Assumes nothing.
 use Prim.Native.Nat.{ℕ, zero, suc}
 use mathlib.Core.Bool.{Bool, true, false}
 use mathlib.Core.List.{List}
 use mathlib.Core.Option.{Option}
 use Rattle.runs.specs.Search.{Verdict, plan, nothing, more, orMore, tries, anyTransition, unless}
-use Rattle.runs.specs.Guide.{guidedTransitions, guidedFinal}
+use Rattle.runs.specs.Guide.{Guide, guidedTransitions, guidedFinal}
 
-module _ {C : Type 0} (transitions : C → List (Option ℕ × C)) (final : C → Bool) (free : Bool) where
-  -- within k transitions from c, while the moves g are still to be made
-  abbrev pub verdictWithin : ℕ → C × List ℕ → Verdict
+module _ {C : Type 0} (transitions : C → List (Option ℕ × C)) (final : C → Bool) where
+  -- within k transitions from a configuration, under a guide
+  abbrev pub verdictWithin : ℕ → C × Guide → Verdict
   verdictWithin zero c = unless (guidedFinal final c) (anyTransition (transitions (c .0)))
-  verdictWithin (suc k) c = let r = tries (λ (d : C × List ℕ). verdictWithin k d) (guidedTransitions free transitions c) in unless (guidedFinal final c) r
+  verdictWithin (suc k) c = let r = tries (λ (d : C × Guide). verdictWithin k d) (guidedTransitions transitions c) in unless (guidedFinal final c) r
 
 -- a verdict on earlier transitions, then one on later ones: the first plan, else what the two say together
 abbrev pub join : Verdict → Verdict → Verdict

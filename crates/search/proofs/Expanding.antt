@@ -11,6 +11,7 @@ use lib.ListN.{length}
 use Rattle.golog.specs.Prog.{Prog}
 use Rattle.golog.specs.Transitions.{Configuration, Transition, isNone}
 use Rattle.runs.specs.Search.{Verdict}
+use Rattle.runs.specs.Guide.{Guide}
 use Rattle.runs.specs.Bounded.{join, flagged}
 use Rattle.words.proofs.Written.{kept-refl, kept-trans}
 use Rattle.engine.specs.Tables.{Surveyed, Filled, SameTables}
@@ -22,7 +23,7 @@ use Rattle.engine.proofs.Frames.{next-at, frame-kept}
 use Rattle.engine.proofs.Tables.{stands, filled-none, filled-then}
 use Rattle.search.specs.Outcome.{Reported, isFound, isMore, told}
 use Rattle.search.specs.Moves.{passes, noted}
-use Rattle.search.specs.Searching.{verdictFrom, branchesOf, Ready, configured, toMake, verdictAt, branchesAt, Unknown, LookedAt, Going, Preserves, Expanded, Follows}
+use Rattle.search.specs.Searching.{verdictFrom, branchesOf, Ready, configured, guideOf, verdictAt, branchesAt, Unknown, LookedAt, Going, Preserves, Expanded, Follows}
 use Rattle.search.specs.declared.Task.{Task}
 use Rattle.search.specs.declared.Visit.{Visit}
 use Rattle.search.specs.declared.Seen.{Seen}
@@ -89,11 +90,11 @@ module _
         }
 
 -- from where a transition leads, and from all of a list
-abbrev from-next : List ℕ → Task → Visit → Configuration × List ℕ → Verdict
-from-next s t q d = verdictFrom s (t .free) (q .left - 1) d
+abbrev from-next : List ℕ → Task → Visit → Configuration × Guide → Verdict
+from-next s t q d = verdictFrom s (q .left - 1) d
 
 abbrev rows : (s moves : List ℕ) → Task → Visit → List Transition → Verdict
-rows s moves t q xs = branchesOf s (t .free) (q .left) (toMake moves q) xs
+rows s moves t q xs = branchesOf s (q .left) (guideOf moves t q) xs
 
 -- as the loop began
 module _ (trace : List ℕ) (ran : Bool) {s w moves : List ℕ} {t : Task} {q : Visit} {start : Cursor} {flags : List Bool} {numbers : List ℕ}
@@ -152,7 +153,7 @@ module _
       go :
           (xs : List Transition) → isNone xs ≡ true → join (flagged cut) (rows s moves t q xs) ≡ join (flagged ran) (rows s moves t q (g .ahead))
           → Reported (q .n) (q .depth) trace trace′ o (branchesAt s moves t q ran (g .ahead))
-      go [] e same = flag-reported (q .n) (q .depth) cut (sym (tried-none (from-next s t q) (t .free) (toMake moves q) cut) ∙ same) eo (L .trace-same)
+      go [] e same = flag-reported (q .n) (q .depth) cut (sym (tried-none (from-next s t q) (guideOf moves t q) cut) ∙ same) eo (L .trace-same)
       go (x ∷ xs) e same = absurd (true≢false (sym e))
 
   -- a transition was made: the tables are those of the visit, and frames up to its own stand
@@ -198,11 +199,11 @@ module _
           subst (λ (xs : List Transition). Reported (q .n) (q .depth) trace trace″ o (branchesAt s moves t q ran xs)) (ahead-same g h)
           (subst (λ (l : List ℕ). Reported (q .n) (q .depth) l trace″ o (branchesAt s moves t q ran (g .ahead))) (L .trace-same)
           (subst (Reported (q .n) (q .depth) trace′ trace″ o) (ap (λ (xs : List Transition). join (flagged cut) (rows s moves t q xs)) (sym (F .split)) ∙ L .same)
-          (tried-found (from-next s t q) (t .free) (toMake moves q) cut (F .step) (F .later) (q .n) (q .depth) trace′ trace″ o R y)))
+          (tried-found (from-next s t q) (guideOf moves t q) cut (F .step) (F .later) (q .n) (q .depth) trace′ trace″ o R y)))
 
       on : isFound o ≡ false → Loop trace ran g w″ trace″ flags″ numbers″ (isMore o) (x .cursor) stale″
       on y =
-          let m = tried-more (from-next s t q) (t .free) (toMake moves q) cut (F .step) (F .later) (q .n) (q .depth) trace′ trace″ o R y in
+          let m = tried-more (from-next s t q) (guideOf moves t q) cut (F .step) (F .later) (q .n) (q .depth) trace′ trace″ o R y in
           record {
             trace-same = m .0 ∙ L .trace-same;
             preserves = P;
@@ -219,7 +220,7 @@ module _
   made-filled = filled-then (L .preserves .filled) (T .filled) (q .depth) (q .depth + q .left) (omega arith) (omega arith) (omega arith) (omega arith)
 
   -- the guide did not let it pass
-  pub kept-back : passes (t .free) (toMake moves q) (moveOf (x .entry)) ≡ false → Loop trace ran g w₁ trace′ flags₁ numbers₁ cut (x .cursor) false
+  pub kept-back : passes (guideOf moves t q) (moveOf (x .entry)) ≡ false → Loop trace ran g w₁ trace′ flags₁ numbers₁ cut (x .cursor) false
   kept-back e =
       subst (λ (b : Bool). Loop trace ran g w₁ trace′ flags₁ numbers₁ b (x .cursor) false) (told-more cut .1)
       (dealt (back going (T .first) cut trace′ e) record { kept = made-kept; prepared = T .surveyed .prepared; filled = made-filled }
@@ -228,7 +229,7 @@ module _
   -- the guide let it pass, and what came of where it leads was noted
   pub passed :
       {v : Visit} {w″ trace₂ trace″ : List ℕ} {flags″ : List Bool} {numbers″ : List ℕ} {o : Outcome} {stale″ : Bool}
-      → passes (t .free) (toMake moves q) (moveOf (x .entry)) ≡ true → Follows moves q x v
+      → passes (guideOf moves t q) (moveOf (x .entry)) ≡ true → Follows moves q x v
       → Searched s w₁ w″ moves trace′ trace₂ t q v cut (leads going (T .first) cut) flags₁ flags″ numbers₁ numbers″ o stale″
       → trace″ ≡ noted (moveOf (x .entry)) (q .n) o trace₂ → Dealt L x w″ trace″ flags″ numbers″ o stale″
   passed {trace₂ = trace₂} {o = o} e Y Q z =

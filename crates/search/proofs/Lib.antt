@@ -1,6 +1,7 @@
-pub mod Given
+pub mod Guiding
 pub mod Rows
 pub mod Looking
 pub mod Trying
 pub mod Expanding
 pub mod Starting
+pub mod Reporting

@@ -9,7 +9,7 @@ use mathlib.Core.Option.{Option, none, some}
 use mathlib.Core.Path.{_≡_, refl, sym, _∙_, ap, ap₂, subst}
 use lib.ListN.{length, set}
 use Rattle.runs.specs.Search.{Verdict, plan, nothing, more, before, tries}
-use Rattle.runs.specs.Guide.{only, follow1, follow}
+use Rattle.runs.specs.Guide.{Guide, unguided, along, only, follow1, follow}
 use Rattle.runs.specs.Bounded.{join, flagged}
 use Rattle.runs.proofs.Joined.{flag-nothing, join-assoc, before-flag}
 use Rattle.runs.proofs.Bounded.{tries-append}
@@ -41,24 +41,24 @@ flag-reported n d cut {trace} {trace′} {o} {v} e eo et =
           (subst (λ (l : List ℕ). ReportsVerdict n d trace l (told cut) v) (sym et) (subst (ReportsVerdict n d trace trace (told cut)) e (says-flag n d trace cut)));
     }
 
-module _ {C : Type 0} (f : C × List ℕ → Verdict) (free : Bool) (g : List ℕ) where
+module _ {C : Type 0} (f : C × Guide → Verdict) (g : Guide) where
   -- the verdict on one transition that the guide lets pass or not, and on all of a list
   abbrev pub branch : Option ℕ × C → Verdict
-  branch x = tries f (follow1 free g (x .0) (x .1))
+  branch x = tries f (follow1 g (x .0) (x .1))
 
   abbrev pub branches : List (Option ℕ × C) → Verdict
-  branches xs = tries f (follow free g xs)
+  branches xs = tries f (follow g xs)
 
   abbrev one : Option ℕ × C → List (Option ℕ × C)
   one x = x ∷ []
 
   only-branch : (x : Option ℕ × C) → branches (one x) ≡ branch x
-  only-branch x = ap (tries f) (append-nil (follow1 free g (x .0) (x .1)))
+  only-branch x = ap (tries f) (append-nil (follow1 g (x .0) (x .1)))
 
   -- the first of the transitions, then the others
   pub tried-next : (cut : Bool) (x : Option ℕ × C) (xs : List (Option ℕ × C)) → join (flagged cut) (branches (x ∷ xs)) ≡ join (join (flagged cut) (branches (one x))) (branches xs)
   tried-next cut x xs =
-      ap (join (flagged cut)) (tries-append f (follow1 free g (x .0) (x .1)) (follow free g xs) ∙ ap (λ (v : Verdict). join v (branches xs)) (sym (only-branch x)))
+      ap (join (flagged cut)) (tries-append f (follow1 g (x .0) (x .1)) (follow g xs) ∙ ap (λ (v : Verdict). join v (branches xs)) (sym (only-branch x)))
       ∙ sym (join-assoc (flagged cut) (branches (one x)) (branches xs))
 
   pub branch-one : (cut : Bool) (x : Option ℕ × C) → join (flagged cut) (branches (one x)) ≡ join (flagged cut) (branch x)
@@ -98,7 +98,7 @@ module _ {C : Type 0} (f : C × List ℕ → Verdict) (free : Bool) (g : List �
   tried-none cut = flag-nothing cut
 
 -- the answer from where a transition leads is the answer of that transition: it is written down where a plan was found
-module _ {C : Type 0} (f : C × List ℕ → Verdict) (n d : ℕ) (trace trace′ : List ℕ) (o : Outcome) (c : C × List ℕ) where
+module _ {C : Type 0} (f : C × Guide → Verdict) (n d : ℕ) (trace trace′ : List ℕ) (o : Outcome) (c : C × Guide) where
   pub after-test : Reported n (d + 1) trace trace′ o (f c) → Reported n d trace trace′ o (tries f ((none, c) ∷ []))
   after-test R = go (f c) refl (R .says)
     where
@@ -139,28 +139,29 @@ module _ {C : Type 0} (f : C × List ℕ → Verdict) (n d : ℕ) (trace trace�
 
 -- a transition that passes or not
 pub follow-passes :
-    {C : Type 0} (free : Bool) (g : List ℕ) (m : Option ℕ) (d : C)
-    → follow1 free g m d ≡ only (passes free g m) ((m, (d, leftOver g m)) ∷ [])
-follow-passes free g none d = refl
-follow-passes free [] (some a) d = refl
-follow-passes free (b ∷ g) (some a) d = refl
+    {C : Type 0} (g : Guide) (m : Option ℕ) (d : C)
+    → follow1 g m d ≡ only (passes g m) ((m, (d, leftOver g m)) ∷ [])
+follow-passes g none d = refl
+follow-passes unguided (some a) d = refl
+follow-passes (along [] low high) (some a) d = refl
+follow-passes (along (b ∷ g) low high) (some a) d = refl
 
 module _
-    {C : Type 0} (f : C × List ℕ → Verdict) (free : Bool) (g : List ℕ) (m : Option ℕ) (c : C) (n d : ℕ) (trace trace′ : List ℕ)
+    {C : Type 0} (f : C × Guide → Verdict) (g : Guide) (m : Option ℕ) (c : C) (n d : ℕ) (trace trace′ : List ℕ)
     (o : Outcome) where
   -- held back by the guide, it comes to nothing
-  pub held-back : (cut : Bool) → passes free g m ≡ false → Reported n d trace trace (told cut) (join (flagged cut) (branch f free g (m, c)))
+  pub held-back : (cut : Bool) → passes g m ≡ false → Reported n d trace trace (told cut) (join (flagged cut) (branch f g (m, c)))
   held-back cut e =
-      let q : branch f free g (m, c) ≡ nothing = ap (tries f) (follow-passes free g m c ∙ ap (λ (b : Bool). only b ((m, (c, leftOver g m)) ∷ [])) e) in
+      let q : branch f g (m, c) ≡ nothing = ap (tries f) (follow-passes g m c ∙ ap (λ (b : Bool). only b ((m, (c, leftOver g m)) ∷ [])) e) in
       record { says = subst (ReportsVerdict n d trace trace (told cut)) (sym (ap (join (flagged cut)) q ∙ flag-nothing cut)) (says-flag n d trace cut) }
 
   -- let pass, it comes to what the search from where it leads comes to, written down where that is a plan
   let-through :
-      passes free g m ≡ true
+      passes g m ≡ true
       → Reported (n + entries m) (d + 1) trace trace′ o (f (c, leftOver g m))
-      → Reported n d trace (noted m n o trace′) o (branch f free g (m, c))
+      → Reported n d trace (noted m n o trace′) o (branch f g (m, c))
   let-through e R =
-      let q : branch f free g (m, c) ≡ tries f ((m, (c, leftOver g m)) ∷ []) = ap (tries f) (follow-passes free g m c ∙ ap (λ (b : Bool). only b ((m, (c, leftOver g m)) ∷ [])) e) in
+      let q : branch f g (m, c) ≡ tries f ((m, (c, leftOver g m)) ∷ []) = ap (tries f) (follow-passes g m c ∙ ap (λ (b : Bool). only b ((m, (c, leftOver g m)) ∷ [])) e) in
       subst (Reported n d trace (noted m n o trace′) o) (sym q) (go m R)
     where
       go : (m : Option ℕ) → Reported (n + entries m) (d + 1) trace trace′ o (f (c, leftOver g m)) → Reported n d trace (noted m n o trace′) o (tries f ((m, (c, leftOver g m)) ∷ []))
@@ -175,13 +176,13 @@ module _
 
 -- the same beside a flag
 pub let-pass :
-    {C : Type 0} (f : C × List ℕ → Verdict) (free : Bool) (g : List ℕ) (m : Option ℕ) (c : C) (n d : ℕ) (trace trace′ : List ℕ) (o : Outcome) (cut : Bool)
-    → passes free g m ≡ true
+    {C : Type 0} (f : C × Guide → Verdict) (g : Guide) (m : Option ℕ) (c : C) (n d : ℕ) (trace trace′ : List ℕ) (o : Outcome) (cut : Bool)
+    → passes g m ≡ true
     → Reported (n + entries m) (d + 1) trace trace′ o (join (flagged cut) (f (c, leftOver g m)))
-    → Reported n d trace (noted m n o trace′) o (join (flagged cut) (branch f free g (m, c)))
-let-pass {C} f free g m c n d trace trace′ o cut e R =
-    let F : C × List ℕ → Verdict = λ y. join (flagged cut) (f y) in
-    let one : (h : C × List ℕ → Verdict) → branch h free g (m, c) ≡ before m (h (c, leftOver g m)) nothing =
-    λ h. ap (tries h) (follow-passes free g m c ∙ ap (λ (b : Bool). only b ((m, (c, leftOver g m)) ∷ [])) e) in
+    → Reported n d trace (noted m n o trace′) o (join (flagged cut) (branch f g (m, c)))
+let-pass {C} f g m c n d trace trace′ o cut e R =
+    let F : C × Guide → Verdict = λ y. join (flagged cut) (f y) in
+    let one : (h : C × Guide → Verdict) → branch h g (m, c) ≡ before m (h (c, leftOver g m)) nothing =
+    λ h. ap (tries h) (follow-passes g m c ∙ ap (λ (b : Bool). only b ((m, (c, leftOver g m)) ∷ [])) e) in
     subst (Reported n d trace (noted m n o trace′) o) (one F ∙ before-flag m cut (f (c, leftOver g m)) ∙ ap (join (flagged cut)) (sym (one f)))
-    (let-through F free g m c n d trace trace′ o e R)
+    (let-through F g m c n d trace trace′ o e R)

@@ -1,32 +1,78 @@
--- A search starts ready: the first configuration stands in frame 0, with room for as many transitions as the bound. Assumes nothing.
+-- A search starts ready: the first configuration stands in frame 0, with room for as many transitions as the bound. What is reported of the
+-- visit to it is the verdict on it, and it still stands there afterwards. Assumes nothing.
 use Prim.Native.Nat.{ℕ, _≤_}
 use native.Mathlib.Omega.{arith}
-use mathlib.Core.Bool.{Bool}
+use mathlib.Core.Bool.{Bool, true, false}
 use mathlib.Core.List.{List}
-use mathlib.Core.Path.{_≡_, sym, ap, subst}
-use Rattle.sheet.specs.declared.Layout.{Layout}
-use Rattle.sheet.proofs.Accepted.{laid}
+use mathlib.Core.Path.{_≡_, sym, subst}
+use lib.ListN.{length}
 use Rattle.golog.specs.declared.State.{State}
-use Rattle.demands.specs.Decoded.{firstOf, boundOf}
-use Rattle.sheet.specs.Inspection.{Of}
-use Rattle.engine.specs.Frames.{Frame}
+use Rattle.runs.specs.Bounded.{join, flagged}
 use Rattle.sheet.specs.declared.Inspection.{Inspection}
-use Rattle.search.specs.Searching.{Ready}
+use Rattle.sheet.proofs.Accepted.{laid}
+use Rattle.demands.specs.Decoded.{initialOf, firstOf, boundOf}
+use Rattle.engine.specs.Going.{transitionsOf}
+use Rattle.engine.proofs.Frames.{frame-kept, frame-fewer}
+use Rattle.search.specs.Outcome.{Reported}
+use Rattle.search.specs.Moves.{guideAs}
+use Rattle.search.specs.Searching.{verdictFrom, verdictOn, Standing, Ready, configured, verdictAt, Unknown, LookedAt, Going, Preserves, Expanded}
+use Rattle.search.specs.declared.Question.{Question}
+use Rattle.search.specs.declared.Task.{Task}
 use Rattle.search.specs.declared.Visit.{Visit}
+use Rattle.search.specs.declared.Seen.{Seen}
+use Rattle.search.specs.declared.Outcome.{Outcome}
 
--- before the first transition, so many being left
-abbrev pub starting : State → (left : ℕ) → Visit
-starting st left = record { depth = 0; left = left; used = 0; n = 0; state = st }
+-- before the first transition
+abbrev starting : Question → State → Visit
+starting a st = record { depth = 0; left = a .left; given = record { used = 0; free = a .free }; n = 0; state = st }
 
-pub ready :
-    {s w : List ℕ} {m : Inspection} (moves : List ℕ) (trace : ℕ) (free : Bool) (st : State) → Of s m → Frame s (boundOf s) w 0 (firstOf s .0) → boundOf s ≤ trace
-    → Ready s w moves trace (record { found = m; free = free }) (starting st (m .layout .d)) (firstOf s .0)
-ready {s} {w} {m} moves trace free st O F h =
-    let d : boundOf s ≡ m .layout .d = ap (λ (l : Layout). l .d) (sym (O .layout-is)) in
-    let f = laid s (O .accepted) in
-    record {
-      visited = record { of = O; frame = subst (λ (n : ℕ). Frame s n w 0 (firstOf s .0)) d F; used-up = omega arith };
-      traced = omega (arith, d);
-      few = omega arith;
-      deep = omega (arith, d, f .d);
-    }
+abbrev asked : Inspection → Question → Task
+asked found a = record { found = found; window = a .window }
+
+module _ (moves trace : List ℕ) (a : Question) {s w : List ℕ} {found : Inspection} {st : State} {flags : List Bool} {numbers : List ℕ}
+    (S : Standing s w found flags numbers) (l : a .left ≤ boundOf s) (m : a .left ≤ length trace) (i : st ≡ initialOf s) where
+  pub at-first : Ready s w moves (length trace) (asked found a) (starting a st) (firstOf s .0)
+  at-first =
+      let f = laid s (S .of .accepted) in
+      record {
+        visited = record { of = S .of; frame = frame-fewer (S .frame) (a .left) l; used-up = omega arith };
+        traced = omega arith;
+        few = omega arith;
+        deep = omega (arith, f .d);
+      }
+
+  on-first :
+      {trace′ : List ℕ} {o : Outcome} → Reported 0 0 trace trace′ o (verdictAt s moves (asked found a) (starting a st) (a .cut) (firstOf s .0))
+      → Reported 0 0 trace trace′ o (verdictOn s moves a)
+  on-first {trace′} {o} =
+      subst (λ (x : State). Reported 0 0 trace trace′ o (join (flagged (a .cut)) (verdictFrom s (a .left) ((firstOf s .0, x), guideAs (a .free) moves (a .window))))) i
+
+  module _ {flags′ : List Bool} {numbers′ : List ℕ} {x : Seen} (A : LookedAt s w moves (asked found a) (starting a st) (a .cut) flags flags′ numbers numbers′ x) where
+    -- it was told by a look
+    pub seen-first : x .known ≡ true → Reported 0 0 trace trace (x .outcome) (verdictOn s moves a) × Standing s w found flags′ numbers′
+    seen-first e = (on-first (A .known (firstOf s .0) (at-first .visited) e trace), record { of = S .of; frame = S .frame; prepared = A .prepared })
+
+    module _ (e : x .known ≡ false) where
+      abbrev unknown : Unknown s moves (asked found a) (starting a st) (a .cut) (firstOf s .0) flags′ numbers′ x
+      unknown = A .unknown (firstOf s .0) (at-first .visited) e
+
+      abbrev pub from-first : Going s w moves (length trace) (asked found a) (starting a st) (x .cursor) flags′ numbers′
+      from-first = record {
+        program = firstOf s .0;
+        ready = at-first;
+        some-left = unknown .some-left;
+        surveyed = unknown .surveyed;
+        ahead = transitionsOf s (configured (starting a st) (firstOf s .0));
+        listed = unknown .first;
+      }
+
+      -- its transitions were tried
+      pub tried-first :
+          {w″ trace″ : List ℕ} {flags″ : List Bool} {numbers″ : List ℕ} {o : Outcome}
+          → Expanded s w moves trace trace″ (asked found a) (starting a st) (a .cut) (x .cursor) flags′ numbers′ o
+          → Preserves s w w″ (starting a st) flags′ flags″ numbers′ numbers″
+          → Reported 0 0 trace trace″ o (verdictOn s moves a) × Standing s w″ found flags″ numbers″
+      tried-first {w″} {trace″} {o = o} E P = (
+        on-first (subst (Reported 0 0 trace trace″ o) (sym (unknown .same)) (E from-first)),
+        record { of = S .of; frame = frame-kept (S .frame) w″ (P .kept); prepared = P .prepared },
+      )

@@ -11,6 +11,7 @@ use Rattle.golog.specs.declared.State.{State}
 use Rattle.golog.specs.Prog.{Prog}
 use Rattle.golog.specs.Transitions.{Configuration, Transition, isNone}
 use Rattle.runs.specs.Search.{Verdict}
+use Rattle.runs.specs.Guide.{Guide}
 use Rattle.runs.specs.Bounded.{join, flagged}
 use Rattle.engine.specs.Frames.{Frame}
 use Rattle.engine.specs.Going.{transitionsOf, moveOf, MakesNext, MadeNext, CanGoOn, GoesOn}
@@ -20,7 +21,7 @@ use Rattle.engine.proofs.Frames.{frame-same}
 use Rattle.engine.proofs.Codes.{code-bound}
 use Rattle.search.specs.Outcome.{Reported, told}
 use Rattle.search.specs.Moves.{passes, leftOver, entries, noted}
-use Rattle.search.specs.Searching.{verdictFrom, Ready, configured, toMake, verdictAt, branchesAt, Going, Follows}
+use Rattle.search.specs.Searching.{verdictFrom, Ready, configured, guideOf, verdictAt, branchesAt, Going, Follows}
 use Rattle.search.specs.declared.Task.{Task}
 use Rattle.search.specs.declared.Visit.{Visit}
 use Rattle.search.specs.declared.Outcome.{Outcome}
@@ -28,12 +29,12 @@ use Rattle.search.proofs.Rows.{branch, branch-one, held-back, let-pass}
 
 -- the same report by other names of its parts
 renamed :
-    (s : List ℕ) (free : Bool) (p : Prog) (trace trace′ : List ℕ) (o : Outcome) (cut : Bool)
-    {n n′ d d′ l l′ : ℕ} {st st′ : State} {g g′ : List ℕ}
+    (s : List ℕ) (p : Prog) (trace trace′ : List ℕ) (o : Outcome) (cut : Bool)
+    {n n′ d d′ l l′ : ℕ} {st st′ : State} {g g′ : Guide}
     → n ≡ n′ → d ≡ d′ → l ≡ l′ → st ≡ st′ → g ≡ g′
-    → Reported n d trace trace′ o (join (flagged cut) (verdictFrom s free l ((p, st), g)))
-    → Reported n′ d′ trace trace′ o (join (flagged cut) (verdictFrom s free l′ ((p, st′), g′)))
-renamed s free p trace trace′ o cut en ed el es eg R = rw (← en, ← ed, ← el, ← es, ← eg) R
+    → Reported n d trace trace′ o (join (flagged cut) (verdictFrom s l ((p, st), g)))
+    → Reported n′ d′ trace trace′ o (join (flagged cut) (verdictFrom s l′ ((p, st′), g′)))
+renamed s p trace trace′ o cut en ed el es eg R = rw (← en, ← ed, ← el, ← es, ← eg) R
 
 -- two readings of a visit have the same transitions ahead
 pub ahead-same : {s w moves : List ℕ} {trace : ℕ} {t : Task} {q : Visit} {k : Cursor} {flags : List Bool} {numbers : List ℕ} (g h : Going s w moves trace t q k flags numbers)
@@ -73,8 +74,8 @@ module _ {s w moves : List ℕ} {trace : ℕ} {t : Task} {q : Visit} {k : Cursor
       go (y ∷ ys) e m = record { step = y; later = ys; split = refl; made = m }
 
   module _ {w₁ : List ℕ} {x : Taken} (F : First s q (g .program) (g .ahead) w₁ x) (cut : Bool) where
-    abbrev from-next : Configuration × List ℕ → Verdict
-    from-next d = verdictFrom s (t .free) (q .left - 1) d
+    abbrev from-next : Configuration × Guide → Verdict
+    from-next d = verdictFrom s (q .left - 1) d
 
     -- where it leads
     abbrev pub leads : Prog
@@ -84,17 +85,17 @@ module _ {s w moves : List ℕ} {trace : ℕ} {t : Task} {q : Visit} {k : Cursor
     small = code-bound s (x .entry) (F .step .0) (F .made .known) (F .made .move-is)
 
     one : (before after : List ℕ) (o : Outcome)
-        → Reported (q .n) (q .depth) before after o (join (flagged cut) (branch from-next (t .free) (toMake moves q) (F .step)))
+        → Reported (q .n) (q .depth) before after o (join (flagged cut) (branch from-next (guideOf moves t q) (F .step)))
         → Reported (q .n) (q .depth) before after o (branchesAt s moves t q cut (F .step ∷ []))
-    one before after o = subst (Reported (q .n) (q .depth) before after o) (sym (branch-one from-next (t .free) (toMake moves q) cut (F .step)))
+    one before after o = subst (Reported (q .n) (q .depth) before after o) (sym (branch-one from-next (guideOf moves t q) cut (F .step)))
 
     -- held back by the guide
-    pub back : (before : List ℕ) → passes (t .free) (toMake moves q) (moveOf (x .entry)) ≡ false
+    pub back : (before : List ℕ) → passes (guideOf moves t q) (moveOf (x .entry)) ≡ false
         → Reported (q .n) (q .depth) before before (told cut) (branchesAt s moves t q cut (F .step ∷ []))
     back before e =
         one before before (told cut)
-        (held-back from-next (t .free) (toMake moves q) (F .step .0) (F .step .1) (q .n) (q .depth) before before (told cut) cut
-        (ap (passes (t .free) (toMake moves q)) (sym (F .made .move-is)) ∙ e))
+        (held-back from-next (guideOf moves t q) (F .step .0) (F .step .1) (q .n) (q .depth) before before (told cut) cut
+        (ap (passes (guideOf moves t q)) (sym (F .made .move-is)) ∙ e))
 
     -- let pass: the visit that it leads to
     module _ {v : Visit} (Y : Follows moves q x v) where
@@ -116,13 +117,13 @@ module _ {s w moves : List ℕ} {trace : ℕ} {t : Task} {q : Visit} {k : Cursor
 
       pub forth :
           (before after : List ℕ) (o : Outcome)
-          → passes (t .free) (toMake moves q) (moveOf (x .entry)) ≡ true
+          → passes (guideOf moves t q) (moveOf (x .entry)) ≡ true
           → Reported (v .n) (v .depth) before after o (verdictAt s moves t v cut leads)
           → Reported (q .n) (q .depth) before (noted (moveOf (x .entry)) (q .n) o after) o (branchesAt s moves t q cut (F .step ∷ []))
       forth before after o e R =
           let m = F .made .move-is in
           one before (noted (moveOf (x .entry)) (q .n) o after) o
-          (subst (λ (y : Option ℕ). Reported (q .n) (q .depth) before (noted y (q .n) o after) o (join (flagged cut) (branch from-next (t .free) (toMake moves q) (F .step)))) (sym m)
-          (let-pass from-next (t .free) (toMake moves q) (F .step .0) (F .step .1) (q .n) (q .depth) before after o cut (ap (passes (t .free) (toMake moves q)) (sym m) ∙ e)
-          (renamed s (t .free) leads before after o cut (Y .moves-are ∙ ap (λ (y : Option ℕ). q .n + entries y) m) (Y .depth-is) (Y .left-is) (Y .state-is ∙ F .made .state-is)
-          (Y .to-make ∙ ap (leftOver (toMake moves q)) m) R)))
+          (subst (λ (y : Option ℕ). Reported (q .n) (q .depth) before (noted y (q .n) o after) o (join (flagged cut) (branch from-next (guideOf moves t q) (F .step)))) (sym m)
+          (let-pass from-next (guideOf moves t q) (F .step .0) (F .step .1) (q .n) (q .depth) before after o cut (ap (passes (guideOf moves t q)) (sym m) ∙ e)
+          (renamed s leads before after o cut (Y .moves-are ∙ ap (λ (y : Option ℕ). q .n + entries y) m) (Y .depth-is) (Y .left-is) (Y .state-is ∙ F .made .state-is)
+          (Y .guide-is t ∙ ap (leftOver (guideOf moves t q)) m) R)))

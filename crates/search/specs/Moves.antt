@@ -1,25 +1,39 @@
--- Own vocabulary: a transition's move in the search: whether the guide lets it pass, what it leaves to be made, and what it puts into the
--- trace. Assumes nothing.
-use Prim.Native.Nat.{ℕ}
-use mathlib.Core.Bool.{Bool, true, cond}
+-- Own vocabulary: a transition's move in the search: the guide as it stands, whether it lets the move pass, what that leaves of it, and what
+-- the move puts into the trace. Assumes nothing.
+use Prim.Native.Nat.{ℕ, suc}
+use mathlib.Core.Bool.{Bool, true, false, cond}
 use mathlib.Core.List.{List, [], _∷_}
 use mathlib.Core.Option.{Option, none, some}
 use lib.Dec.{eqb}
-use lib.ListN.{set}
+use lib.ListN.{drop, set}
+use Rattle.runs.specs.Guide.{Guide, unguided, along, inWindow}
+use Rattle.search.specs.declared.Given.{Given}
+use Rattle.search.specs.declared.Window.{Window}
 use Rattle.search.specs.declared.Outcome.{Outcome}
 use Rattle.search.specs.Outcome.{isFound}
 
--- what `runs` asks of a move while the moves g are still to be made, as a test
-abbrev pub passes : (free : Bool) → List ℕ → Option ℕ → Bool
-passes free g none = true
-passes free [] (some a) = free
-passes free (b ∷ g) (some a) = eqb b a
+-- these moves still to be made, and then what the window has; or nothing is asked
+abbrev pub guideAs : (free : Bool) → (moves : List ℕ) → Window → Guide
+guideAs true moves w = unguided
+guideAs false moves w = along moves (w .low) (w .high)
 
--- the moves still to be made after it
-abbrev pub leftOver : List ℕ → Option ℕ → List ℕ
+-- what is left of the guide with the given moves
+abbrev pub guideAt : (moves : List ℕ) → Window → Given → Guide
+guideAt moves w g = guideAs (g .free) (drop (g .used) moves) w
+
+-- what `runs` asks of a move under a guide, as a test
+abbrev pub passes : Guide → Option ℕ → Bool
+passes g none = true
+passes unguided (some a) = true
+passes (along [] low high) (some a) = inWindow low high (suc a)
+passes (along (b ∷ g) low high) (some a) = eqb b a
+
+-- the guide after it
+abbrev pub leftOver : Guide → Option ℕ → Guide
 leftOver g none = g
-leftOver [] (some a) = []
-leftOver (b ∷ g) (some a) = g
+leftOver unguided (some a) = unguided
+leftOver (along [] low high) (some a) = unguided
+leftOver (along (b ∷ g) low high) (some a) = along g low high
 
 -- how many entries it puts into a history
 abbrev pub entries : Option ℕ → ℕ

@@ -3,40 +3,52 @@ use Prim.Native.Nat.{ℕ, _+_, _-_, _≤_}
 use mathlib.Core.Bool.{Bool, true, false}
 use mathlib.Core.List.{List}
 use mathlib.Core.Path.{_≡_}
-use lib.ListN.{length, drop}
+use lib.ListN.{length}
 use Rattle.golog.specs.Prog.{Prog}
 use Rattle.golog.specs.Transitions.{Configuration, Transition}
 use Rattle.runs.specs.Search.{Verdict, tries}
-use Rattle.runs.specs.Guide.{follow}
+use Rattle.runs.specs.Guide.{Guide, follow}
 use Rattle.runs.specs.Bounded.{verdictWithin, join, flagged}
-use Rattle.demands.specs.Decoded.{worldOf}
+use Rattle.demands.specs.Decoded.{worldOf, firstOf, boundOf}
 use Rattle.demands.specs.Planning.{transitionsIn, isFinalIn}
 use Rattle.engine.specs.Tables.{Prepared, Surveyed, Filled}
 use Rattle.sheet.specs.Inspection.{Of}
+use Rattle.sheet.specs.declared.Inspection.{Inspection}
 use Rattle.engine.specs.Frames.{Frame, KeptFrames}
 use Rattle.engine.specs.Going.{transitionsOf, Ahead, moveOf}
 use Rattle.engine.specs.declared.Cursor.{Cursor}
 use Rattle.engine.specs.declared.Taken.{Taken}
 use Rattle.search.specs.Outcome.{Reported}
-use Rattle.search.specs.Moves.{leftOver, entries}
+use Rattle.search.specs.Moves.{guideAs, guideAt, leftOver, entries}
+use Rattle.search.specs.declared.Question.{Question}
 use Rattle.search.specs.declared.Task.{Task}
 use Rattle.search.specs.declared.Visit.{Visit}
 use Rattle.search.specs.declared.Seen.{Seen}
 use Rattle.search.specs.declared.Outcome.{Outcome}
 
--- the verdict on a configuration of the sheet s, the moves g still to be made
-abbrev pub verdictFrom : List ℕ → (free : Bool) → (left : ℕ) → Configuration × List ℕ → Verdict
-verdictFrom s free left c = verdictWithin (transitionsIn (worldOf s)) (isFinalIn (worldOf s)) free left c
+-- the verdict on a configuration of the sheet s, under a guide
+abbrev pub verdictFrom : List ℕ → (left : ℕ) → Configuration × Guide → Verdict
+verdictFrom s left c = verdictWithin (transitionsIn (worldOf s)) (isFinalIn (worldOf s)) left c
 
 -- the verdict on some of its transitions, `left` being left before them
-abbrev pub branchesOf : List ℕ → (free : Bool) → (left : ℕ) → List ℕ → List Transition → Verdict
-branchesOf s free left g xs = tries (λ (d : Configuration × List ℕ). verdictFrom s free (left - 1) d) (follow free g xs)
+abbrev pub branchesOf : List ℕ → (left : ℕ) → Guide → List Transition → Verdict
+branchesOf s left g xs = tries (λ (d : Configuration × Guide). verdictFrom s (left - 1) d) (follow g xs)
+
+-- the verdict on the first configuration, as it is asked
+abbrev pub verdictOn : List ℕ → (moves : List ℕ) → Question → Verdict
+verdictOn s moves a = join (flagged (a .cut)) (verdictFrom s (a .left) (firstOf s, guideAs (a .free) moves (a .window)))
+
+-- a search stands at the first configuration: its program in frame 0, and in the tables what is told once of the sheet
+pub record Standing (s w : List ℕ) (found : Inspection) (flags : List Bool) (numbers : List ℕ) : Type 0 where
+  pub of : Of s found
+  pub frame : Frame s (boundOf s) w 0 (firstOf s .0)
+  pub prepared : Prepared s flags numbers
 
 -- a visit to the configuration of the remaining program p: it stands in the frame of its depth, and given moves are made up to there
 pub record Visited (s w moves : List ℕ) (t : Task) (q : Visit) (p : Prog) : Type 0 where
   pub of : Of s (t .found)
   pub frame : Frame s (q .left) w (q .depth) p
-  pub used-up : q .used ≤ length moves
+  pub used-up : q .given .used ≤ length moves
 
 -- and there is room for what may follow: in the trace, and within the largest bound
 pub record Ready (s w moves : List ℕ) (trace : ℕ) (t : Task) (q : Visit) (p : Prog) : Type 0 where
@@ -45,20 +57,20 @@ pub record Ready (s w moves : List ℕ) (trace : ℕ) (t : Task) (q : Visit) (p 
   pub few : q .n ≤ q .depth
   pub deep : q .depth + q .left ≤ 64
 
--- the configuration visited, and the moves still to be made
+-- the configuration visited, and what is left of the guide
 abbrev pub configured : Visit → Prog → Configuration
 configured q p = (p, q .state)
 
-abbrev pub toMake : List ℕ → Visit → List ℕ
-toMake moves q = drop (q .used) moves
+abbrev pub guideOf : List ℕ → Task → Visit → Guide
+guideOf moves t q = guideAt moves (t .window) (q .given)
 
 -- the verdict on it, beside whether the bound ran out in some run before
 abbrev pub verdictAt : List ℕ → List ℕ → Task → Visit → (cut : Bool) → Prog → Verdict
-verdictAt s moves t q cut p = join (flagged cut) (verdictFrom s (t .free) (q .left) (configured q p, toMake moves q))
+verdictAt s moves t q cut p = join (flagged cut) (verdictFrom s (q .left) (configured q p, guideOf moves t q))
 
 -- the verdict on its transitions xs, beside that
 abbrev pub branchesAt : List ℕ → List ℕ → Task → Visit → (cut : Bool) → List Transition → Verdict
-branchesAt s moves t q cut xs = join (flagged cut) (branchesOf s (t .free) (q .left) (toMake moves q) xs)
+branchesAt s moves t q cut xs = join (flagged cut) (branchesOf s (q .left) (guideOf moves t q) xs)
 
 -- looked at without a transition: the outcome is known, or the verdict is that on all transitions, which are ahead of the cursor
 pub record Unknown (s moves : List ℕ) (t : Task) (q : Visit) (cut : Bool) (p : Prog) (flags : List Bool) (numbers : List ℕ) (r : Seen) : Type 0 where
@@ -97,8 +109,8 @@ Expanded s w moves trace trace′ t q cut k flags numbers o =
 pub record Follows (moves : List ℕ) (q : Visit) (x : Taken) (v : Visit) : Type 0 where
   pub depth-is : v .depth ≡ q .depth + 1
   pub left-is : v .left ≡ q .left - 1
-  pub used-up : v .used ≤ length moves
-  pub to-make : toMake moves v ≡ leftOver (toMake moves q) (moveOf (x .entry))
+  pub used-up : v .given .used ≤ length moves
+  pub guide-is : (t : Task) → guideOf moves t v ≡ leftOver (guideOf moves t q) (moveOf (x .entry))
   pub moves-are : v .n ≡ q .n + entries (moveOf (x .entry))
   pub one-more : v .n ≤ q .n + 1
   pub state-is : v .state ≡ x .state

@@ -1,53 +1,64 @@
-// The guide: moves that are given first. Whether it lets a transition pass, and what the transition leaves of them; the trace.
+// The guide: moves that are given first, and a window of what may follow them. Whether it lets a transition pass, and what the transition
+// leaves of it; the trace.
 ghost use mathlib.Core.Path.{_≡_};
 ghost use mathlib.Core.Bool.{_&&_};
 ghost use Prim.Native.Nat.{_≤_, _<_};
-ghost use lib.ListN.{length, drop};
-ghost use Rattle.runs.specs.Guide.{isNil};
+ghost use lib.ListN.{length};
+ghost use Rattle.runs.specs.Guide.{inWindow, mayEnd};
 ghost use Rattle.steps.specs.Laid.{testCode};
 ghost use Rattle.engine.specs.Going.{moveOf};
 ghost use Rattle.search.specs.Outcome.{isFound};
-ghost use Rattle.search.specs.Moves.{passes, leftOver, entries, noted};
+ghost use Rattle.search.specs.declared.Window.{Window};
+ghost use Rattle.search.specs.Moves.{guideAt, passes, leftOver, entries, noted};
+use crate::Given;
 use crate::Outcome;
+use crate::Window;
 
-fn found(o: Outcome) -> bool
-    ensures { λ r. ⌜ r ≡ isFound o ⌝ }
+fn in_window(w: Window, rank: u32) -> bool
+    ensures { λ r. ⌜ r ≡ inWindow (w .low) (w .high) rank ⌝ }
 {
-    match o {
-        Outcome::Found { n: _, t: _ } => true,
-        Outcome::Nothing => false,
-        Outcome::More => false,
-    }
+    (w.low <= rank) & (rank < w.high)
 }
 
-// Whether the guide lets a transition pass, so many of the moves having been used: a test always, else the next move, or any where none
-// is left and more may follow.
-pub fn lets_pass(moves: &[u16], used: usize, free: bool, entry: u32) -> bool
-    requires { ⌜ used ≤ length (now moves) ⌝ }
-    ensures { λ r. ⌜ r ≡ passes free (drop used (now (moves .entry))) (moveOf entry) ⌝ }
+// Whether the guide lets a transition pass: a test always, else the next move, or one in the window where none is left; any where
+// nothing is asked any more.
+pub fn lets_pass(moves: &[u16], w: Window, g: Given, entry: u32) -> bool
+    requires { ⌜ (g .used ≤ length (now moves)) × (entry ≤ testCode) ⌝ }
+    ensures { λ r. ⌜ r ≡ passes (guideAt (now (moves .entry)) w g) (moveOf entry) ⌝ }
 {
     if entry == steps::TEST {
         return true;
     }
+    if g.free {
+        return true;
+    }
+    let used = g.used;
     if used < moves.len() {
         return moves[used] as u32 == entry;
     }
-    free
+    in_window(w, entry + 1)
 }
 
-// How many of the moves have been used after a transition that passed.
-pub fn used_after(moves: &[u16], used: usize, entry: u32) -> usize
-    requires { ⌜ used ≤ length (now moves) ⌝ }
-    ensures within { λ r. ⌜ r ≤ length (now (moves .entry)) ⌝ }
-    ensures rest { λ r. ⌜ drop r (now (moves .entry)) ≡ leftOver (drop used (now (moves .entry))) (moveOf entry) ⌝ }
+// What a transition that passed leaves of the guide.
+pub fn given_after(moves: &[u16], g: Given, entry: u32) -> Given
+    requires { ⌜ g .used ≤ length (now moves) ⌝ }
+    ensures within { λ r. ⌜ r .used ≤ length (now (moves .entry)) ⌝ }
+    ensures rest { λ r. ⌜ ((w : Window) → guideAt (now (moves .entry)) w r ≡ leftOver (guideAt (now (moves .entry)) w g) (moveOf entry)) ⌝ }
 {
     if entry == steps::TEST {
-        return used;
+        return g;
     }
+    if g.free {
+        return g;
+    }
+    let used = g.used;
     if used < moves.len() {
-        return used + 1;
+        return Given {
+            used: used + 1,
+            free: false,
+        };
     }
-    used
+    Given { used, free: true }
 }
 
 // How many entries a transition puts into a history.
@@ -63,7 +74,7 @@ pub fn note(trace: &mut [u16], n: usize, entry: u32, answer: Outcome) -> bool
     ensures answer { λ r. ⌜ r ≡ isFound answer ⌝ }
     ensures trace { λ _. ⌜ now (trace .exit) ≡ noted (moveOf entry) n answer (now (trace .entry)) ⌝ }
 {
-    if !found(answer) {
+    if !crate::is_found(answer) {
         return false;
     }
     if entry < steps::TEST {
@@ -72,13 +83,17 @@ pub fn note(trace: &mut [u16], n: usize, entry: u32, answer: Outcome) -> bool
     true
 }
 
-// Whether no given move is left and the remaining program is final.
-pub fn is_over(moves: &[u16], used: usize, done: bool) -> bool
-    requires { ⌜ used ≤ length (now moves) ⌝ }
-    ensures { λ r. ⌜ r ≡ (isNil (drop used (now (moves .entry))) && done) ⌝ }
+// Whether a history may end here and the remaining program is final.
+pub fn is_over(moves: &[u16], w: Window, g: Given, done: bool) -> bool
+    requires { ⌜ g .used ≤ length (now moves) ⌝ }
+    ensures { λ r. ⌜ r ≡ (mayEnd (guideAt (now (moves .entry)) w g) && done) ⌝ }
 {
+    if g.free {
+        return done;
+    }
+    let used = g.used;
     if used < moves.len() {
         return false;
     }
-    done
+    in_window(w, 0) & done
 }

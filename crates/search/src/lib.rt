@@ -1,15 +1,16 @@
-// The bounded depth-first search over the engine's configurations, along the moves of a guide.
+// The bounded depth-first search over the engine's configurations, under a guide: the one primitive of the strategies. And replay.
 ghost use mathlib.Core.Path.{_≡_};
 ghost use mathlib.Core.Bool.{true, false};
 ghost use Prim.Native.Nat.{ℕ, _≤_};
-ghost use lib.ListN.{length, replicate};
+ghost use lib.ListN.{length, getD, replicate};
 ghost use Rattle.golog.specs.Prog.{Prog};
-ghost use Rattle.demands.specs.Decoded.{firstOf, boundOf};
-ghost use Rattle.engine.specs.Tables.{Prepared, Surveyed, Filled};
+ghost use Rattle.demands.specs.Decoded.{boundOf};
+ghost use Rattle.demands.specs.Planning.{acceptsOf};
+ghost use Rattle.engine.specs.Tables.{flagPlaces, numberPlaces, Prepared, Surveyed, Filled};
 ghost use Rattle.sheet.specs.Inspection.{Of};
 ghost use Rattle.engine.specs.Frames.{Frame};
-ghost use Rattle.search.specs.Outcome.{Reported, isMore, told};
-ghost use Rattle.search.specs.Searching.{verdictFrom, Visited, Ready, verdictAt, LookedAt, Going, Preserves, Expanded, Follows};
+ghost use Rattle.search.specs.Outcome.{Reported, isFound, isMore, told};
+ghost use Rattle.search.specs.Searching.{verdictOn, Standing, Visited, LookedAt, Going, Preserves, Expanded, Follows};
 use engine::Cursor;
 use engine::Taken;
 use golog::State;
@@ -25,20 +26,41 @@ pub enum Outcome {
     More,
 }
 
-// What stays the same throughout a search: what was found of the sheet, and whether moves may follow those that are given.
-pub struct Task {
-    pub found: Inspection,
+// What may follow the given moves, by rank: nothing is 0, and an entry e is e + 1. From low on, below high.
+pub struct Window {
+    pub low: u32,
+    pub high: u32,
+}
+
+// What is left of the guide: so many of the given moves are used; or nothing is asked any more.
+pub struct Given {
+    pub used: usize,
     pub free: bool,
 }
 
-// A visit to a configuration: the transitions made, which number its frame, and those left; the given moves used, the moves made; the
-// state.
-pub struct Visit {
-    pub depth: usize,
+// What is asked of a search: a run of at most `left` transitions that makes the given moves, followed by what the window has, or any run.
+// With `cut` only a plan matters, as where the bound ran out in some run before.
+pub struct Question {
+    pub free: bool,
+    pub window: Window,
     pub left: usize,
-    pub used: usize,
-    pub n: usize,
-    pub state: State,
+    pub cut: bool,
+}
+
+// What stays the same throughout a search: what was found of the sheet, and the window.
+struct Task {
+    found: Inspection,
+    window: Window,
+}
+
+// A visit to a configuration: the transitions made, which number its frame, and those left; what is left of the guide, the moves made; the
+// state.
+struct Visit {
+    depth: usize,
+    left: usize,
+    given: Given,
+    n: usize,
+    state: State,
 }
 
 // What is seen without a transition: what the search comes to, where that is known, or else the first cursor.
@@ -59,7 +81,17 @@ pub fn clear(work: &mut [u32])
     }
 }
 
-fn is_more(o: Outcome) -> bool
+pub fn is_found(o: Outcome) -> bool
+    ensures { λ r. ⌜ r ≡ isFound o ⌝ }
+{
+    match o {
+        Outcome::Found { n: _, t: _ } => true,
+        Outcome::Nothing => false,
+        Outcome::More => false,
+    }
+}
+
+pub fn is_more(o: Outcome) -> bool
     ensures { λ r. ⌜ r ≡ isMore o ⌝ }
 {
     match o {
@@ -103,20 +135,20 @@ fn look(
 {
     if pruning::only_final(cut, q.left) {
         let end = engine::is_final(flags, numbers, work, s, t.found, q.state, q.depth);
-        if guide::is_over(moves, q.used, end) {
+        if guide::is_over(moves, t.window, q.given, end) {
             return known(Outcome::Found { n: q.n, t: q.depth });
         }
         return known(Outcome::More);
     }
     let x = engine::survey(flags, numbers, work, s, t.found, q.state, q.depth);
     let first = x.first;
-    if guide::is_over(moves, q.used, x.done) {
+    if guide::is_over(moves, t.window, q.given, x.done) {
         return known(Outcome::Found { n: q.n, t: q.depth });
     }
     if q.left == 0 {
         return known(unfound(!engine::is_spent(first)));
     }
-    if pruning::no_end_next(cut, q.left, x.soon) {
+    if pruning::too_far(cut, q.left, x.soon) {
         return known(Outcome::More);
     }
     Seen {
@@ -128,14 +160,15 @@ fn look(
 
 // The visit that a transition leads to.
 fn follow(moves: &[u16], q: Visit, x: Taken) -> Visit
-    requires { ⌜ (1 ≤ q .left) × (q .used ≤ length (now moves)) × (q .n ≤ 64) × (q .depth ≤ 64) ⌝ }
+    requires { ⌜ (1 ≤ q .left) × (q .given .used ≤ length (now moves)) × (q .n ≤ 64) × (q .depth ≤ 64) ⌝ }
     ensures { λ r. ⌜ Follows (now (moves .entry)) q x r ⌝ }
 {
     let state = x.state;
+    let given = guide::given_after(moves, q.given, x.entry);
     Visit {
         depth: q.depth + 1,
         left: q.left - 1,
-        used: guide::used_after(moves, q.used, x.entry),
+        given,
         n: q.n + guide::entries_of(x.entry),
         state,
     }
@@ -188,7 +221,7 @@ fn expand(
         let x = engine::next(work, flags, numbers, s, t.found, q.state, q.depth, k);
         k = x.cursor;
         stale = false;
-        if guide::lets_pass(moves, q.used, t.free, x.entry) {
+        if guide::lets_pass(moves, t.window, q.given, x.entry) {
             let v = follow(moves, q, x);
             let a = look(flags, numbers, work, s, moves, t, v, cut);
             let mut o = a.outcome;
@@ -205,59 +238,80 @@ fn expand(
     unfound(cut)
 }
 
-// Searches from the configuration visited.
-fn explore(
+// Makes a search stand at the sheet's first configuration: its program in frame 0, and in the tables what is told once of the sheet.
+pub fn stand(work: &mut [u32], flags: &mut [bool], numbers: &mut [u32], s: &[u8], found: Inspection)
+    requires { ⌜ Of (now s) found × (length (now work) ≡ found .words) ⌝ }
+    requires { ⌜ (length (now flags) ≡ flagPlaces) × (length (now numbers) ≡ numberPlaces) × ((i : ℕ) → getD (now numbers) i 0 ≡ 0) ⌝ }
+    ensures stands { λ _. ⌜ Standing (now (s .entry)) (now (work .exit)) found (now (flags .exit)) (now (numbers .exit)) ⌝ }
+{
+    engine::put_first(work, s, found);
+    engine::prepare(flags, numbers, s, found);
+}
+
+// Searches from the first configuration.
+pub fn explore(
     work: &mut [u32],
     trace: &mut [u16],
     flags: &mut [bool],
     numbers: &mut [u32],
     s: &[u8],
-    moves: &[u16],
-    t: Task,
-    q: Visit,
-) -> Outcome
-    requires { ⌜ Prepared (now s) (now flags) (now numbers) × ((p : Prog) × Ready (now s) (now work) (now moves) (length (now trace)) t q p) ⌝ }
-    ensures answer { λ r. ⌜ ((p : Prog) → Ready (now (s .entry)) (now (work .entry)) (now (moves .entry)) (length (now (trace .entry))) t q p
-        → Reported (q .n) (q .depth) (now (trace .entry)) (now (trace .exit)) r (verdictAt (now (s .entry)) (now (moves .entry)) t q false p)) ⌝ }
-    ensures places { λ _. ⌜ length (now (work .exit)) ≡ length (now (work .entry)) ⌝ }
-{
-    let a = look(flags, numbers, work, s, moves, t, q, false);
-    let seen = a.outcome;
-    if a.known {
-        return seen;
-    }
-    expand(work, trace, flags, numbers, s, moves, t, q, false, a.cursor)
-}
-
-// Searches from a sheet's first configuration, along the moves given first: the work area is as long as required.
-pub fn run(
-    s: &[u8],
     found: Inspection,
-    free: bool,
     moves: &[u16],
-    work: &mut [u32],
-    trace: &mut [u16],
+    a: Question,
 ) -> Outcome
-    requires { ⌜ Of (now s) found × (length (now work) ≡ found .words) × (boundOf (now s) ≤ length (now trace)) ⌝ }
-    ensures answer { λ r. ⌜ Reported 0 0 (now (trace .entry)) (now (trace .exit)) r
-        (verdictFrom (now (s .entry)) free (boundOf (now (s .entry))) (firstOf (now (s .entry)), now (moves .entry))) ⌝ }
-    ensures work { λ _. ⌜ now (work .exit) ≡ replicate (length (now (work .entry))) 0 ⌝ }
+    requires { ⌜ Standing (now s) (now work) found (now flags) (now numbers) × (a .left ≤ boundOf (now s)) × (a .left ≤ length (now trace)) ⌝ }
+    ensures answer { λ r. ⌜ Reported 0 0 (now (trace .entry)) (now (trace .exit)) r (verdictOn (now (s .entry)) (now (moves .entry)) a) ⌝ }
+    ensures stands { λ _. ⌜ Standing (now (s .entry)) (now (work .exit)) found (now (flags .exit)) (now (numbers .exit)) ⌝ }
 {
-    engine::put_first(work, s, found);
     let state = engine::initial_of(s, found);
-    let mut flags = [false; engine::FLAGS];
-    let mut numbers = [0u32; engine::NUMBERS];
-    engine::prepare(&mut flags, &mut numbers, s, found);
-    let l = found.layout;
+    let window = a.window;
+    let given = Given {
+        used: 0,
+        free: a.free,
+    };
+    let t = Task { found, window };
     let q = Visit {
         depth: 0,
-        left: l.d,
-        used: 0,
+        left: a.left,
+        given,
         n: 0,
         state,
     };
-    let t = Task { found, free };
-    let o = explore(work, trace, &mut flags, &mut numbers, s, moves, t, q);
+    let x = look(flags, numbers, work, s, moves, t, q, a.cut);
+    let seen = x.outcome;
+    if x.known {
+        return seen;
+    }
+    expand(work, trace, flags, numbers, s, moves, t, q, a.cut, x.cursor)
+}
+
+// Whether some run of at most D transitions makes exactly these moves and ends final; the work area is as long as required.
+pub fn accepts(s: &[u8], found: Inspection, history: &[u16], work: &mut [u32]) -> bool
+    requires { ⌜ Of (now s) found × (length (now work) ≡ found .words) ⌝ }
+    ensures answer { λ r. ⌜ r ≡ acceptsOf (now (s .entry)) (now (history .entry)) ⌝ }
+    ensures work { λ _. ⌜ now (work .exit) ≡ replicate (length (now (work .entry))) 0 ⌝ }
+{
+    let mut flags = [false; engine::FLAGS];
+    let mut numbers = [0u32; engine::NUMBERS];
+    stand(work, &mut flags, &mut numbers, s, found);
+    let l = found.layout;
+    let a = Question {
+        free: false,
+        window: Window { low: 0, high: 1 },
+        left: l.d,
+        cut: true,
+    };
+    let mut trace = [0u16; sheet::MOST_TRANSITIONS];
+    let o = explore(
+        work,
+        &mut trace,
+        &mut flags,
+        &mut numbers,
+        s,
+        found,
+        history,
+        a,
+    );
     clear(work);
-    o
+    is_found(o)
 }

@@ -2,6 +2,7 @@
 // which none ends later matters only if it is final itself. A strategy may ask this or not.
 ghost use mathlib.Core.Path.{_≡_};
 ghost use mathlib.Core.Bool.{true, false};
+ghost use Prim.Native.Nat.{_<_};
 
 // Whether only the configuration's own finality matters, told before it is surveyed: at the bound.
 pub fn only_final(cut: bool, left: usize) -> bool
@@ -10,15 +11,12 @@ pub fn only_final(cut: bool, left: usize) -> bool
     if cut { left == 0 } else { false }
 }
 
-// The same, told by a survey: one transition before the bound, where no transition may leave what is final in some state.
-pub fn no_end_next(cut: bool, left: usize, soon: bool) -> bool
-    ensures { λ r. ⌜ (r ≡ true → (cut ≡ true) × (left ≡ 1) × (soon ≡ false)) ⌝ }
+// The same, told by a survey: so far is the end by way of any transition that those left do not reach it.
+pub fn too_far(cut: bool, left: usize, soon: usize) -> bool
+    ensures { λ r. ⌜ (r ≡ true → (cut ≡ true) × (left < soon)) ⌝ }
 {
-    if !cut {
+    if soon <= left {
         return false;
     }
-    if left != 1 {
-        return false;
-    }
-    !soon
+    cut
 }

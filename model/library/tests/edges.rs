@@ -1,5 +1,5 @@
-//! Document 01's edges of the lent areas, on case 3: "272 words give 11, trace of 1 gives 10, both give 10". What is
-//! told of a sheet's sizes and notes. What a refusal says in words.
+//! Document 01's edges of the lent areas, on case 3: "272 words give 11, trace of 1 gives 10, both give 10". That its
+//! plan stays under a higher bound. What is told of a sheet's sizes and notes. What a refusal says in words.
 
 use library::{check, notes, plan, replay, sizes, Answer, Refusal};
 use sheets::cases::{three_sections, CASE_3};
@@ -30,6 +30,19 @@ fn found_in_areas_of_any_content_and_length() {
         assert!(trace[2..].iter().all(|&entry| entry == 1));
         assert!(work[..273].iter().all(|&word| word == 0));
         assert!(work[273..].iter().all(|&word| word == 1));
+    }
+}
+
+/// Document 02, F-1: the fewest transitions. A star comes first in listed order, and could go on to the bound.
+#[test]
+fn the_plan_stays_under_a_higher_bound() {
+    for bound in [2, 3, 64] {
+        let sheet = three_sections(&CASE_3, bound).bytes();
+        let [words] = check(&sheet).into_result().expect("the sheet is accepted");
+        let (mut work, mut trace) = (vec![1; words], vec![1; 64]);
+        assert_eq!(plan(&sheet, &mut work, &mut trace), Answer { number: 0, place: 0, results: [2, 2] });
+        assert_eq!(trace[..2], [0, 1]);
+        assert!(trace[2..].iter().all(|&entry| entry == 1));
     }
 }
 

@@ -1,9 +1,11 @@
-//! Verdicts, replay and plans: "Work area" and numbers 10, 11, 13 and 14 of "Who can cause which number".
+//! Verdicts, replay and plans: "Work area" and numbers 10, 11, 13 and 14 of "Who can cause which number"; which plan is
+//! the first: document 02, F-1.
 
-use crate::meaning::{Configuration, Moment};
+use crate::meaning::{Configuration, Moment, Transition};
 use crate::refusal::Refusal;
 use crate::sheet::Sheet;
-use std::collections::HashSet;
+use std::collections::{HashMap, HashSet};
+use std::mem;
 use std::ops::ControlFlow::{self, Break, Continue};
 
 /// Numbers 10 and 11: the entries of trace (none for replay) and the words of work that the caller lends.
@@ -17,17 +19,28 @@ pub fn lent(sheet: &Sheet, trace: Option<usize>, work: usize) -> Result<(), Refu
     Ok(())
 }
 
-/// Whether a plan exists, or else 13 or 14, from the sets of configurations that are reached in exactly 0 to D + 1
-/// transitions.
-pub fn verdict(sheet: &Sheet) -> Result<(), Refusal> {
+/// The configurations that are reached in exactly so many transitions.
+type Layer = HashSet<Configuration>;
+
+/// The layers of 0, 1, .. t - 1 transitions and that of t, the first that has a final configuration; or 13 or 14, from
+/// those of 0 to D + 1.
+fn layers(sheet: &Sheet) -> Result<(Vec<Layer>, Layer), Refusal> {
+    let mut before = vec![];
     let mut layer = HashSet::from([Configuration::first(sheet)]);
     for _ in 0..=sheet.bound {
         if layer.iter().any(|configuration| configuration.is_final(sheet)) {
-            return Ok(());
+            return Ok((before, layer));
         }
-        layer = layer.iter().flat_map(|configuration| configuration.transitions(sheet)).map(|step| step.to).collect();
+        let steps = layer.iter().flat_map(|configuration| configuration.transitions(sheet));
+        let next = steps.map(|step| step.to).collect();
+        before.push(mem::replace(&mut layer, next));
     }
     Err(Refusal::number(if layer.is_empty() { 13 } else { 14 }))
+}
+
+/// Whether a plan exists, or else 13 or 14.
+pub fn verdict(sheet: &Sheet) -> Result<(), Refusal> {
+    layers(sheet).map(|_| ())
 }
 
 /// The lengths, from 0 to D in rising order, of the runs with this history that end final.
@@ -73,9 +86,41 @@ pub struct Plan {
     pub transitions: usize,
 }
 
-/// Planning. Which plan comes out is left open (any that [`judge`] accepts will do); here it is the first, depth first in
-/// listed order, to at most D transitions and with no memory of configurations.
+/// Of each configuration of a layer from which runs lead to a final one of the last layer, the least history of them.
+type Suffixes = HashMap<Configuration, Vec<u16>>;
+
+/// Planning: the first plan, "fewest transitions, and among those the history that is smaller at the first differing
+/// entry, a proper beginning counting as smaller" (F-1). This order on histories is just Rust's on `Vec<u16>`.
+///
+/// The history is found from its end, layer by layer, since an entry in front of two histories keeps their order. One
+/// behind them does not: `[1]` is smaller than `[1, 0]`, but `[1, 2]` is larger than `[1, 0, 2]`. So the least
+/// beginning that leads to a configuration is not what counts.
 pub fn plan(sheet: &Sheet) -> Result<Plan, Refusal> {
+    let (before, last) = layers(sheet)?;
+    let transitions = before.len();
+    let finals = last.into_iter().filter(|configuration| configuration.is_final(sheet));
+    let mut suffixes: Suffixes = finals.map(|configuration| (configuration, vec![])).collect();
+    for layer in before.into_iter().rev() {
+        let with_suffix = |from| least_suffix(sheet, &from, &suffixes).map(|suffix| (from, suffix));
+        suffixes = layer.into_iter().filter_map(with_suffix).collect();
+    }
+    let history = suffixes.remove(&Configuration::first(sheet)).expect("a run leads to the last layer");
+    Ok(Plan { history, transitions })
+}
+
+/// The least of each transition's entry, if it has one, in front of the least suffix of where it leads.
+fn least_suffix(sheet: &Sheet, from: &Configuration, suffixes: &Suffixes) -> Option<Vec<u16>> {
+    let through = |step: Transition| {
+        let rest = suffixes.get(&step.to)?;
+        Some(step.entry.into_iter().chain(rest.iter().copied()).collect())
+    };
+    from.transitions(sheet).into_iter().filter_map(through).min()
+}
+
+/// The plain search: depth first to at most D transitions, with no memory of configurations. It has the same verdict as
+/// [`plan`]; its plan is whichever comes first in listed order, of few transitions or many. The benchmark measures the
+/// library against it.
+pub fn depth_first(sheet: &Sheet) -> Result<Plan, Refusal> {
     let mut search = DepthFirst { sheet, history: vec![], longer: false };
     match search.from(&Configuration::first(sheet), 0) {
         Break(transitions) => Ok(Plan { history: search.history, transitions }),

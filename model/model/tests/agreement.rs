@@ -1,23 +1,23 @@
 //! The model against itself on random sheets.
 
 use model::meaning::Configuration;
-use model::planner::{judge, lengths, plan, replay, verdict};
+use model::planner::{depth_first, judge, lengths, plan, replay, verdict, Plan};
 use model::sheet::{Action, Effect, Fluent, Formula, Program, Sheet};
 use sheets::random::{near_miss, run, searchable, Random};
-use sheets::runs;
 use std::collections::BTreeSet;
 
-/// Every run of at most D transitions that ends final, as its history and length, by plain recursion.
-fn plans(sheet: &Sheet) -> BTreeSet<(Vec<u16>, usize)> {
+/// Every run of at most D transitions that ends final, as its length and history, by plain recursion. The first plan is
+/// the least of them.
+fn plans(sheet: &Sheet) -> BTreeSet<(usize, Vec<u16>)> {
     fn collect(
         sheet: &Sheet,
         configuration: &Configuration,
         history: &[u16],
         length: usize,
-        plans: &mut BTreeSet<(Vec<u16>, usize)>,
+        plans: &mut BTreeSet<(usize, Vec<u16>)>,
     ) {
         if configuration.is_final(sheet) {
-            plans.insert((history.to_vec(), length));
+            plans.insert((length, history.to_vec()));
         }
         if length < sheet.bound {
             for step in configuration.transitions(sheet) {
@@ -33,11 +33,21 @@ fn plans(sheet: &Sheet) -> BTreeSet<(Vec<u16>, usize)> {
 }
 
 #[test]
-fn plan_and_verdict_agree() {
+fn the_plan_is_the_first_of_all() {
     let mut random = Random::new(2);
     for _ in 0..3000 {
         let (_, sheet) = searchable(&mut random, 3000);
-        let found = plan(&sheet);
+        let first = plans(&sheet).pop_first().map(|(transitions, history)| Plan { history, transitions });
+        assert_eq!(plan(&sheet).ok(), first);
+    }
+}
+
+#[test]
+fn the_plain_search_has_the_same_verdict() {
+    let mut random = Random::new(12);
+    for _ in 0..3000 {
+        let (_, sheet) = searchable(&mut random, 3000);
+        let found = depth_first(&sheet);
         assert_eq!(found.clone().map(|_| ()), verdict(&sheet));
         if let Ok(plan) = found {
             assert!(plan.transitions <= sheet.bound);
@@ -53,17 +63,14 @@ fn layers_and_plain_recursion_agree() {
         let (_, sheet) = searchable(&mut random, 300);
         let plans = plans(&sheet);
         assert_eq!(plans.is_empty(), verdict(&sheet).is_err());
-        if let Ok(plan) = plan(&sheet) {
-            assert!(plans.contains(&(plan.history, plan.transitions)));
-        }
-        let mut histories: BTreeSet<Vec<u16>> = plans.iter().map(|(history, _)| history.clone()).collect();
+        let mut histories: BTreeSet<Vec<u16>> = plans.iter().map(|(_, history)| history.clone()).collect();
         histories.insert(run(&mut random, &sheet).0);
         for history in histories.clone() {
             histories.insert(near_miss(&mut random, &sheet, &history));
         }
         for history in histories {
             let expected: Vec<usize> =
-                (0..=sheet.bound).filter(|&length| plans.contains(&(history.clone(), length))).collect();
+                (0..=sheet.bound).filter(|&length| plans.contains(&(length, history.clone()))).collect();
             assert_eq!(lengths(&sheet, &history), expected);
             assert_eq!(replay(&sheet, &history), !expected.is_empty());
         }
@@ -71,17 +78,14 @@ fn layers_and_plain_recursion_agree() {
 }
 
 #[test]
-fn a_raised_bound_keeps_a_plan_and_keeps_13() {
+fn a_raised_bound_keeps_the_very_plan_and_keeps_13() {
     let mut random = Random::new(4);
-    for _ in 0..1000 {
+    for _ in 0..3000 {
         let (_, sheet) = searchable(&mut random, 300);
-        let raised = Sheet { bound: sheet.bound + random.between(1, 3), ..sheet.clone() };
-        if !runs::few(&raised, 10_000) {
-            continue;
-        }
-        match verdict(&sheet) {
+        let raised = Sheet { bound: random.between(sheet.bound, 64), ..sheet.clone() };
+        match plan(&sheet) {
             Err(refusal) if refusal.number == 14 => {}
-            kept => assert_eq!(verdict(&raised), kept),
+            kept => assert_eq!(plan(&raised), kept),
         }
     }
 }

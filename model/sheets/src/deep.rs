@@ -7,11 +7,14 @@
 //! iteration adds that level each time, since its copies stay; a copy of another loop is dropped when the next begins.
 //! So there is an iteration; what stands around it decides by which parts a walk through the remaining program goes
 //! down.
+//!
+//! No configuration has two transitions. So there is one run of each length, and a search that tries the bounds 0, 1,
+//! .. in turn ends soon.
 
 use crate::source::*;
 use model::meaning::{START, STOP};
 
-/// A sheet with the bound 64 whose first plan in listed order has 64 transitions, each of them a move.
+/// A sheet with the bound 64 whose only plan has 64 transitions, each of them a move.
 pub struct Deep {
     pub name: &'static str,
     pub sheet: Vec<u8>,
@@ -35,14 +38,16 @@ const AROUND: [(&str, Around); 7] = [
 
 /// The first is for comparison: its remaining program stays flat.
 pub fn deep() -> Vec<Deep> {
-    let mut sheets = vec![counting("star", 64, |count, _| star(count))];
+    let mut sheets = vec![counting("star", 64, |Parts { count, .. }| star(count))];
     for (name, around) in AROUND {
-        sheets.push(counting(name, 64, |count, end| nested(14, iteration(count), end, around)));
+        sheets.push(counting(name, 64, |Parts { copies, end, .. }| nested(13, copies, &end, around)));
     }
     // Here the way down is longest inside the record.
-    sheets.push(counting("iteration of sequences", 64, |count, end| iteration(nested(13, count, end, AROUND[0].1))));
-    let mut interrupted = counting("iteration in interrupts", 62, |count, end| {
-        nested(14, iteration(count), end, |inside, _| interrupt(TRUE, inside))
+    sheets.push(counting("iteration of sequences", 64, |Parts { count, end, .. }| {
+        iteration(nested(13, count, &end, AROUND[0].1))
+    }));
+    let mut interrupted = counting("iteration in interrupts", 62, |Parts { copies, end, .. }| {
+        nested(13, copies, &end, |inside, _| interrupt(TRUE, inside))
     });
     interrupted.history = [&[START], &interrupted.history[..], &[STOP]].concat();
     sheets.push(interrupted);
@@ -53,18 +58,28 @@ fn nested(times: usize, inside: Program, other: &Program, around: Around) -> Pro
     (0..times).fold(inside, |inside, _| around(inside, other))
 }
 
-/// A sheet with an action that counts to so many. Its program is made of that action and of a program that has no
-/// transition and is final once all is counted, and stands together with this one.
-fn counting(name: &'static str, to: usize, program: impl Fn(Program, &Program) -> Program) -> Deep {
+/// What the program of a sheet is made of.
+struct Parts {
+    /// The action that counts, possible until all is counted.
+    count: Program,
+    /// The iteration of it. It is begun only while nothing is counted, so that a loop around it has no second round.
+    copies: Program,
+    /// Has no transition, and is final once all is counted.
+    end: Program,
+}
+
+/// A sheet that counts to so many. Its program stands together with one that is final once all is counted.
+fn counting(name: &'static str, to: usize, program: impl Fn(Parts) -> Program) -> Deep {
     let mut source = Source::new(name, 64);
     let low = source.fluent("counted, lower digit", 16, 0);
     let high = source.fluent("counted, higher digit", 5, 0);
-    let counted = low.is(to % 16) & high.is(to / 16);
+    let counted = |number| low.is(number % 16) & high.is(number / 16);
     let mut effects = low.goes_up();
     effects.push(low.gets(0).when(low.is(15)));
     effects.extend(high.values().skip(1).map(|value| high.gets(value).when(high.is(value - 1) & low.is(15))));
-    let count = source.action("count", !counted.clone(), effects);
-    let end = repeat_while(!counted, test(FALSE));
-    let sheet = source.sheet(&together([program(count, &end), end]));
+    let count = source.action("count", !counted(to), effects);
+    let copies = repeat_while(counted(0), iteration(count.clone()));
+    let end = repeat_while(!counted(to), test(FALSE));
+    let sheet = source.sheet(&together([program(Parts { count, copies, end: end.clone() }), end]));
     Deep { name, sheet, history: vec![0; to] }
 }

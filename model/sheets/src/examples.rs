@@ -14,6 +14,7 @@ pub fn examples() -> Vec<Case> {
         example!("three-sections", three_sections()),
         example!("berth", berth(3)),
         example!("berth-too-soon", berth(2)),
+        example!("berth-generous", berth(12)),
         example!("priorities", priority()),
         example!("interrupts", interrupts()),
         example!("table", table()),
@@ -111,8 +112,8 @@ fn interrupts() -> Vec<u8> {
     source.sheet(&priorities([interrupt(let_in, enter), interrupt(berth.is(1), load), interrupt(berth.is(2), leave)]))
 }
 
-/// Two robots lift a table (000, section 6.1, with the appendix's H 3, Tol 2 and Amount 1). The plan is the first
-/// answer that the appendix prints.
+/// Two robots lift a table (000, section 6.1, with section 8.1's H 3, Tol 2 and Amount 1). The plan lifts each end
+/// three times. Each answer that 8.1 prints has one lift more, of a robot that passed its test before the table was up.
 fn table() -> Vec<u8> {
     const UP: usize = 3;
     let mut source = Source::new("Two robots lift a table", 16);
@@ -144,8 +145,8 @@ fn table() -> Vec<u8> {
 }
 
 /// The elevator controller (000, section 6.2) on four floors, 0 to 3: five priorities of interrupts, and beside them
-/// the outside world as a program, since exogenous actions are not included: a call from the second floor comes when
-/// the elevator has served the third and gone down again.
+/// the outside world as a program, since exogenous actions are not included: a call from floor 1, at any time. In the
+/// plan, which has the fewest transitions, it comes when the elevator has served floor 2 and passes floor 1.
 fn elevator() -> Vec<u8> {
     const FLOORS: u8 = 4;
     let mut source = Source::new("An elevator of four floors", 13);

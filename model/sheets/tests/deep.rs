@@ -4,6 +4,7 @@ use model::meaning::{Configuration, Prog};
 use model::planner::{plan, Plan};
 use model::sheet::check;
 use sheets::deep::deep;
+use sheets::runs;
 
 /// The most links on a path down.
 fn depth(program: &Prog) -> usize {
@@ -20,6 +21,14 @@ fn the_plan_has_64_moves() {
     for deep in deep() {
         let sheet = check(&deep.sheet).expect("the sheet is accepted");
         assert_eq!(plan(&sheet), Ok(Plan { history: deep.history, transitions: 64 }), "{}", deep.name);
+    }
+}
+
+#[test]
+fn there_is_one_run_of_each_length() {
+    for deep in deep() {
+        let sheet = check(&deep.sheet).expect("the sheet is accepted");
+        assert_eq!(runs::count(&sheet, sheet.bound + 1, usize::MAX), Some(65), "{}", deep.name);
     }
 }
 

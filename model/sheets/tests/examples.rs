@@ -1,5 +1,6 @@
 //! The examples: the builder's sheets, and what the program prints for them.
 
+use model::planner::replay;
 use model::program::printed;
 use model::sheet::check;
 use sheets::examples::examples;
@@ -32,6 +33,17 @@ fn every_file_has_its_sheet() {
     for example in examples() {
         let sheet = fs::read(folder.join(&example.name).with_extension("sheet")).expect("a sheet");
         assert!(sheet == example.sheet, "{}", example.name);
+    }
+}
+
+/// The answers that 000 prints in section 8.1: robot 1 grabs end 1 and lifts by the actions 0 and 2, robot 2 grabs end
+/// 2 and lifts by 4 and 5.
+#[test]
+fn the_papers_answers_lift_the_table_too() {
+    let table = examples().into_iter().find(|example| example.name == "table").expect("an example");
+    let sheet = check(&table.sheet).expect("the sheet is accepted");
+    for answer in [[0, 2, 2, 4, 5, 2, 5, 2, 5], [0, 2, 2, 4, 5, 2, 5, 5, 2]] {
+        assert!(replay(&sheet, &answer), "{answer:?}");
     }
 }
 

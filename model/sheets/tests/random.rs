@@ -1,9 +1,10 @@
 //! What the generators make.
 
-use model::planner::{plan, replay};
+use model::meaning::Configuration;
+use model::planner::{depth_first, plan, replay, Plan};
 use model::sheet::{check, Program, Sheet};
 use sheets::random::{accepted, damaged, near_miss, run, searchable, unknown, Random};
-use std::collections::{BTreeSet, HashMap};
+use std::collections::{BTreeSet, HashMap, HashSet};
 use std::mem::discriminant;
 
 /// The program records that the root reaches.
@@ -51,6 +52,41 @@ fn every_verdict_and_every_kind_has_a_fair_share() {
     }
     assert!(moves * 7 > count && interrupted * 6 > count && shared * 4 > count && nested * 100 > count);
     assert!(kinds.len() == 12 && kinds.values().all(|&reached| reached * 20 > count));
+}
+
+/// The histories of the runs of exactly so many transitions that end final.
+fn histories(sheet: &Sheet, transitions: usize) -> BTreeSet<Vec<u16>> {
+    let mut reached = HashSet::from([(Configuration::first(sheet), vec![])]);
+    for _ in 0..transitions {
+        let longer = |(from, history): (Configuration, Vec<u16>)| {
+            let steps = from.transitions(sheet).into_iter();
+            steps.map(move |step| (step.to, [&history[..], step.entry.as_slice()].concat()))
+        };
+        reached = reached.into_iter().flat_map(longer).collect();
+    }
+    reached.into_iter().filter(|(last, _)| last.is_final(sheet)).map(|(_, history)| history).collect()
+}
+
+#[test]
+fn plans_have_rivals_of_every_sort() {
+    let mut random = Random::new(13);
+    let count = 3000;
+    let (mut rivals, mut longer, mut shorter, mut beginnings, mut listed_before) = (0, 0, 0, 0, 0);
+    for _ in 0..count {
+        let (_, sheet) = searchable(&mut random, 3000);
+        let Ok(Plan { history, transitions }) = plan(&sheet) else { continue };
+        let all = histories(&sheet, transitions);
+        rivals += usize::from(all.len() > 1);
+        longer += usize::from(all.iter().any(|rival| rival.len() > history.len()));
+        shorter += usize::from(all.iter().any(|rival| rival.len() < history.len()));
+        beginnings += usize::from(all.iter().any(|rival| *rival != history && rival.starts_with(&history)));
+        let listed = depth_first(&Sheet { bound: transitions, ..sheet });
+        listed_before += usize::from(listed != Ok(Plan { history, transitions }));
+    }
+    println!("of {count}: plans with rivals of as many transitions {rivals}; with a longer history {longer}, with a");
+    println!("shorter one {shorter}, with one that goes on {beginnings}; one that is listed before {listed_before}");
+    assert!(rivals * 20 > count && longer * 40 > count && listed_before * 40 > count);
+    assert!(shorter * 80 > count && beginnings * 80 > count);
 }
 
 #[test]

@@ -1,4 +1,4 @@
--- By the outermost node, and of the parts by the same; the number of nodes falls. A count of a record fits a word, so the sum over the
+-- By the outermost node, and of the parts by the same; the number of nodes falls. A number of a table fits a word, so the sum over the
 -- nodes of a frame fits. Assumes nothing.
 use mathlib.Core.Path.{_∙_, sym, subst}
 use denote.Ref.{now}
@@ -7,7 +7,7 @@ use native.Mathlib.Omega.{arith}
 use Rattle.words.proofs.Standing.{gone-at, leaf-at, at-room}
 use Rattle.words.proofs.Reading.{sizeAt, holds-room, Construct, construct, Sized, sized}
 use Rattle.ends.specs.Ends.{Totalled}
-use Rattle.ends.proofs.Parts.{total-gone, total-leaf, total-few, total-node}
+use Rattle.ends.proofs.Parts.{total-gone, total-leaf, totals-few, total-node}
 use Prim.Native.Nat.{ℕ, _<_}
 use borrow.Fn.Kinds.{In, Out}
 use borrow.Fn.PlainCycle.{Measures, is, falls, and}
@@ -15,6 +15,7 @@ use Rattle.ends.proofs.total_rest.Reads as total-rest
 use Rattle.ends.proofs.total_rest.Kinds as total-rest-kinds
 use Rattle.ends.proofs.+total_rest.Lts-total_rest as total-rest-lts
 use Rattle.ends.proofs.join_totals.Reads as join-totals-reads
+use Rattle.ends.proofs.soon_of.Reads as soon-of-reads
 use Rattle.records.proofs.wide32.Reads as wide32-reads
 use Rattle.records.proofs.number_in.Reads as number-in-reads
 use Rattle.records.proofs.flag_in.Reads as flag-in-reads
@@ -47,6 +48,8 @@ claims t = (
   wide32-reads.Learnt,
   flag-in-reads.Asked,
   flag-in-reads.Learnt,
+  soon-of-reads.Asked,
+  soon-of-reads.Learnt,
   size-at-reads.Asked,
   size-at-reads.Learnt,
   total-rest-below t,
@@ -90,21 +93,30 @@ total-rest-number-in-requires t c κs = search needs
 total-rest-wide32-requires : (t : ℕ) → total-rest-lts.Need-wide32-requires (claims t) (total-rest-at t) total-rest.Post
 total-rest-wide32-requires t c κs = search needs
 
+total-rest-number-in-requires-2 : (t : ℕ) → total-rest-lts.Need-number-in-requires-2 (claims t) (total-rest-at t) total-rest.Post
+total-rest-number-in-requires-2 t c κs = search needs
+
+total-rest-wide32-requires-2 : (t : ℕ) → total-rest-lts.Need-wide32-requires-2 (claims t) (total-rest-at t) total-rest.Post
+total-rest-wide32-requires-2 t c κs = search needs
+
 total-rest-flag-in-requires : (t : ℕ) → total-rest-lts.Need-flag-in-requires (claims t) (total-rest-at t) total-rest.Post
 total-rest-flag-in-requires t c κs = search needs
 
-total-rest-flag-in-requires-2 : (t : ℕ) → total-rest-lts.Need-flag-in-requires-2 (claims t) (total-rest-at t) total-rest.Post
-total-rest-flag-in-requires-2 t c κs = search needs
+total-rest-soon-of-requires : (t : ℕ) → total-rest-lts.Need-soon-of-requires (claims t) (total-rest-at t) total-rest.Post
+total-rest-soon-of-requires t c κs = search needs
 
 total-rest-returns-2 : (t : ℕ) → total-rest-lts.Need-returns-2 (claims t) (total-rest-at t) total-rest.Post
 total-rest-returns-2 t c g h =
     let at-flag-in = c .before in
-    let at-wide32 = at-flag-in .before in
+    let at-wide322 = at-flag-in .before in
+    let at-number-in2 = at-wide322 .before in
+    let at-wide32 = at-number-in2 .before in
     let at-number-in = at-wide32 .before in
     let at-record-at = at-number-in .before in
     let at-if2 = at-record-at .before in
     total-leaf _ _ _ (leaf-at _ _ _ (tag-at-from-then2 at-if2 .tag-at .ensures) g h (at-if2 .if2 .taken)) (at-record-at .record-at .ensures)
-    (at-wide32 .wide32 .ensures .0 ∙ at-number-in .number-in .ensures) (at-wide32 .wide32 .ensures .1) (at-flag-in .flag-in .ensures) (c .flag-in2 .ensures)
+    (at-wide32 .wide32 .ensures .0 ∙ at-number-in .number-in .ensures) (at-wide32 .wide32 .ensures .1)
+    (at-wide322 .wide322 .ensures .0 ∙ at-number-in2 .number-in2 .ensures) (at-wide322 .wide322 .ensures .1) (at-flag-in .flag-in .ensures) (c .soon-of .ensures)
 
 left-known : (t : ℕ) (c : total-rest-lts.Else2 (claims t) (total-rest-at t) total-rest.Post) → Construct (now (start-from-else2 c .args .work)) (start-from-else2 c .args .at)
 left-known t c = construct (start-from-else2 c .pre .1 .0) (tag-at-from-else2 c .tag-at .ensures) (c .before .if1 .left) (c .if2 .left)
@@ -154,8 +166,8 @@ total-rest-join-totals-requires t c κs =
     let at-start = start-from-size-at at-size-at in
     let H = at-start .pre .1 .0 in
     let P = right-known t at-size-at .parts-of (H .rest) (H .at) in
-    let few = total-few _ _ _ (P .is) (at-total-rest .total-rest .ensures (P .l) (P .l-at)) (c .total-rest2 .ensures (P .r) (P .r-at)) in
-    omega (arith, few, at-room (H .rest) _ _ (H .at), at-start .pre .1 .1)
+    totals-few _ _ _ (P .is) (at-total-rest .total-rest .ensures (P .l) (P .l-at)) (c .total-rest2 .ensures (P .r) (P .r-at))
+    (omega (arith, at-room (H .rest) _ _ (H .at), at-start .pre .1 .1))
 
 total-rest-returns-3 : (t : ℕ) → total-rest-lts.Need-returns-3 (claims t) (total-rest-at t) total-rest.Post
 total-rest-returns-3 t c g h =
@@ -174,8 +186,10 @@ pub +total-rest-spec : {M : Type 1} → statement M
     (total-rest-record-at-requires t)
     (total-rest-number-in-requires t)
     (total-rest-wide32-requires t)
+    (total-rest-number-in-requires-2 t)
+    (total-rest-wide32-requires-2 t)
     (total-rest-flag-in-requires t)
-    (total-rest-flag-in-requires-2 t)
+    (total-rest-soon-of-requires t)
     (total-rest-returns-2 t)
     (total-rest-add-size-at t)
     (total-rest-size-at-requires t)

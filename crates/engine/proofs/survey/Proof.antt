@@ -1,4 +1,4 @@
--- The totals by the tables of the state are what the definition says of the configuration. Assumes nothing.
+-- The totals by the tables of the state are what the definition says of the configuration; counting the survey leaves them. Assumes nothing.
 use denote.Ref.{now}
 use native.Mathlib.Omega.{arith}
 use mathlib.Core.Path.{sym, subst}
@@ -6,7 +6,7 @@ use Prim.Native.Nat.{ℕ, _+_}
 use Rattle.height.specs.Work.{header}
 use Rattle.words.specs.Words.{At, Stands}
 use Rattle.engine.proofs.Frames.{frame-by, frame-holds}
-use Rattle.engine.proofs.Tables.{filled}
+use Rattle.engine.proofs.Tables.{filled, filled-then, counted, counted-filled}
 use Rattle.engine.proofs.Telling.{tells}
 use borrow.Author.Needs.{needs}
 use Rattle.engine.proofs.survey.Statement.{statement}
@@ -18,6 +18,9 @@ judge-requires c κs = search needs
 tally-requires : tie.Need-tally-requires
 tally-requires c κs = search needs
 
+count-survey-requires : tie.Need-count-survey-requires
+count-survey-requires c κs = search needs
+
 -- Places: what stands before a need, by name. Written by `named`: run it again when the code changes.
 abbrev start-from-judge : tie.After-judge → tie.Start
 start-from-judge c = c .before .before .before .before .before .before .before
@@ -28,27 +31,34 @@ judge-from-tally c = c .before .before .before .before .before
 abbrev start-from-tally : tie.After-tally → tie.Start
 start-from-tally c = start-from-judge (judge-from-tally c)
 
-abbrev tally-from-mul-total : tie.After-struct-known → tie.After-tally
-tally-from-mul-total c = c .before .before .before .before .before
+abbrev count-survey-from-mul-total : tie.After-struct-known → tie.After-count-survey
+count-survey-from-mul-total c = c .before .before .before .before .before
+
+abbrev start-from-mul-total : tie.After-struct-known → tie.Start
+start-from-mul-total c = start-from-tally ((count-survey-from-mul-total c) .before .before .before .before)
+
+abbrev count-survey-from-returns : tie.After-total → tie.After-count-survey
+count-survey-from-returns c = count-survey-from-mul-total (c .before)
 
 mul-total : tie.Need-mul-total
 mul-total c =
-    let at-start = start-from-tally (tally-from-mul-total c) in
+    let at-start = start-from-mul-total c in
     omega (arith, frame-by (at-start .pre .0 .0) (at-start .args .d), at-start .pre .1 .2 .roomy .inside, at-start .pre .1 .2 .roomy .small)
 
 add-total : tie.Need-add-total
 add-total c =
-    let at-start = start-from-tally (tally-from-mul-total c) in
+    let at-start = start-from-mul-total c in
     omega (arith, frame-by (at-start .pre .0 .0) (at-start .args .d), at-start .pre .1 .2 .roomy .inside, at-start .pre .1 .2 .roomy .small)
 
 total-requires : tie.Need-total-requires
 total-requires c κs =
-    let at-tally = tally-from-mul-total c in
+    let at-count-survey = count-survey-from-mul-total c in
+    let at-tally = at-count-survey .before .before .before .before in
     let at-start = start-from-tally at-tally in
-    let P = at-tally .tally .ensures .0 .prepared in
+    let S = counted (at-count-survey .count-survey .ensures) (at-count-survey .count-survey .kept .0) (at-tally .tally .ensures .0 .prepared .numbers-long) (at-tally .tally .ensures .0) in
     let F = at-start .pre .1 .2 in (
-      P .flags-long,
-      P .numbers-long,
+      S .prepared .flags-long,
+      S .prepared .numbers-long,
       subst (λ (o : ℕ). Stands (now (at-start .args .work)) (o + header)) (sym (frame-by (at-start .pre .0 .0) (at-start .args .d))) (frame-holds F),
       F .roomy .small,
     )
@@ -61,16 +71,19 @@ same-length-2 c = search needs
 
 returns : tie.Need-returns
 returns c =
-    let at-tally = tally-from-mul-total (c .before) in
+    let at-count-survey = count-survey-from-returns c in
+    let at-tally = at-count-survey .before .before .before .before in
     let at-judge = judge-from-tally at-tally in
     let at-start = start-from-judge at-judge in
     let O = at-start .pre .0 .0 in
     let P = at-start .pre .0 .1 in
     let d = at-start .args .d in
-    let S = at-tally .tally .ensures .0 in (
+    let long = at-tally .tally .ensures .0 .prepared .numbers-long in
+    let S = counted (at-count-survey .count-survey .ensures) (at-count-survey .count-survey .kept .0) (at-tally .tally .ensures .0 .prepared .numbers-long) (at-tally .tally .ensures .0) in
+    let F = filled d (P .flags-long) (P .numbers-long) (at-judge .judge .ensures .1) (at-judge .judge .kept .0) (at-tally .tally .ensures .1) (at-tally .tally .kept .0) in (
       λ left p F. tells (O .accepted) F (at-start .args .st) S
           (c .total .ensures (F .rest) (subst (λ (o : ℕ). At (F .rest) (now (at-start .args .work)) (o + header)) (sym (frame-by O d)) (F .words-are))),
-      (S, filled d (P .flags-long) (P .numbers-long) (at-judge .judge .ensures .1) (at-judge .judge .kept .0) (at-tally .tally .ensures .1) (at-tally .tally .kept .0)),
+      (S, filled-then F (counted-filled (at-count-survey .count-survey .ensures) (at-count-survey .count-survey .kept .0) long d d) d d (omega arith) (omega arith) (omega arith) (omega arith)),
     )
 
 pub survey-spec : {M : Type 1} → statement M
@@ -79,6 +92,7 @@ survey-spec =
     (tie.spec
     judge-requires
     tally-requires
+    count-survey-requires
     mul-total
     add-total
     total-requires

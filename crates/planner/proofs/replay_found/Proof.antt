@@ -1,11 +1,10 @@
--- The work is long enough or it is not; a history longer than the bound is refused; else what the closed search reports is replay's answer.
--- The work is cleared. Assumes nothing.
+-- The work is long enough or it is not; a history longer than the bound is refused; else whether it is accepted is replay's answer. The work
+-- is cleared. Assumes nothing.
 use denote.Ref.{now}
 use native.Mathlib.Omega.{arith}
 use mathlib.Core.Path.{sym, _∙_, ap}
 use lib.Seq.{length-take-le}
 use Rattle.sheet.specs.declared.Layout.{Layout}
-use Rattle.sheet.proofs.Accepted.{laid}
 use Rattle.sheet.proofs.Found.{answered}
 use Rattle.planner.proofs.Demands.{eleven-reply, replay-cleared}
 use Rattle.planner.proofs.Reported.{replaying, longer, cleared}
@@ -20,8 +19,8 @@ start-from-else1 c = c .before .before .before .before .before
 abbrev start-from-returns : tie.Then1 → tie.Start
 start-from-returns c = c .before .before .before .before .before
 
-abbrev if1-from-slice-aggregate-run : tie.After-run-arg → tie.Else1
-if1-from-slice-aggregate-run c = c .before .before
+abbrev start-from-then2 : tie.Then2 → tie.Start
+start-from-then2 c = start-from-else1 (c .before)
 
 returns : tie.Need-returns
 returns c =
@@ -34,7 +33,7 @@ slice-relend-prefix-clear c = search needs
 
 slice-aggregate-clear : tie.Need-slice-aggregate-clear
 slice-aggregate-clear c =
-    let at-start = start-from-else1 (c .before .before) in
+    let at-start = start-from-then2 (c .before) in
     sym (length-take-le (at-start .args .found .words) (now (at-start .args .work)) (c .before .before .if1 .left))
 
 clear-requires : tie.Need-clear-requires
@@ -45,8 +44,7 @@ same-length c = search needs
 
 returns-2 : tie.Need-returns-2
 returns-2 c =
-    let at-clear = c .before .before in
-    let at-if2 = at-clear .before .before in
+    let at-if2 = c .before .before .before .before in
     let at-if1 = at-if2 .before in
     let at-start = start-from-else1 at-if1 in
     let s = now (at-start .args .s) in
@@ -55,26 +53,21 @@ returns-2 c =
     let O = at-start .pre in
     let e = ap (λ (l : Layout). l .d) (O .layout-is) in (
       longer s w (answered O) work (at-if1 .if1 .left) (now (at-start .args .history)) (omega (arith, e, at-if2 .if2 .taken)),
-      cleared w work _ (at-clear .clear .ensures) (at-if1 .if1 .left) ∙ sym (replay-cleared s w (answered O) work (at-if1 .if1 .left)),
+      cleared w work _ (c .before .before .clear .ensures) (at-if1 .if1 .left) ∙ sym (replay-cleared s w (answered O) work (at-if1 .if1 .left)),
     )
 
-slice-relend-prefix-run : tie.Need-slice-relend-prefix-run
-slice-relend-prefix-run c = search needs
+slice-relend-prefix-accepts : tie.Need-slice-relend-prefix-accepts
+slice-relend-prefix-accepts c = search needs
 
-slice-aggregate-run : tie.Need-slice-aggregate-run
-slice-aggregate-run c =
-    let at-start = start-from-else1 (if1-from-slice-aggregate-run c) in
-    sym (length-take-le (at-start .args .found .words) (now (at-start .args .work)) (if1-from-slice-aggregate-run c .if1 .left))
+slice-aggregate-accepts : tie.Need-slice-aggregate-accepts
+slice-aggregate-accepts c =
+    let at-start = start-from-else1 (c .before .before) in
+    sym (length-take-le (at-start .args .found .words) (now (at-start .args .work)) (c .before .before .if1 .left))
 
-slice-aggregate-run-2 : tie.Need-slice-aggregate-run-2
-slice-aggregate-run-2 c = search needs
-
-run-requires : tie.Need-run-requires
-run-requires c κs =
-    let at-if1 = if1-from-slice-aggregate-run (c .before) in
-    let at-start = start-from-else1 at-if1 in
-    let O = at-start .pre in
-    (O, length-take-le (at-start .args .found .words) (now (at-start .args .work)) (at-if1 .if1 .left), laid _ (O .accepted) .d)
+accepts-requires : tie.Need-accepts-requires
+accepts-requires c κs =
+    let at-start = start-from-else1 (c .before .before) in
+    (at-start .pre, length-take-le (at-start .args .found .words) (now (at-start .args .work)) (c .before .before .if1 .left))
 
 reply-of-requires : tie.Need-reply-of-requires
 reply-of-requires c κs = search needs
@@ -84,16 +77,15 @@ same-length-2 c = search needs
 
 returns-3 : tie.Need-returns-3
 returns-3 c =
-    let at-run = c .before .before .before .before in
-    let at-if1 = if1-from-slice-aggregate-run (at-run .before .before) in
+    let at-accepts = c .before .before .before in
+    let at-if1 = at-accepts .before .before .before in
     let at-start = start-from-else1 at-if1 in
     let s = now (at-start .args .s) in
-    let h = now (at-start .args .history) in
     let w = at-start .args .found .words in
     let work = now (at-start .args .work) in
     let p = answered (at-start .pre) in
-    let r = replaying s w p work (at-if1 .if1 .left) h _ _ (at-run .run .result) (at-run .run .ensures .0) in
-    (c .reply-of .ensures ∙ r, cleared w work _ (at-run .run .ensures .1) (at-if1 .if1 .left) ∙ sym (replay-cleared s w p work (at-if1 .if1 .left)))
+    let r = replaying s w p work (at-if1 .if1 .left) (now (at-start .args .history)) (at-accepts .accepts .result) (at-accepts .accepts .ensures .0) in
+    (c .reply-of .ensures ∙ r, cleared w work _ (at-accepts .accepts .ensures .1) (at-if1 .if1 .left) ∙ sym (replay-cleared s w p work (at-if1 .if1 .left)))
 
 pub replay-found-spec : {M : Type 1} → statement M
 replay-found-spec =
@@ -105,10 +97,9 @@ replay-found-spec =
     clear-requires
     same-length
     returns-2
-    slice-relend-prefix-run
-    slice-aggregate-run
-    slice-aggregate-run-2
-    run-requires
+    slice-relend-prefix-accepts
+    slice-aggregate-accepts
+    accepts-requires
     reply-of-requires
     same-length-2
     returns-3)

@@ -1,28 +1,14 @@
--- A plan found is yes, every other outcome no. Assumes nothing.
+-- Accepted is yes, else no. Assumes nothing.
 use mathlib.Core.Path.{sym, ap}
-use Rattle.search.specs.Outcome.{isFound}
 use Rattle.planner.specs.Reports.{repliedAs}
-use borrow.Author.Needs.{needs}
 use Rattle.planner.proofs.reply_of.Statement.{statement}
 use Rattle.planner.proofs.reply_of.Tie as tie
 
-enum-told : tie.Need-enum-told
-enum-told c = search needs
-
-enum-told-2 : tie.Need-enum-told-2
-enum-told-2 c = search needs
-
-enum-told-3 : tie.Need-enum-told-3
-enum-told-3 c = search needs
-
 returns : tie.Need-returns
-returns c = sym (ap (λ o. repliedAs (isFound o)) (c .enum-told .given .1))
+returns c = sym (ap repliedAs (c .if1 .taken))
 
 returns-2 : tie.Need-returns-2
-returns-2 c = sym (ap (λ o. repliedAs (isFound o)) (c .enum-told2 .given .1))
-
-returns-3 : tie.Need-returns-3
-returns-3 c = sym (ap (λ o. repliedAs (isFound o)) (c .enum-told3 .given .1))
+returns-2 c = sym (ap repliedAs (c .if1 .left))
 
 pub reply-of-spec : {M : Type 1} → statement M
-reply-of-spec = tie.close (tie.spec enum-told enum-told-2 enum-told-3 returns returns-2 returns-3)
+reply-of-spec = tie.close (tie.spec returns returns-2)

@@ -151,15 +151,6 @@ expand-next-requires t c κs =
     let S = at-refresh .refresh .ensures .0 in
     (g .ready .visited .of, S, can (onward L S))
 
-expand-lets-pass-requires : (t : ℕ) → expand-lts.Need-lets-pass-requires (claims t) (expand-at t) expand.Post expand-Inv-loop expand-μ-loop
-expand-lets-pass-requires t c κs = loop-from-next (next-from-lets-pass-requires c) .loop .inv .4 .0 .ready .visited .used-up
-
-expand-follow-requires : (t : ℕ) → expand-lts.Need-follow-requires (claims t) (expand-at t) expand.Post expand-Inv-loop expand-μ-loop
-expand-follow-requires t c κs =
-    let g = loop-from-next (next-from-lets-pass (c .before)) .loop .inv .4 .0 in
-    let r = g .ready in
-    (g .some-left, r .visited .used-up, omega (arith, r .few, r .deep), omega (arith, r .deep))
-
 turn-made : (t : ℕ) → (c : expand-lts.After-next (claims t) (expand-at t) expand.Post expand-Inv-loop expand-μ-loop) →
     let at-refresh = refresh-from-next c in
     let at-loop = loop-from-refresh at-refresh in
@@ -172,6 +163,19 @@ turn-made t c =
     let at-loop = at-is-spent .before in
     turned (at-loop .loop .inv .4 .1) (at-refresh .refresh .ensures .0) (at-refresh .refresh .ensures .1)
     (c .next .ensures) (sym (at-is-spent .is-spent .ensures _ _ _ (at-loop .loop .inv .4 .1 .listed)) ∙ not-true _ (at-if1 .if1 .taken))
+
+expand-lets-pass-requires : (t : ℕ) → expand-lts.Need-lets-pass-requires (claims t) (expand-at t) expand.Post expand-Inv-loop expand-μ-loop
+expand-lets-pass-requires t c κs =
+    let at-next = next-from-lets-pass-requires c in
+    let at-loop = loop-from-next at-next in
+    let T = turn-made t at-next in
+    (at-loop .loop .inv .4 .0 .ready .visited .used-up, small (going T) (T .first) (at-loop .loop .cut))
+
+expand-follow-requires : (t : ℕ) → expand-lts.Need-follow-requires (claims t) (expand-at t) expand.Post expand-Inv-loop expand-μ-loop
+expand-follow-requires t c κs =
+    let g = loop-from-next (next-from-lets-pass (c .before)) .loop .inv .4 .0 in
+    let r = g .ready in
+    (g .some-left, r .visited .used-up, omega (arith, r .few, r .deep), omega (arith, r .deep))
 
 expand-look-requires : (t : ℕ) → expand-lts.Need-look-requires (claims t) (expand-at t) expand.Post expand-Inv-loop expand-μ-loop
 expand-look-requires t c κs =

@@ -1,13 +1,18 @@
-//! Planning by the verified library against the model's own depth-first search, on the same sheets in the same run:
-//! `cargo run --release --package library --bin bench`. Both take a sheet's bytes, check them and plan. They follow the
-//! same transitions in the same order, and every sheet ends in 14, so that all of the search is made.
+//! Planning by the verified library and by the model in two ways, on the same sheets in the same run:
+//! `cargo run --release --package library --bin bench`. Each takes a sheet's bytes, checks them and plans.
+//!
+//! - Plain is the model's depth-first search without memory (`depth_first`).
+//! - Sets is what a programmer would write instead, breadth first over sets of configurations (`plan`).
+//!
+//! Sheets without a plan end in 14, so that all of the search is made. Where there is a plan, the library and sets give
+//! the same, the first (document 02, F-1): n, t and trace. There plain is left out: it gives another plan, mostly one
+//! of D transitions, and its time says only how soon it comes upon one in listed order.
 
 #![forbid(unsafe_code)]
 
-use library::Answer;
 use model::planner::{self, Plan};
 use model::refusal::Refusal;
-use model::sheet::{check, Formula, Program};
+use model::sheet::{self, check, Formula, Sheet};
 use sheets::runs;
 use sheets::source::*;
 use sheets::write::Records;
@@ -24,13 +29,13 @@ struct Family {
 }
 
 /// Of each sheet the bound is such that some thousand transitions are followed.
-fn families() -> Vec<Family> {
+fn without_plan() -> Vec<Family> {
     let acts = [(4, 7), (16, 4), (64, 2), (256, 2)];
     vec![
         Family {
             name: "regrouping a full quay",
             sheets: [(2, 13), (3, 8), (4, 6), (5, 5), (6, 5), (7, 4)]
-                .map(|(ships, bound)| (format!("{ships} ships"), regrouping(ships, ships + 1, bound)))
+                .map(|(ships, bound)| (format!("{ships} ships"), full_quay(ships, bound)))
                 .into(),
         },
         Family {
@@ -66,9 +71,58 @@ fn families() -> Vec<Family> {
     ]
 }
 
-/// Ships on all sections but few are shifted to free ones, towards an order that no quay has.
-fn regrouping(ships: usize, sections: usize, bound: u16) -> Vec<u8> {
-    let mut source = Source::new("regrouping", bound);
+/// In the first two families the bound grows, from t on, and the plan stays; in the others the bound is t.
+fn with_plan() -> Vec<Family> {
+    use Listed::*;
+    let acts = |ships| (format!("{ships} ships, 3 acts each"), side_by_side(ships, 3));
+    vec![
+        Family {
+            name: "few moves, 2 ships on 6",
+            sheets: [2, 8, 16, 32, 64]
+                .map(|bound| (format!("bound {bound}"), regrouping([2, 6], 2, Rising, bound)))
+                .into(),
+        },
+        Family {
+            name: "few moves, 3 ships on 8",
+            sheets: [3, 8, 16, 32, 64]
+                .map(|bound| (format!("bound {bound}"), regrouping([3, 8], 3, Rising, bound)))
+                .into(),
+        },
+        Family {
+            name: "two like acts",
+            sheets: [4, 8, 10, 12].map(|times| (format!("{times} times"), like_acts(2, times, Rising))).into(),
+        },
+        Family { name: "side by side, in any order", sheets: [2, 3, 4, 6].map(acts).into() },
+        Family { name: "side by side, in turn", sheets: vec![("16 ships, 4 acts each".into(), in_turn(16, 4))] },
+        Family {
+            name: "listed against the numbers",
+            sheets: vec![
+                ("3 ships on 8".into(), regrouping([3, 8], 3, Falling, 3)),
+                ("5 ships on 10".into(), regrouping([5, 10], 3, Falling, 3)),
+                ("16 like acts, 3 times".into(), like_acts(16, 3, Falling)),
+                ("30 like acts, 3 times".into(), like_acts(30, 3, Falling)),
+            ],
+        },
+    ]
+}
+
+/// How a choice lists acts: by their actions' numbers, or against them.
+enum Listed {
+    Rising,
+    Falling,
+}
+
+impl Listed {
+    fn choice(self, mut acts: Vec<Program>) -> Program {
+        if let Listed::Falling = self {
+            acts.reverse();
+        }
+        choice(acts)
+    }
+}
+
+/// Ships on the first sections, and the shifts of each to every section, possible where that is free.
+fn quay(source: &mut Source, ships: usize, sections: usize) -> (Vec<Fluent>, Vec<Program>) {
     let places: Vec<Fluent> =
         (0..ships).map(|ship| source.fluent(&format!("ship {ship}"), sections as u8, ship as u8)).collect();
     let mut shifts = vec![];
@@ -78,8 +132,56 @@ fn regrouping(ships: usize, sections: usize, bound: u16) -> Vec<u8> {
             shifts.push(source.action(&format!("ship {ship} to {section}"), free, [place.gets(section)]));
         }
     }
+    (places, shifts)
+}
+
+/// Ships on all sections but one are shifted, towards an order that no quay has.
+fn full_quay(ships: usize, bound: u16) -> Vec<u8> {
+    let mut source = Source::new("regrouping", bound);
+    let (places, shifts) = quay(&mut source, ships, ships + 1);
     let goal = all(places.iter().map(|place| place.is(0)));
     source.sheet(&sequence([star(choice(shifts)), test(goal)]))
+}
+
+/// The first ships are shifted to the last sections, which are free: each by one move, in any order.
+fn regrouping([ships, sections]: [usize; 2], moved: usize, listed: Listed, bound: u16) -> Vec<u8> {
+    let mut source = Source::new("regrouping", bound);
+    let (places, shifts) = quay(&mut source, ships, sections);
+    let goal = all(places.iter().take(moved).zip(sections - moved..).map(|(place, section)| place.is(section)));
+    source.sheet(&repeat_while(!goal, listed.choice(shifts)))
+}
+
+/// A star of a choice between acts that count, all alike, and a test that it was done so many times.
+fn like_acts(acts: usize, times: usize, listed: Listed) -> Vec<u8> {
+    let mut source = Source::new("like acts", times as u16 + 1);
+    let done = source.fluent("times done", 16, 0);
+    let acts = (0..acts).map(|number| source.action(&format!("do it, way {number}"), TRUE, done.goes_up())).collect();
+    source.sheet(&sequence([star(listed.choice(acts)), test(done.is(times))]))
+}
+
+/// Ships with so many acts each, one after the other: all orders of different ships' acts are plans.
+fn side_by_side(ships: usize, acts: usize) -> Vec<u8> {
+    let mut source = Source::new("side by side", (ships * acts) as u16);
+    let mut unloaded = vec![];
+    for ship in 0..ships {
+        let done = source.fluent(&format!("acts of ship {ship}"), acts as u8 + 1, 0);
+        let mut act = |number| source.action(&format!("act {number} of ship {ship}"), TRUE, [done.gets(number + 1)]);
+        unloaded.push(sequence((0..acts).map(&mut act)));
+    }
+    source.sheet(&together(unloaded))
+}
+
+/// The same where an act is possible only in its ship's turn, which goes round: there is one plan.
+fn in_turn(ships: usize, acts: usize) -> Vec<u8> {
+    let mut source = Source::new("in turn", (ships * acts) as u16);
+    let turn = source.fluent("turn", ships as u8, 0);
+    let mut unloaded = vec![];
+    for ship in 0..ships {
+        let next = turn.gets((ship + 1) % ships);
+        let mut act = |number| source.action(&format!("act {number} of ship {ship}"), turn.is(ship), [next.clone()]);
+        unloaded.push(sequence((0..acts).map(&mut act)));
+    }
+    source.sheet(&together(unloaded))
 }
 
 /// A star of a choice between so many acts, of which so many differ.
@@ -92,8 +194,8 @@ fn branching(acts: usize, different: usize, bound: u16) -> Vec<u8> {
     source.sheet(&sequence([star(choices), test(FALSE)]))
 }
 
-/// The same with a loop at the end that ends in some state, but in none that is reached: nothing can be left out, so every
-/// transition is made.
+/// The same with a loop at the end that ends in some state, but in none that is reached: nothing can be left out, so
+/// every transition is made.
 fn in_doubt(acts: usize, bound: u16) -> Vec<u8> {
     let mut source = Source::new("branching", bound);
     let value = source.fluent("value", 16, 0);
@@ -125,6 +227,7 @@ fn interrupts(count: usize, bound: u16) -> Vec<u8> {
 
 /// Formula n is the conjunction of n - 1 with itself; the last is the precondition of four actions.
 fn shared_formulas(count: usize, bound: u16) -> Vec<u8> {
+    use sheet::Program::*;
     let mut records = Records { bound, ..Records::default() };
     records.fluent(4, 0);
     records.formula(Formula::False);
@@ -136,13 +239,13 @@ fn shared_formulas(count: usize, bound: u16) -> Vec<u8> {
         records.effect(1, 0, value);
         records.action(count - 1, usize::from(value), 1);
     }
-    let acts: Vec<usize> = (0..4).map(|action| records.program(Program::Act(action))).collect();
-    let one = records.program(Program::Choice(acts[0], acts[1]));
-    let other = records.program(Program::Choice(acts[2], acts[3]));
-    let any = records.program(Program::Choice(one, other));
-    let star = records.program(Program::Star(any));
-    let never = records.program(Program::Test(0));
-    records.program(Program::Sequence(star, never));
+    let acts: Vec<usize> = (0..4).map(|action| records.program(Act(action))).collect();
+    let one = records.program(Choice(acts[0], acts[1]));
+    let other = records.program(Choice(acts[2], acts[3]));
+    let any = records.program(Choice(one, other));
+    let star = records.program(Star(any));
+    let never = records.program(Test(0));
+    records.program(Sequence(star, never));
     records.bytes()
 }
 
@@ -155,61 +258,128 @@ fn long_effects(count: usize, bound: u16) -> Vec<u8> {
     source.sheet(&sequence([star(choice([long.clone(), long])), test(FALSE)]))
 }
 
-/// An answer with its least time.
-struct Measured<T> {
-    answer: T,
+/// What planning gives.
+type Found = Result<Plan, Refusal>;
+
+/// A way of the model to plan.
+type Way = fn(&Sheet) -> Found;
+
+/// What one way gives, and its least time.
+struct Measured {
+    found: Found,
     time: Duration,
 }
 
-/// Calls the two in turn until the time is up. Filling the library's areas with garbage is not timed.
-fn measure(bytes: &[u8], words: usize, bound: usize) -> (Measured<Answer<2>>, Measured<Result<Plan, Refusal>>) {
-    let (mut work, mut trace) = (vec![0; words], vec![0; bound]);
-    let mut library = || {
-        work.fill(0xa5a5_a5a5);
-        trace.fill(0xa5a5);
-        timed(|| library::plan(black_box(bytes), &mut work, &mut trace))
-    };
-    let model = || timed(|| planner::plan(&check(black_box(bytes)).expect("the sheet is accepted")));
-    let begun = Instant::now();
-    let (mut by_library, mut by_model) = (library(), model());
-    while begun.elapsed() < TIME {
-        by_library.time = by_library.time.min(library().time);
-        by_model.time = by_model.time.min(model().time);
+impl Measured {
+    fn ms(&self) -> f64 {
+        self.time.as_secs_f64() * 1e3
     }
-    (by_library, by_model)
 }
 
-fn timed<T>(call: impl FnOnce() -> T) -> Measured<T> {
+/// The library's areas.
+struct Areas {
+    work: Vec<u32>,
+    trace: Vec<u16>,
+}
+
+/// A call of the library. Filling its areas with garbage is not timed.
+fn by_library(bytes: &[u8], Areas { work, trace }: &mut Areas) -> Measured {
+    work.fill(0xa5a5_a5a5);
+    trace.fill(0xa5a5);
+    let (answer, time) = timed(|| library::plan(black_box(bytes), work, trace));
+    let found = match answer.into_result() {
+        Ok([n, transitions]) => Ok(Plan { history: trace[..n].to_vec(), transitions }),
+        Err(refusal) => Err(Refusal { number: refusal.number as u8, place: refusal.place }),
+    };
+    Measured { found, time }
+}
+
+fn by_model(bytes: &[u8], way: Way) -> Measured {
+    let (found, time) = timed(|| way(&check(black_box(bytes)).expect("the sheet is accepted")));
+    Measured { found, time }
+}
+
+fn timed<T>(call: impl FnOnce() -> T) -> (T, Duration) {
     let begun = Instant::now();
-    let answer = black_box(call());
-    Measured { answer, time: begun.elapsed() }
+    let result = black_box(call());
+    (result, begun.elapsed())
+}
+
+/// Calls the library and these ways of the model in turn until the time is up.
+fn measure<const N: usize>(bytes: &[u8], sheet: &Sheet, ways: [Way; N]) -> (Measured, [Measured; N]) {
+    let mut areas = Areas { work: vec![0; sheet.work()], trace: vec![0; sheet.bound] };
+    let begun = Instant::now();
+    let mut library = by_library(bytes, &mut areas);
+    let mut model = ways.map(|way| by_model(bytes, way));
+    while begun.elapsed() < TIME {
+        library.time = library.time.min(by_library(bytes, &mut areas).time);
+        for (measured, way) in model.iter_mut().zip(ways) {
+            measured.time = measured.time.min(by_model(bytes, way).time);
+        }
+    }
+    (library, model)
+}
+
+/// A family whose sheets end in 14.
+fn print_without_plan(Family { name, sheets }: Family) {
+    println!();
+    println!(
+        "{name:30} {:>11} {:>11} {:>9} {:>9} {:>7} {:>7} {:>14} {:>7}",
+        "transitions", "library ms", "plain ms", "sets ms", "/plain", "/sets", "ns/transition", "growth"
+    );
+    let mut first = None;
+    for (size, bytes) in sheets {
+        let sheet = check(&bytes).expect("the sheet is accepted");
+        let followed = runs::count(&sheet, sheet.bound, usize::MAX).expect("no limit is set") - 1;
+        let (library, [plain, sets]) = measure(&bytes, &sheet, [planner::depth_first, planner::plan]);
+        for measured in [&library, &plain, &sets] {
+            assert_eq!(measured.found, Err(Refusal::number(14)), "{name}, {size}");
+        }
+        let [ms, plain, sets] = [library, plain, sets].map(|measured| measured.ms());
+        let one = ms * 1e6 / followed as f64;
+        let growth = one / *first.get_or_insert(one);
+        let [to_plain, to_sets] = [ms / plain, ms / sets];
+        println!(
+            "  {size:28} {followed:>11} {ms:>11.3} {plain:>9.3} {sets:>9.3} {to_plain:>7.2} {to_sets:>7.2} {one:>14.1} \
+             {growth:>7.2}"
+        );
+    }
+}
+
+/// A family whose sheets have plans: the library gives the model's first.
+fn print_with_plan(Family { name, sheets }: Family) {
+    println!();
+    println!(
+        "{name:30} {:>4} {:>4} {:>4} {:>11} {:>9} {:>7} {:>9}",
+        "n", "t", "D", "library ms", "sets ms", "/sets", "to first"
+    );
+    let mut first = None;
+    for (size, bytes) in sheets {
+        let sheet = check(&bytes).expect("the sheet is accepted");
+        let (library, [sets]) = measure(&bytes, &sheet, [planner::plan]);
+        assert_eq!(library.found, sets.found, "{name}, {size}");
+        let [ms, sets_ms] = [&library, &sets].map(|measured| measured.ms());
+        let Plan { history, transitions } = sets.found.expect("the sheet has a plan");
+        let to_first = ms / *first.get_or_insert(ms);
+        println!(
+            "  {size:28} {:>4} {transitions:>4} {:>4} {ms:>11.3} {sets_ms:>9.3} {:>7.2} {to_first:>9.2}",
+            history.len(),
+            sheet.bound,
+            ms / sets_ms
+        );
+    }
 }
 
 fn main() {
     println!("Buffers are not cleared before a call of the library: they hold garbage. Putting it there is not timed;");
     println!("the zeros that the library leaves are its own work, and are timed. The least time of all calls counts.");
-    println!("Transitions: those that the model follows. Growth: the library's time for one of them, the family's first row being 1.");
-    for Family { name, sheets } in families() {
-        println!();
-        println!(
-            "{name:30} {:>7} {:>12} {:>11} {:>9} {:>6} {:>14} {:>14} {:>7}",
-            "verdict", "transitions", "library ms", "model ms", "ratio", "M/s library", "ns/transition", "growth"
-        );
-        let mut first = None;
-        for (size, bytes) in sheets {
-            let sheet = check(&bytes).expect("the sheet is accepted");
-            let followed = runs::count(&sheet, sheet.bound, usize::MAX).expect("no limit is set") - 1;
-            let (library, model) = measure(&bytes, sheet.work(), sheet.bound);
-            let verdict = library.answer.number;
-            assert_eq!((verdict, model.answer), (14, Err(Refusal::number(14))), "{name}, {size}");
-            let [ms, model_ms] = [library.time, model.time].map(|time| time.as_secs_f64() * 1e3);
-            let one = ms * 1e6 / followed as f64;
-            let growth = one / *first.get_or_insert(one);
-            println!(
-                "  {size:28} {verdict:>7} {followed:>12} {ms:>11.3} {model_ms:>9.3} {:>6.2} {:>14.2} {one:>14.1} {growth:>7.2}",
-                ms / model_ms,
-                1e3 / one,
-            );
-        }
-    }
+    println!("/plain, /sets: the library's time over that of the model's plain search, and of the model's sets.");
+    println!();
+    println!("Without a plan: 14. Transitions: those that the plain search follows. Growth: the library's time for");
+    println!("one of them, the family's first row being 1.");
+    without_plan().into_iter().for_each(print_without_plan);
+    println!();
+    println!("With a plan, the same by the library and by sets: n moves, t transitions, under the bound D. The plain");
+    println!("search gives another and is left out. To first: the library's time, the family's first row being 1.");
+    with_plan().into_iter().for_each(print_with_plan);
 }

@@ -2,8 +2,9 @@
 //!
 //! `SEED` and `COUNT` (sheets) may be set. Compared for each sheet: every answer of every call, the whole work area and
 //! trace with what lies around them, and that sheet and history are as before. Areas hold garbage; they are long enough,
-//! longer, one short, both short, empty. A plan is judged by the model's layers, and is also the first in listed order.
-//! The first disagreement ends the program with status 1 and the sheet in hex.
+//! longer, one short, both short, empty. A plan is judged by the model's layers, and is then compared with the model's
+//! first plan (document 02, F-1): n, t and the whole trace. The first disagreement ends the program with status 1 and
+//! the sheet in hex.
 
 #![forbid(unsafe_code)]
 
@@ -109,6 +110,8 @@ fn lent_area<T: Copy + PartialEq + Debug>(
 struct Counts {
     sheets: usize,
     plans: usize,
+    /// Of the plans, those that the plain search does not give.
+    others: usize,
     nothing: usize,
     more: usize,
     large: usize,
@@ -193,8 +196,8 @@ impl Compare {
         given.bytes.compare(&format!("{call}: the sheet"))
     }
 
-    /// The verdict by the model's layers; and a plan, whichever it is, is the history of a run of t transitions, at
-    /// most D, that ends final.
+    /// The verdict by the model's layers; and a plan, were it not the first, is the history of a run of t transitions,
+    /// at most D, that ends final.
     fn judge(&self, sheet: &Sheet, got: Answer<2>, trace: &[u16]) -> Outcome {
         let number = verdict(sheet).map_or_else(|refusal| refusal.number.into(), |()| 0);
         same("verdict", number, got.number)?;
@@ -247,7 +250,10 @@ impl Compare {
         self.plan(&given, &found, words, entries)?;
         self.plan(&given, &found, longer[0], longer[1])?;
         match &found {
-            Ok(_) => self.counts.plans += 1,
+            Ok(_) => {
+                self.counts.plans += 1;
+                self.counts.others += usize::from(planner::depth_first(sheet) != found);
+            }
             Err(refusal) if refusal.number == 13 => self.counts.nothing += 1,
             Err(_) => self.counts.more += 1,
         }
@@ -351,9 +357,10 @@ fn main() -> ExitCode {
     let seed = setting("SEED", 1);
     let mut compare = Compare { random: Random::new(seed as u64), counts: Counts::default() };
     let outcome = compare.all(setting("COUNT", COUNT));
-    let Counts { sheets, plans, nothing, more, large, damaged, yes, no, examples } = compare.counts;
+    let Counts { sheets, plans, others, nothing, more, large, damaged, yes, no, examples } = compare.counts;
     println!("seed {seed}: {sheets} sheets and {examples} examples agree");
     println!("  planned: {plans} plans, {nothing} times 13, {more} times 14");
+    println!("  plans that depth first in listed order does not give: {others}");
     println!("  with large tables: {large}; damaged: {damaged}");
     println!("  histories: {yes} yes, {no} no");
     if let Err((what, sheet)) = outcome {

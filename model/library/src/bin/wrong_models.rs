@@ -1,7 +1,7 @@
-//! That `compare` catches wrong models: breaks a copy of the model, one construct at a time, and counts the sheets until
-//! the comparison with the library ends in a disagreement, for three seeds each. Edits of the meaning add runs, since
-//! the library searches sheets that have few runs by the broken model's count. The test sees that each edit still
-//! applies.
+//! That `compare` catches wrong models: breaks a copy of the model, one construct or one word of F-1 at a time, and
+//! counts the sheets until the comparison with the library ends in a disagreement, for three seeds each. Edits of the
+//! meaning add runs, since the library searches sheets that have few runs by the broken model's count. Edits of the
+//! first plan keep verdicts, so that it is the plan that differs. The test sees that each edit still applies.
 
 #![forbid(unsafe_code)]
 
@@ -13,7 +13,7 @@ use std::{env, fs, io};
 struct Edit(&'static str, &'static str, &'static str);
 
 #[rustfmt::skip]
-const EDITS: [Edit; 14] = [
+const EDITS: [Edit; 18] = [
     Edit("sizes: D in the place of F",
         "Ok((sheet.fluents.len(), sheet.bound))",
         "Ok((sheet.bound, sheet.bound))"),
@@ -56,6 +56,40 @@ const EDITS: [Edit; 14] = [
     Edit("11 interrupt: final where its condition fails",
         "!self.state.interrupts || (self.holds(*c) && self.is_final(a))",
         "!self.state.interrupts || !self.holds(*c) || self.is_final(a)"),
+    Edit("first plan: of one transition more, where one is",
+        "return Ok((before, layer));",
+        "let further: Layer = layer.iter().flat_map(|from| from.transitions(sheet)).map(|step| step.to).collect();
+        if before.len() < sheet.bound && further.iter().any(|configuration| configuration.is_final(sheet)) {
+            before.push(mem::replace(&mut layer, further));
+        }
+        return Ok((before, layer));"),
+    Edit("first plan: the larger of two histories",
+        ".filter_map(through).min()",
+        ".filter_map(through).max()"),
+    Edit("first plan: a proper beginning counts as larger",
+        ".filter_map(through).min()",
+        ".filter_map(through).min_by_key(|suffix: &Vec<u16>| {
+            suffix.iter().map(|entry| u32::from(*entry)).chain([u32::MAX]).collect::<Vec<u32>>()
+        })"),
+    Edit("first plan: least beginnings, not least suffixes",
+        "let transitions = before.len();",
+        "let transitions = before.len();
+        let mut beginnings: HashMap<Configuration, Vec<u16>> = HashMap::from([(Configuration::first(sheet), vec![])]);
+        for _ in 0..transitions {
+            let mut next: HashMap<Configuration, Vec<u16>> = HashMap::new();
+            for (from, beginning) in &beginnings {
+                for step in from.transitions(sheet) {
+                    let longer: Vec<u16> = beginning.iter().copied().chain(step.entry).collect();
+                    let least = next.entry(step.to).or_insert_with(|| longer.clone());
+                    *least = longer.min(least.clone());
+                }
+            }
+            beginnings = next;
+        }
+        beginnings.retain(|configuration, _| configuration.is_final(sheet));
+        if let Some(history) = beginnings.into_values().min() {
+            return Ok(Plan { history, transitions });
+        }"),
 ];
 
 fn repository() -> PathBuf {

@@ -139,6 +139,56 @@ fn goal(random: &mut Random, records: &Records) -> (Formula, Option<usize>) {
     (Formula::Is(fluent, value), None)
 }
 
+/// A small well-formed sheet whose plans often have rivals: runs of as many transitions with other histories. Its
+/// program is made of choices between ways, and has like actions, and tests, which add no entry.
+fn rivals(random: &mut Random) -> Records {
+    let mut records = Records { bound: random.between(1, 10) as u16, ..Records::default() };
+    let counts = [random.between(1, 3), random.between(2, 6), random.between(1, 5), random.between(1, 3)];
+    world(random, &mut records, counts, 3);
+    // `true`, so that most ways can be gone.
+    records.formulas[0] = ([0, 0], [0, 0]);
+    for _ in 0..random.between(1, 3) {
+        let like = random.pick(&records.actions);
+        records.actions.push(like);
+    }
+
+    let mut root = ways(random, &mut records);
+    for _ in 0..random.below(3) {
+        let next = ways(random, &mut records);
+        let join = random.pick(&[Program::Sequence, Program::Sequence, Program::Together, Program::Over]);
+        root = records.program(join(root, next));
+    }
+    if random.percent(20) {
+        let condition = random.below(records.formulas.len());
+        records.program(Program::Interrupt(condition, root));
+    }
+    close(random, &mut records);
+    notes(random, &mut records);
+    records
+}
+
+/// A choice between two or three ways, each of as many leaves.
+fn ways(random: &mut Random, records: &mut Records) -> usize {
+    let leaves = random.between(1, 3);
+    let mut any = way(random, records, leaves);
+    for _ in 0..random.between(1, 2) {
+        let other = way(random, records, leaves);
+        any = records.program(Program::Choice(any, other));
+    }
+    any
+}
+
+/// A sequence of so many acts and tests.
+fn way(random: &mut Random, records: &mut Records, leaves: usize) -> usize {
+    let kinds = [1, 1, 2];
+    let mut way = program(random, records, &kinds, 0);
+    for _ in 1..leaves {
+        let next = program(random, records, &kinds, 0);
+        way = records.program(Program::Sequence(way, next));
+    }
+    way
+}
+
 /// A well-formed sheet with large tables, for checking more than for planning. Its program records lie in 17 blocks
 /// and link to lower blocks only, so the height is at most 16.
 pub fn large(random: &mut Random) -> Records {
@@ -167,7 +217,8 @@ fn notes(random: &mut Random, records: &mut Records) {
 /// A small sheet with [few](runs::few) runs, so that a search without memory ends soon.
 pub fn searchable(random: &mut Random, limit: usize) -> (Vec<u8>, Sheet) {
     loop {
-        let bytes = small(random).bytes();
+        let records = if random.percent(40) { rivals(random) } else { small(random) };
+        let bytes = records.bytes();
         let sheet = check(&bytes).expect("the generator keeps every rule");
         if runs::few(&sheet, limit) {
             return (bytes, sheet);

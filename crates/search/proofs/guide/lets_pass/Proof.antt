@@ -1,20 +1,21 @@
--- A test passes; a move is the next one, or any, where none is left and more may follow. Assumes nothing.
+-- A test passes; so does anything where nothing is asked any more; else a move is the next one, or lies in the window. Assumes nothing.
 use denote.Ref.{now}
-use Prim.Native.Nat.{ℕ}
 use native.Mathlib.Omega.{arith}
-use mathlib.Core.List.{List}
-use mathlib.Core.Option.{some}
-use mathlib.Core.Path.{sym, _∙_, ap}
-use lib.ListN.{drop}
+use native.Mathlib.Numerals.{add-one}
+use mathlib.Core.Path.{sym, _∙_, ap, ap₂}
+use Rattle.runs.specs.Guide.{inWindow}
 use Rattle.engine.proofs.Codes.{is-test, is-move}
-use Rattle.search.specs.Moves.{passes}
-use Rattle.search.proofs.Given.{next-move, no-move}
+use Rattle.search.specs.Moves.{guideAt, passes}
+use Rattle.search.proofs.Guiding.{nothing-asked, next-asked, window-asked}
 use borrow.Author.Needs.{needs}
 use Rattle.search.proofs.guide.lets_pass.Statement.{statement}
 use Rattle.search.proofs.guide.lets_pass.Tie as tie
 
 returns : tie.Need-returns
-returns c = let a = c .before .args in sym (ap (passes (a .free) (drop (a .used) (now (a .moves)))) (is-test (a .entry) (c .if1 .taken)))
+returns c = let a = c .before .before .args in sym (ap (passes (guideAt (now (a .moves)) (a .w) (a .g))) (is-test (a .entry) (c .if1 .taken)))
+
+returns-2 : tie.Need-returns-2
+returns-2 c = let a = c .before .before .before .args in sym (ap₂ passes (nothing-asked (now (a .moves)) (a .w) (a .g) (c .if2 .taken)) (is-move (a .entry) (c .before .if1 .left)))
 
 mul-result : tie.Need-mul-result
 mul-result c = search needs
@@ -22,27 +23,44 @@ mul-result c = search needs
 shared-slice-read-result : tie.Need-shared-slice-read-result
 shared-slice-read-result c = search needs
 
--- Places: what stands before a need, by name. Written by `named`: run it again when the code changes.
-abbrev if1-from-shared-slice-read-result : tie.After-shared-slice-known → tie.Else1
-if1-from-shared-slice-read-result c = c .before .before
-
 cast-result : tie.Need-cast-result
-cast-result c = omega (arith, c .shared-slice-known .given (if1-from-shared-slice-read-result c .before .args .used))
-
-returns-2 : tie.Need-returns-2
-returns-2 c =
-    let a = if1-from-shared-slice-read-result c .before .args in
-    let g = now (a .moves) in
-    sym (ap (passes (a .free) (drop (a .used) g)) (is-move (a .entry) (if1-from-shared-slice-read-result c .if1 .left)) ∙ ap (λ (l : List ℕ). passes (a .free) l (some (a .entry)))
-    (next-move g (a .used) (c .before .if2 .taken)))
+cast-result c =
+    let at-shared-slice-known = c .before .before .before .before in
+    let at-start = at-shared-slice-known .before in
+    omega (arith, at-shared-slice-known .shared-slice-known .given (at-start .args .g .used))
 
 returns-3 : tie.Need-returns-3
 returns-3 c =
-    let a = c .before .before .args in
-    let g = now (a .moves) in
-    sym (ap (passes (a .free) (drop (a .used) g)) (is-move (a .entry) (c .before .if1 .left)) ∙ ap (λ (l : List ℕ). passes (a .free) l (some (a .entry))) (no-move g (a .used) (c .if2 .left)))
+    let at-if1 = c .before .before .before in
+    let at-start = at-if1 .before .before in
+    let a = at-start .args in
+    sym (ap₂ passes (next-asked (now (a .moves)) (a .w) (a .g) (c .before .before .if2 .left) (c .before .if3 .taken)) (is-move (a .entry) (at-if1 .if1 .left)))
+
+add-in-window : tie.Need-add-in-window
+add-in-window c = search needs
+
+in-window-requires : tie.Need-in-window-requires
+in-window-requires c κs = search needs
+
+returns-4 : tie.Need-returns-4
+returns-4 c =
+    let at-if1 = c .before .before .before in
+    let at-start = at-if1 .before .before in
+    let a = at-start .args in
+    c .in-window .ensures
+    ∙ ap (inWindow (a .w .low) (a .w .high)) (add-one (a .entry))
+    ∙ sym (ap₂ passes (window-asked (now (a .moves)) (a .w) (a .g) (c .before .before .if2 .left) (c .before .if3 .left)) (is-move (a .entry) (at-if1 .if1 .left)))
 
 pub lets-pass-spec : {M : Type 1} → statement M
 lets-pass-spec =
     tie.close
-    (tie.spec returns mul-result shared-slice-read-result cast-result returns-2 returns-3)
+    (tie.spec
+    returns
+    returns-2
+    mul-result
+    shared-slice-read-result
+    cast-result
+    returns-3
+    add-in-window
+    in-window-requires
+    returns-4)

@@ -15,17 +15,13 @@ use borrow.Author.Needs.{needs}
 use Rattle.search.proofs.guide.note.Statement.{statement}
 use Rattle.search.proofs.guide.note.Tie as tie
 
-found-requires : tie.Need-found-requires
-found-requires c κs = search needs
-
--- Places: what stands before a need, by name. Written by `named`: run it again when the code changes.
-abbrev start-from-found : tie.After-found → tie.Start
-start-from-found c = c .before .before
+is-found-requires : tie.Need-is-found-requires
+is-found-requires c κs = search needs
 
 returns : tie.Need-returns
 returns c =
-    let a = start-from-found (c .before) .args in
-    let e = sym (c .before .found .ensures) ∙ not-true _ (c .if1 .taken) in
+    let a = c .before .before .before .args in
+    let e = sym (c .before .is-found .ensures) ∙ not-true _ (c .if1 .taken) in
     (sym e, sym (noted-none (moveOf (a .entry)) (a .n) (a .answer) (now (a .trace)) e))
 
 cast-trace : tie.Need-cast-trace
@@ -42,27 +38,23 @@ same-length c = search needs
 
 returns-2 : tie.Need-returns-2
 returns-2 c =
-    let at-if1 = c .before in
-    let at-found = at-if1 .before in
-    let a = start-from-found at-found .args in
+    let a = c .before .before .before .before .args in
     let trace = now (a .trace) in
-    let e = sym (at-found .found .ensures) ∙ not-false _ (at-if1 .if1 .left) in
+    let e = sym (c .before .before .is-found .ensures) ∙ not-false _ (c .before .if1 .left) in
     let z = is-move (a .entry) (λ x. omega (arith, x)) in
     (sym e, sym (ap (λ (m : Option ℕ). noted m (a .n) (a .answer) trace) z ∙ ap (λ (b : Bool). cond b (set trace (a .n) (a .entry)) trace) e))
 
 returns-3 : tie.Need-returns-3
 returns-3 c =
-    let at-if1 = c .before in
-    let at-found = at-if1 .before in
-    let a = start-from-found at-found .args in
-    let e = sym (at-found .found .ensures) ∙ not-false _ (at-if1 .if1 .left) in
+    let a = c .before .before .before .before .args in
+    let e = sym (c .before .before .is-found .ensures) ∙ not-false _ (c .before .if1 .left) in
     (sym e, sym (ap (λ (m : Option ℕ). noted m (a .n) (a .answer) (now (a .trace))) (is-test (a .entry) (omega arith))))
 
 pub note-spec : {M : Type 1} → statement M
 note-spec =
     tie.close
     (tie.spec
-    found-requires
+    is-found-requires
     returns
     cast-trace
     mul-trace

@@ -1,0 +1,274 @@
+-- At each bound the search stands ready and the bounds below are tried; the next one is higher, and at most D. Assumes nothing.
+use denote.Ref.{now}
+use Prim.Native.Nat.{suc, _+_, _-_, _≤_}
+use native.Mathlib.Omega.{arith}
+use native.Mathlib.Numerals.{add-one}
+use mathlib.Core.Bool.{false}
+use mathlib.Core.Path.{_≡_, refl, sym, _∙_, ap, subst}
+use borrow.Author.Tests.{not-true, not-false}
+use lib.ListN.{length}
+use Rattle.sheet.specs.declared.Layout.{Layout}
+use Rattle.sheet.proofs.Accepted.{laid}
+use Rattle.demands.specs.Decoded.{firstOf, boundOf}
+use Rattle.runs.specs.Guide.{unguided}
+use Rattle.search.specs.Outcome.{Reported}
+use Rattle.search.specs.Searching.{verdictFrom, Standing}
+use Rattle.search.specs.declared.Question.{Question}
+use Rattle.first.proofs.Deepened.{any-asked, Tried, tried-none, tried-on, tried-out, all-tried}
+use borrow.Author.Needs.{needs}
+use Rattle.first.proofs.deepen.Statement.{statement}
+use Rattle.first.proofs.deepen.Tie as tie
+
+abbrev Inv-loop : tie.InvT-loop
+Inv-loop work₀ best₀ flags₀ numbers₀ s found d none low₀ step₀ before₀ work best flags numbers low step before =
+    (length work ≡ length work₀) × (length best ≡ length best₀) × (length flags ≡ length flags₀) × (length numbers ≡ length numbers₀)
+    × Standing s work found flags numbers × (d ≡ boundOf s) × (d ≤ length best) × Tried s low × (low ≤ d + 1) × (1 ≤ step)
+
+abbrev μ-loop : tie.MeasureT-loop
+μ-loop work₀ best₀ flags₀ numbers₀ s found d none low₀ step₀ before₀ work best flags numbers low step before = d + 1 - low
+
+-- Places: what stands before a need, by name. Written by `named`: run it again when the code changes.
+abbrev start-from-loop-holds : tie.After-l Inv-loop μ-loop → tie.Start Inv-loop μ-loop
+start-from-loop-holds c = c .before .before .before .before .before .before
+
+abbrev start-from-loop : tie.At-loop Inv-loop μ-loop → tie.Start Inv-loop μ-loop
+start-from-loop c = start-from-loop-holds (c .before)
+
+abbrev start-from-bound-from : tie.After-bound-from Inv-loop μ-loop → tie.Start Inv-loop μ-loop
+start-from-bound-from c = start-from-loop (c .before .before)
+
+abbrev any-run-from-explore-requires : tie.After-none Inv-loop μ-loop → tie.After-any-run Inv-loop μ-loop
+any-run-from-explore-requires c = c .before .before .before .before .before
+
+abbrev any-run-from-explore : tie.After-explore Inv-loop μ-loop → tie.After-any-run Inv-loop μ-loop
+any-run-from-explore c = any-run-from-explore-requires (c .before)
+
+abbrev bound-from-from-explore : tie.After-explore Inv-loop μ-loop → tie.After-bound-from Inv-loop μ-loop
+bound-from-from-explore c = (any-run-from-explore c) .before .before .before
+
+abbrev loop-from-explore : tie.After-explore Inv-loop μ-loop → tie.At-loop Inv-loop μ-loop
+loop-from-explore c = (bound-from-from-explore c) .before .before
+
+abbrev slice-known6-from-is-more : tie.After-is-more Inv-loop μ-loop → tie.After-slice-known6 Inv-loop μ-loop
+slice-known6-from-is-more c = c .before .before .before .before .before
+
+abbrev explore-from-is-more : tie.After-is-more Inv-loop μ-loop → tie.After-explore Inv-loop μ-loop
+explore-from-is-more c = slice-known6-from-is-more c .before .before .before .before
+
+abbrev explore-from-else1 : tie.Else1 Inv-loop μ-loop → tie.After-explore Inv-loop μ-loop
+explore-from-else1 c = explore-from-is-more (c .before)
+
+abbrev bound-from-from-else1 : tie.Else1 Inv-loop μ-loop → tie.After-bound-from Inv-loop μ-loop
+bound-from-from-else1 c = bound-from-from-explore (explore-from-else1 c)
+
+abbrev explore-from-lower : tie.After-lower Inv-loop μ-loop → tie.After-explore Inv-loop μ-loop
+explore-from-lower c = explore-from-is-more (c .before .before .before .before .before .before)
+
+abbrev slice-known10-from-same-length : tie.After-slice-known12 Inv-loop μ-loop → tie.After-slice-known10 Inv-loop μ-loop
+slice-known10-from-same-length c = c .before .before .before .before
+
+abbrev lower-from-same-length : tie.After-slice-known12 Inv-loop μ-loop → tie.After-lower Inv-loop μ-loop
+lower-from-same-length c = slice-known10-from-same-length c .before .before .before .before
+
+loop-holds : tie.Need-loop-holds Inv-loop μ-loop
+loop-holds c =
+    let at-start = start-from-loop-holds c in
+    let p = at-start .pre in
+    let e = ap (λ (l : Layout). l .d) (p .0 .of .layout-is) in
+    (refl, refl, refl, refl, p .0, e, omega (arith, e, p .1), tried-none (now (at-start .args .s)), omega arith, omega arith)
+
+bound-from-requires : tie.Need-bound-from-requires Inv-loop μ-loop
+bound-from-requires c κs = (c .loop-test .taken, c .before .loop .inv .9)
+
+surveys-requires : tie.Need-surveys-requires Inv-loop μ-loop
+surveys-requires c κs = c .before .before .before .loop .inv .4 .prepared .numbers-long
+
+any-run-requires : tie.Need-any-run-requires Inv-loop μ-loop
+any-run-requires c κs = search needs
+
+array-share-prefix-none : tie.Need-array-share-prefix-none Inv-loop μ-loop
+array-share-prefix-none c = search needs
+
+slice-aggregate-explore : tie.Need-slice-aggregate-explore Inv-loop μ-loop
+slice-aggregate-explore c = search needs
+
+explore-requires : tie.Need-explore-requires Inv-loop μ-loop
+explore-requires c κs =
+    let at-any-run = any-run-from-explore-requires c in
+    let at-bound-from = at-any-run .before .before .before in
+    let at-loop = at-bound-from .before .before in
+    let v = at-loop .loop .inv in
+    let e = ap (λ (a : Question). a .left) (at-any-run .any-run .ensures) in
+    let few = at-bound-from .bound-from .ensures .1 in
+    (v .4, omega (arith, e, few, v .5), omega (arith, e, few, v .6))
+
+is-more-requires : tie.Need-is-more-requires Inv-loop μ-loop
+is-more-requires c κs = search needs
+
+asked : (c : tie.After-explore Inv-loop μ-loop) →
+    let at-bound-from = bound-from-from-explore c in
+    let at-loop = at-bound-from .before .before in
+    let at-start = start-from-loop at-loop in
+    Reported 0 0 (at-loop .loop .best) (c .explore .last .1 .0) (c .explore .result) (verdictFrom (now (at-start .args .s)) (at-bound-from .bound-from .result) (
+      firstOf (now (at-start .args .s)),
+      unguided,
+    ))
+asked c =
+    let at-any-run = any-run-from-explore c in
+    let at-bound-from = at-any-run .before .before .before in
+    let at-start = start-from-bound-from at-bound-from in
+    any-asked (now (at-start .args .s)) _ (at-bound-from .bound-from .result) false (at-any-run .any-run .ensures) (c .explore .ensures .0)
+
+lower-requires : tie.Need-lower-requires Inv-loop μ-loop
+lower-requires c κs =
+    let at-if1 = c .before .before .before .before in
+    let at-is-more = at-if1 .before in
+    let at-explore = explore-from-is-more at-is-more in
+    let at-bound-from = bound-from-from-explore at-explore in
+    let at-loop = at-bound-from .before .before in
+    let v = at-loop .loop .inv in
+    let z = at-bound-from .bound-from .ensures in
+    let R = asked at-explore in
+    let out = tried-out (v .7) (at-bound-from .bound-from .result) (omega (arith, z .1, v .5)) R (omega (arith, z .1, v .6)) (sym (at-is-more .is-more .ensures) ∙ not-true _ (at-if1 .if1 .taken))
+    in
+    (at-explore .explore .ensures .1, omega (arith, at-explore .explore .kept .1 .0, v .5, v .6), out)
+
+same-length : tie.Need-same-length Inv-loop μ-loop
+same-length c =
+    let at-lower = lower-from-same-length c in
+    let at-explore = explore-from-lower at-lower in
+    let at-loop = loop-from-explore at-explore in
+    at-lower .lower .kept .0 ∙ at-explore .explore .kept .0 ∙ at-loop .loop .inv .0
+
+same-length-2 : tie.Need-same-length-2 Inv-loop μ-loop
+same-length-2 c =
+    let at-lower = lower-from-same-length c in
+    let at-explore = explore-from-lower at-lower in
+    let at-loop = loop-from-explore at-explore in
+    at-lower .lower .kept .1 .0 ∙ at-explore .explore .kept .1 .0 ∙ at-loop .loop .inv .1
+
+same-length-3 : tie.Need-same-length-3 Inv-loop μ-loop
+same-length-3 c =
+    let at-lower = lower-from-same-length c in
+    let at-explore = explore-from-lower at-lower in
+    let at-loop = loop-from-explore at-explore in
+    at-lower .lower .kept .1 .1 .0 ∙ at-explore .explore .kept .1 .1 .0 ∙ at-loop .loop .inv .2
+
+same-length-4 : tie.Need-same-length-4 Inv-loop μ-loop
+same-length-4 c =
+    let at-lower = lower-from-same-length c in
+    let at-explore = explore-from-lower at-lower in
+    let at-loop = loop-from-explore at-explore in
+    at-lower .lower .kept .1 .1 .1 .0 ∙ at-explore .explore .kept .1 .1 .1 .0 ∙ at-loop .loop .inv .3
+
+returns : tie.Need-returns Inv-loop μ-loop
+returns c = lower-from-same-length c .lower .ensures
+
+surveys-requires-2 : tie.Need-surveys-requires-2 Inv-loop μ-loop
+surveys-requires-2 c κs = explore-from-else1 (c .before) .explore .ensures .1 .prepared .numbers-long
+
+wrapping-sub-u32-requires : tie.Need-wrapping-sub-u32-requires Inv-loop μ-loop
+wrapping-sub-u32-requires c κs = search needs
+
+add-next-step : tie.Need-add-next-step Inv-loop μ-loop
+add-next-step c =
+    let at-bound-from = bound-from-from-else1 (c .before .before .before) in
+    let at-loop = at-bound-from .before .before in
+    omega (arith, at-loop .loop .inv .5, laid _ (at-loop .loop .inv .4 .of .accepted) .d, at-bound-from .bound-from .ensures .1)
+
+sub-next-step : tie.Need-sub-next-step Inv-loop μ-loop
+sub-next-step c = omega (arith, bound-from-from-else1 (c .before .before .before) .bound-from .ensures .0)
+
+next-step-requires : tie.Need-next-step-requires Inv-loop μ-loop
+next-step-requires c κs = search needs
+
+add-low : tie.Need-add-low Inv-loop μ-loop
+add-low c =
+    let at-bound-from = bound-from-from-else1 (c .before .before .before .before) in
+    let at-loop = at-bound-from .before .before in
+    omega (arith, at-loop .loop .inv .5, laid _ (at-loop .loop .inv .4 .of .accepted) .d, at-bound-from .bound-from .ensures .1)
+
+loop-less : tie.Need-loop-less Inv-loop μ-loop
+loop-less c =
+    let at-bound-from = bound-from-from-else1 (c .before .before .before .before) in
+    let at-loop-test = at-bound-from .before in
+    omega (arith, at-bound-from .bound-from .ensures .0, at-loop-test .loop-test .taken)
+
+loop-again : tie.Need-loop-again Inv-loop μ-loop
+loop-again c =
+    let at-if1 = c .before .before .before .before in
+    let at-is-more = at-if1 .before in
+    let at-explore = explore-from-is-more at-is-more in
+    let at-bound-from = bound-from-from-explore at-explore in
+    let at-loop = at-bound-from .before .before in
+    let at-start = start-from-loop at-loop in
+    let v = at-loop .loop .inv in
+    let z = at-bound-from .bound-from .ensures in
+    let R = asked at-explore in
+    let on = tried-on (v .7) (at-bound-from .bound-from .result) (omega (arith, z .1, v .5)) R (sym (at-is-more .is-more .ensures) ∙ not-false _ (at-if1 .if1 .left)) in
+    let long = at-explore .explore .kept .1 .0 in (
+      at-explore .explore .kept .0 ∙ v .0,
+      long ∙ v .1,
+      at-explore .explore .kept .1 .1 .0 ∙ v .2,
+      at-explore .explore .kept .1 .1 .1 .0 ∙ v .3,
+      at-explore .explore .ensures .1,
+      v .5,
+      omega (arith, long, v .6),
+      subst (Tried (now (at-start .args .s))) (sym (add-one (at-bound-from .bound-from .result))) on,
+      omega (arith, z .1),
+      c .next-step .ensures,
+    )
+
+same-length-5 : tie.Need-same-length-5 Inv-loop μ-loop
+same-length-5 c = c .before .loop .inv .0
+
+same-length-6 : tie.Need-same-length-6 Inv-loop μ-loop
+same-length-6 c = c .before .loop .inv .1
+
+same-length-7 : tie.Need-same-length-7 Inv-loop μ-loop
+same-length-7 c = c .before .loop .inv .2
+
+same-length-8 : tie.Need-same-length-8 Inv-loop μ-loop
+same-length-8 c = c .before .loop .inv .3
+
+returns-2 : tie.Need-returns-2 Inv-loop μ-loop
+returns-2 c =
+    let at-loop = c .before in
+    let at-start = start-from-loop at-loop in
+    let v = at-loop .loop .inv in
+    let e : at-loop .loop .low ≡ suc (boundOf (now (at-start .args .s))) = omega (arith, v .5, v .8, c .loop-test .left) in
+    (all-tried (at-loop .loop .best) (subst (Tried (now (at-start .args .s))) e (v .7)), v .4)
+
+pub deepen-spec : {M : Type 1} → statement M
+deepen-spec =
+    tie.close
+    (tie.spec
+    Inv-loop
+    μ-loop
+    loop-holds
+    bound-from-requires
+    surveys-requires
+    any-run-requires
+    array-share-prefix-none
+    slice-aggregate-explore
+    explore-requires
+    is-more-requires
+    lower-requires
+    same-length
+    same-length-2
+    same-length-3
+    same-length-4
+    returns
+    surveys-requires-2
+    wrapping-sub-u32-requires
+    add-next-step
+    sub-next-step
+    next-step-requires
+    add-low
+    loop-less
+    loop-again
+    same-length-5
+    same-length-6
+    same-length-7
+    same-length-8
+    returns-2)

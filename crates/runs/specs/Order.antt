@@ -1,0 +1,17 @@
+-- To be believed: the order of histories (document 02, F-1: "the history that is smaller at the first differing entry, a proper beginning
+-- counting as smaller"). That it is an order, and total, and that it is this sentence's, is proved in proofs/Ordered.antt. Assumes
+-- nothing.
+use Prim.Native.Nat.{ℕ, _<_}
+use mathlib.Core.List.{List, [], _∷_}
+use mathlib.Core.Logic.{_⊎_}
+use mathlib.Core.Path.{_≡_}
+
+-- the first is smaller than the second
+abbrev pub Smaller : List ℕ → List ℕ → Type 0
+Smaller h [] = ⊥
+Smaller [] (b ∷ g) = Unit {0}
+Smaller (a ∷ h) (b ∷ g) = (a < b) ⊎ ((a ≡ b) × Smaller h g)
+
+-- smaller, or the same
+abbrev pub AtMost : List ℕ → List ℕ → Type 0
+AtMost h g = Smaller h g ⊎ (h ≡ g)
