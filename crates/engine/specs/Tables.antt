@@ -90,6 +90,9 @@ numberPlaces = 2602
 abbrev pub surveysAt : ℕ
 surveysAt = 2601
 
+abbrev pub surveysIn : List ℕ → ℕ
+surveysIn numbers = getD numbers surveysAt 0
+
 abbrev pub skipsIn : List ℕ → List ℕ
 skipsIn numbers = take skipPlaces numbers
 

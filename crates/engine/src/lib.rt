@@ -4,7 +4,7 @@
 ghost use mathlib.Core.Path.{_≡_};
 ghost use mathlib.Core.Bool.{true, false};
 ghost use mathlib.Core.List.{List};
-ghost use Prim.Native.Nat.{ℕ, _+_, _*_, _^_, _≤_, _<_};
+ghost use Prim.Native.Nat.{ℕ, _+_, _*_, _%_, _^_, _≤_, _<_};
 ghost use lib.ListN.{length, getD};
 ghost use Rattle.sheet.specs.Layout.{layoutOf};
 ghost use Rattle.sheet.specs.Inspection.{Of};
@@ -23,7 +23,7 @@ ghost use Rattle.words.specs.Words.{At, Stands};
 ghost use Rattle.ends.specs.Ends.{Totalled};
 ghost use Rattle.state.specs.Truths.{AreTruths};
 ghost use Rattle.engine.specs.Tables.{window, Only, mostFormulas, setFlags, truthsOn, finalsOn, FinalsOn, SameFrom, flagPlaces};
-ghost use Rattle.engine.specs.Tables.{numberPlaces, surveysAt};
+ghost use Rattle.engine.specs.Tables.{numberPlaces, surveysAt, surveysIn};
 ghost use Rattle.engine.specs.Tables.{endableIn, truthsFrom, finalsAt, distancesIn, countsFrom, countsAt, Prepared, Judged, Surveyed, Filled};
 ghost use Rattle.engine.specs.Frames.{Frame};
 ghost use Rattle.engine.specs.Going.{isFinal, Ahead, Tells, Known, IsAction, moveOf, CanGoOn, GoesOn};
@@ -330,14 +330,16 @@ fn total(flags: &[bool], numbers: &[u32], work: &[u32], d: usize, at: usize) -> 
 fn count_survey(numbers: &mut [u32])
     requires { ⌜ length (now numbers) ≡ numberPlaces ⌝ }
     ensures written { λ _. ⌜ Only surveysAt 1 (now (numbers .entry)) (now (numbers .exit)) ⌝ }
+    ensures counted { λ _. ⌜ surveysIn (now (numbers .exit)) ≡ (surveysIn (now (numbers .entry)) + 1) % 2 ^ 32 ⌝ }
 {
     let k = numbers[SURVEYS];
     numbers[SURVEYS] = std::num::wrapping_add_u32(k, 1);
 }
 
-// How many configurations were surveyed since the tables were prepared: what a search has cost. It begins anew at 2^32.
+// How many configurations were surveyed since the tables were prepared, modulo 2^32: what searches have cost. No answer depends on it.
 pub fn surveys(numbers: &[u32]) -> u32
     requires { ⌜ length (now numbers) ≡ numberPlaces ⌝ }
+    ensures { λ r. ⌜ r ≡ surveysIn (now (numbers .entry)) ⌝ }
 {
     numbers[SURVEYS]
 }

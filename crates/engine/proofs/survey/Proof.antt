@@ -55,7 +55,7 @@ total-requires c κs =
     let at-count-survey = count-survey-from-mul-total c in
     let at-tally = at-count-survey .before .before .before .before in
     let at-start = start-from-tally at-tally in
-    let S = counted (at-count-survey .count-survey .ensures) (at-count-survey .count-survey .kept .0) (at-tally .tally .ensures .0 .prepared .numbers-long) (at-tally .tally .ensures .0) in
+    let S = counted (at-count-survey .count-survey .ensures .0) (at-count-survey .count-survey .kept .0) (at-tally .tally .ensures .0 .prepared .numbers-long) (at-tally .tally .ensures .0) in
     let F = at-start .pre .1 .2 in (
       S .prepared .flags-long,
       S .prepared .numbers-long,
@@ -79,11 +79,11 @@ returns c =
     let P = at-start .pre .0 .1 in
     let d = at-start .args .d in
     let long = at-tally .tally .ensures .0 .prepared .numbers-long in
-    let S = counted (at-count-survey .count-survey .ensures) (at-count-survey .count-survey .kept .0) (at-tally .tally .ensures .0 .prepared .numbers-long) (at-tally .tally .ensures .0) in
+    let S = counted (at-count-survey .count-survey .ensures .0) (at-count-survey .count-survey .kept .0) long (at-tally .tally .ensures .0) in
     let F = filled d (P .flags-long) (P .numbers-long) (at-judge .judge .ensures .1) (at-judge .judge .kept .0) (at-tally .tally .ensures .1) (at-tally .tally .kept .0) in (
       λ left p F. tells (O .accepted) F (at-start .args .st) S
           (c .total .ensures (F .rest) (subst (λ (o : ℕ). At (F .rest) (now (at-start .args .work)) (o + header)) (sym (frame-by O d)) (F .words-are))),
-      (S, filled-then F (counted-filled (at-count-survey .count-survey .ensures) (at-count-survey .count-survey .kept .0) long d d) d d (omega arith) (omega arith) (omega arith) (omega arith)),
+      (S, filled-then F (counted-filled (at-count-survey .count-survey .ensures .0) (at-count-survey .count-survey .kept .0) long d d) d d (omega arith) (omega arith) (omega arith) (omega arith)),
     )
 
 pub survey-spec : {M : Type 1} → statement M
