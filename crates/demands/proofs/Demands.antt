@@ -1,5 +1,5 @@
--- Demands 2 and 3 of the mission, about bytes in and answers out; each theorem stands under the demand's words. Those about the calls,
--- with what is lent to them, are in planner, proofs/Demands.antt.
+-- Demands 2 and 3 of the mission and F-1 of document 02, about bytes in and answers out; each theorem stands under the demand's words. Those
+-- about the calls, with what is lent to them, are in planner, proofs/Demands.antt.
 -- The runs are those of the paper's Trans and Final (golog, specs/Trans.antt) from a sheet's first configuration; planOf and
 -- replayOf (specs/Planning.antt) are what the calls answer. A sheet is accepted when no cause of 1 to 9 holds of it.
 -- Assumes nothing.
@@ -14,11 +14,11 @@ use lib.ListN.{length}
 use Rattle.height.specs.Work.{workWords}
 use Rattle.runs.specs.Runs.{ExactlyOne}
 use Rattle.runs.specs.Search.{Verdict, plan, nothing, more, Lists, DecidesFinal, Means}
-use Rattle.runs.specs.First.{First}
+use Rattle.runs.specs.First.{IsFirst}
 use Rattle.runs.specs.Earliest.{firstPlan, MeansFirst}
 use Rattle.runs.proofs.Firsts.{first-plan-means, same-first, first-plan-exactly, first-exists, first-unique, first-stays}
 use Rattle.runs.proofs.Verdicts.{plan-iff, nothing-iff, more-iff, exactly-one}
-use Rattle.runs.proofs.Raised.{none-of-any-length, plan-stays, nothing-stays}
+use Rattle.runs.proofs.Raised.{none-of-any-length, nothing-stays}
 use Rattle.runs.proofs.Histories.{run-length}
 use Rattle.runs.proofs.Guided.{accepts-iff}
 use Rattle.golog.specs.World.{World}
@@ -45,7 +45,7 @@ decided W c = final-exact W (c .0) (c .1)
 pub means : (W : World) (k : ℕ) (c : Configuration) → Means (Goes W) (Ends W) k c (firstPlan (transitionsIn W) (isFinalIn W) k c)
 means W = first-plan-means (Goes W) (Ends W) (transitionsIn W) (isFinalIn W) (listed W) (decided W)
 
--- what says the first plan, or that there is none, is the verdict on a sheet
+-- only one verdict means the first plan of a sheet, or that there is none: its own
 pub verdict-is : (s : List ℕ) (v : Verdict) → MeansFirst (Goes (worldOf s)) (Ends (worldOf s)) (boundOf s) (firstOf s) v → v ≡ verdictOf s
 unfolding verdictOf
 verdict-is s v m = let W = worldOf s in same-first (Goes W) (Ends W) (transitionsIn W) (isFinalIn W) (listed W) (decided W) (boundOf s) (firstOf s) v m
@@ -187,23 +187,18 @@ module _ (s s′ : List ℕ) (accepted : Accepts s) (accepted′ : Accepts s′)
       let same = tables-same s s′ accepted but in
       ap₂ (λ (W : World) (c : Configuration). firstPlan (transitionsIn W) (isFinalIn W) (boundOf s′) c) (world-same same) (first-same same)
 
-  pub plan-stays-plan : (h : List ℕ) (t : ℕ) → planOf s ≡ found h t → (g : List ℕ) × (u : ℕ) × (planOf s′ ≡ found g u)
-  unfolding verdictOf
-  plan-stays-plan h t e =
-      let W = worldOf s in
-      let r = plan-stays (Goes W) (Ends W) (firstPlan (transitionsIn W) (isFinalIn W)) (means W) (boundOf s′) (boundOf s) (firstOf s) h t raised
-      (found-plan (verdictOf s) h t .0 (same-answer s accepted (found h t) .0 e)) in
-      (r .0, r .1, same-answer s′ accepted′ (found (r .0) (r .1)) .1 (found-plan (verdictOf s′) (r .0) (r .1) .1 (verdict-same ∙ r .2)))
-
-  -- and the very same one
+  -- the very same plan
   pub first-stays-first : (h : List ℕ) (t : ℕ) → planOf s ≡ found h t → planOf s′ ≡ found h t
   first-stays-first h t e =
       let same = tables-same s s′ accepted but in
       let W = worldOf s in
       let F = first-stays (Goes W) (Ends W) (boundOf s′) (boundOf s) (firstOf s) h t raised (first-exactly s accepted h t .0 e) in
       first-exactly s′ accepted′ h t .1
-      (subst (λ (U : World). First (Goes U) (Ends U) (boundOf s′) (firstOf s′) h t) (sym (world-same same))
-      (subst (λ (c : Configuration). First (Goes W) (Ends W) (boundOf s′) c h t) (sym (first-same same)) F))
+      (subst (λ (U : World). IsFirst (Goes U) (Ends U) (boundOf s′) (firstOf s′) h t) (sym (world-same same))
+      (subst (λ (c : Configuration). IsFirst (Goes W) (Ends W) (boundOf s′) c h t) (sym (first-same same)) F))
+
+  pub plan-stays-plan : (h : List ℕ) (t : ℕ) → planOf s ≡ found h t → (g : List ℕ) × (u : ℕ) × (planOf s′ ≡ found g u)
+  plan-stays-plan h t e = (h, t, first-stays-first h t e)
 
   pub thirteen-stays-thirteen : planOf s ≡ refusedBy 13 → planOf s′ ≡ refusedBy 13
   unfolding verdictOf

@@ -9,7 +9,7 @@ use Rattle.golog.specs.Transitions.{Configuration, final, transitions}
 use Rattle.golog.specs.Trans.{Trans, Final}
 use Rattle.runs.specs.Runs.{Run, Legal, FinalRun, NoneAtAll, NoneWithin}
 use Rattle.runs.specs.Search.{Verdict, plan, nothing, more}
-use Rattle.runs.specs.First.{First}
+use Rattle.runs.specs.First.{IsFirst}
 use Rattle.runs.specs.Earliest.{firstPlan}
 use Rattle.runs.specs.Guide.{accepts}
 use Rattle.sheet.specs.Check.{refusalOf, checkOf}
@@ -58,7 +58,7 @@ RunOf s h t = (d : Configuration) × Run (Goes (worldOf s)) t (firstOf s) h d ×
 
 -- document 02, F-1: "the plan is the first": fewest transitions, and among those the smallest history
 abbrev pub FirstPlan : List ℕ → (h : List ℕ) → (t : ℕ) → Type 0
-FirstPlan s h t = First (Goes (worldOf s)) (Ends (worldOf s)) (boundOf s) (firstOf s) h t
+FirstPlan s h t = IsFirst (Goes (worldOf s)) (Ends (worldOf s)) (boundOf s) (firstOf s) h t
 
 -- the verdict on an accepted sheet: the first plan, 13 or 14
 unfoldable pub verdictOf : List ℕ → Verdict

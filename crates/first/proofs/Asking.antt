@@ -13,16 +13,17 @@ use Rattle.runs.specs.Bounded.{join, flagged}
 use Rattle.runs.proofs.Searched.{search-means}
 use Rattle.runs.proofs.Bounded.{outcome-unguided, plan-obeys, none-obeys}
 use Rattle.runs.proofs.Histories.{run-length}
+use Rattle.runs.proofs.Joined.{flag-plan, flag-plan-is}
 use Rattle.demands.specs.Decoded.{worldOf, firstOf}
-use Rattle.demands.specs.Planning.{Goes, Ends, transitionsIn, isFinalIn}
+use Rattle.demands.specs.Planning.{Goes, Ends, RunOf, transitionsIn, isFinalIn}
 use Rattle.demands.proofs.Demands.{listed, decided}
 use Rattle.search.specs.Outcome.{Reported, isFound}
 use Rattle.search.specs.Searching.{verdictFrom}
 use Rattle.search.specs.declared.Window.{Window}
 use Rattle.search.specs.declared.Outcome.{Outcome}
 use Rattle.search.specs.declared.Outcome.the-variants.{Found}
-use Rattle.search.proofs.Reporting.{found-says, found-plan, flag-plan, flag-plan-is}
-use Rattle.first.specs.Settling.{Within, EndsAt, asking, Answers}
+use Rattle.search.proofs.Reporting.{found-says, found-plan}
+use Rattle.first.specs.Settling.{Within, asking, Answers}
 use Rattle.first.specs.declared.History.{History}
 use Rattle.first.proofs.Histories.{laid-history}
 
@@ -34,7 +35,7 @@ unguided-means s k =
     (search-means (Goes W) (Ends W) (transitionsIn W) (isFinalIn W) (listed W) (decided W) k (firstOf s))
 
 -- a history has no more entries than its run has transitions
-pub ends-length : (s : List ℕ) (t : ℕ) (h : List ℕ) → EndsAt s t h → length h ≤ t
+pub ends-length : (s : List ℕ) (t : ℕ) (h : List ℕ) → RunOf s h t → length h ≤ t
 ends-length s t h (d, run, end) = run-length (Goes (worldOf s)) t (firstOf s) h d run
 
 -- what a search for a plan of at most t transitions under a guide reports, with or without a flag
@@ -43,17 +44,17 @@ module _ (s : List ℕ) (t : ℕ) (g : Guide) (cut : Bool) {trace trace′ : Lis
   -- a plan: the history of a run that ends final and obeys the guide stands in front
   pub found-run :
       (n u : ℕ) → o ≡ Found n u → t ≤ length trace
-      → (length (take n trace′) ≡ n) × (u ≤ t) × EndsAt s u (take n trace′) × Obeys g (take n trace′)
+      → (length (take n trace′) ≡ n) × (u ≤ t) × RunOf s (take n trace′) u × Obeys g (take n trace′)
   found-run n u e l =
       let W = worldOf s in
       let v = verdictFrom s t (firstOf s, g) in
       let (h, z, k, q) = found-says trace trace′ o (join (flagged cut) v) n u e (R .says) in
       let (m, f, b) = plan-obeys (transitionsIn W) (isFinalIn W) (Goes W) (Ends W) (listed W) (decided W) t (firstOf s) g h u (flag-plan-is cut v h u z) in
       let same : h ≡ take n trace′ = sym (ap₂ take k q ∙ laid-history trace h (omega (arith, ends-length s u h f))) in
-      (ap length (sym same) ∙ sym k, m, subst (EndsAt s u) same f, subst (Obeys g) same b)
+      (ap length (sym same) ∙ sym k, m, subst (λ (h : List ℕ). RunOf s h u) same f, subst (Obeys g) same b)
 
   -- none: no such run has a history that does
-  pub no-run : isFound o ≡ false → (u : ℕ) (h : List ℕ) → u ≤ t → EndsAt s u h → ¬ Obeys g h
+  pub no-run : isFound o ≡ false → (u : ℕ) (h : List ℕ) → u ≤ t → RunOf s h u → ¬ Obeys g h
   no-run e u h =
       let W = worldOf s in
       let v = verdictFrom s t (firstOf s, g) in

@@ -20,7 +20,7 @@ use Rattle.search.specs.declared.Question.{Question}
 use Rattle.search.specs.declared.Outcome.{Outcome}
 use Rattle.search.specs.declared.Outcome.the-variants.{Found, Nothing, More}
 use Rattle.search.proofs.Reporting.{unfound-kept}
-use Rattle.first.specs.Settling.{transitionsOf, anyRun, Holds, FoundSoFar, FewestFound}
+use Rattle.first.specs.Settling.{transitionCount, anyRun, Holds, FoundSoFar, FewestFound}
 use Rattle.first.proofs.Asking.{unguided-means, found-run, no-run}
 
 -- any run was asked for
@@ -88,27 +88,27 @@ module _ {s : List ℕ} {low : ℕ} {trace : List ℕ} {o : Outcome} (F : FoundS
   abbrev SoFarOf : Verdict → Type 0
   SoFarOf v = SoFar (Goes (worldOf s)) (Ends (worldOf s)) low (boundOf s) (firstOf s) v
 
-  pub transitions-bounded : transitionsOf o ≤ boundOf s
+  pub transitions-bounded : transitionCount o ≤ boundOf s
   transitions-bounded = go (F .verdict) (F .holds) (F .means)
     where
-      go : (v : Verdict) → Holds trace o v → SoFarOf v → transitionsOf o ≤ boundOf s
-      go (plan h t) (q, z) m = omega (arith, ap transitionsOf q, m .within)
-      go nothing q m = omega (arith, ap transitionsOf q)
-      go more q m = omega (arith, ap transitionsOf q)
+      go : (v : Verdict) → Holds trace o v → SoFarOf v → transitionCount o ≤ boundOf s
+      go (plan h t) (q, z) m = omega (arith, ap transitionCount q, m .within)
+      go nothing q m = omega (arith, ap transitionCount q)
+      go more q m = omega (arith, ap transitionCount q)
 
   -- no bound is between: nothing has fewer transitions
-  pub lowest : transitionsOf o ≤ low → FewestFound s trace o
+  pub lowest : transitionCount o ≤ low → FewestFound s trace o
   lowest l = go (F .verdict) (F .holds) (F .means)
     where
       go : (v : Verdict) → Holds trace o v → SoFarOf v → FewestFound s trace o
       go (plan h t) (q, z) m =
-          let y : transitionsOf o ≡ t = ap transitionsOf q in
+          let y : transitionCount o ≡ t = ap transitionCount q in
           record { verdict = plan h t; holds = (q, z); means = fewest-met (Goes (worldOf s)) (Ends (worldOf s)) m (omega arith) }
       go nothing q m = record { verdict = nothing; holds = q; means = m }
       go more q m = absurd (true≢false (sym (ap isMore q) ∙ F .not-more))
 
   -- fewer were tried
-  module _ (left : ℕ) (e : transitionsOf o ≡ suc left) {trace′ : List ℕ} {x : Outcome}
+  module _ (left : ℕ) (e : transitionCount o ≡ suc left) {trace′ : List ℕ} {x : Outcome}
       (R : Reported 0 0 trace trace′ x (join (flagged true) (verdictFrom s left (firstOf s, unguided)))) where
     pub lowered-out : isFound x ≡ false → FewestFound s trace′ o
     lowered-out z =
@@ -117,28 +117,28 @@ module _ {s : List ℕ} {low : ℕ} {trace : List ℕ} {o : Outcome} (F : FoundS
       where
         go : (v : Verdict) → Holds trace o v → SoFarOf v → FewestFound s trace o
         go (plan h t) (q, k) m =
-            let y : transitionsOf o ≡ t = ap transitionsOf q in
+            let y : transitionCount o ≡ t = ap transitionCount q in
             record {
               verdict = plan h t;
               holds = (q, k);
               means = fewest-alone (Goes (worldOf s)) (Ends (worldOf s)) m (λ n g l f. no-run s left unguided true R z n g (omega arith) f tt);
             }
-        go nothing q m = absurd (omega (arith, e, ap transitionsOf q))
-        go more q m = absurd (omega (arith, e, ap transitionsOf q))
+        go nothing q m = absurd (omega (arith, e, ap transitionCount q))
+        go more q m = absurd (omega (arith, e, ap transitionCount q))
 
-    pub lowered : boundOf s ≤ length trace → isFound x ≡ true → FoundSoFar s low trace′ x × (transitionsOf x < transitionsOf o)
+    pub lowered : boundOf s ≤ length trace → isFound x ≡ true → FoundSoFar s low trace′ x × (transitionCount x < transitionCount o)
     lowered room z = go (F .verdict) (F .holds) (F .means) x refl
       where
         found :
             NoneBelow (Goes (worldOf s)) (Ends (worldOf s)) low (firstOf s) → left ≤ boundOf s → (y : Outcome) → x ≡ y
-            → FoundSoFar s low trace′ x × (transitionsOf x < transitionsOf o)
+            → FoundSoFar s low trace′ x × (transitionCount x < transitionCount o)
         found few l (Found n u) q =
             let (X, m) = found-so-far low left true few l R (omega arith) n u q in
-            (X, omega (arith, e, ap transitionsOf q))
+            (X, omega (arith, e, ap transitionCount q))
         found few l Nothing q = absurd (true≢false (sym z ∙ ap isFound q))
         found few l More q = absurd (true≢false (sym z ∙ ap isFound q))
 
-        go : (v : Verdict) → Holds trace o v → SoFarOf v → (y : Outcome) → x ≡ y → FoundSoFar s low trace′ x × (transitionsOf x < transitionsOf o)
-        go (plan h t) (q, k) m y p = found (m .none-below) (omega (arith, e, ap transitionsOf q, m .within)) y p
-        go nothing q m y p = absurd (omega (arith, e, ap transitionsOf q))
-        go more q m y p = absurd (omega (arith, e, ap transitionsOf q))
+        go : (v : Verdict) → Holds trace o v → SoFarOf v → (y : Outcome) → x ≡ y → FoundSoFar s low trace′ x × (transitionCount x < transitionCount o)
+        go (plan h t) (q, k) m y p = found (m .none-below) (omega (arith, e, ap transitionCount q, m .within)) y p
+        go nothing q m y p = absurd (omega (arith, e, ap transitionCount q))
+        go more q m y p = absurd (omega (arith, e, ap transitionCount q))

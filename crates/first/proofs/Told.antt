@@ -2,7 +2,7 @@
 -- the sheet, and where nothing was found that is the verdict already. Assumes nothing.
 use Prim.Native.Nat.{ℕ, _≤_}
 use native.Mathlib.Omega.{arith}
-use mathlib.Core.Bool.{true, false, true≢false}
+use mathlib.Core.Bool.{false, true≢false}
 use mathlib.Core.List.{List, _++_}
 use mathlib.Core.Path.{_≡_, refl, sym, _∙_, ap, ap₂, subst}
 use lib.ListN.{length, take, drop}
@@ -11,13 +11,13 @@ use Rattle.runs.specs.First.{NoneBelow}
 use Rattle.runs.specs.Growing.{MeansFewest}
 use Rattle.runs.proofs.Growing.{grown-none}
 use Rattle.demands.specs.Decoded.{worldOf, firstOf, boundOf}
-use Rattle.demands.specs.Planning.{Goes, Ends, FirstPlan, verdictOf}
+use Rattle.demands.specs.Planning.{Goes, Ends, RunOf, FirstPlan, verdictOf}
 use Rattle.demands.proofs.Demands.{verdict-is}
 use Rattle.search.specs.Outcome.{ReportsVerdict, Reported, isFound}
 use Rattle.search.specs.declared.Outcome.{Outcome}
 use Rattle.search.specs.declared.Outcome.the-variants.{Found}
 use Rattle.search.proofs.Reporting.{lay-front}
-use Rattle.first.specs.Settling.{historyOf, Within, EndsAt, Holds, FewestFound, CanSettle, Settled}
+use Rattle.first.specs.Settling.{historyOf, Within, Holds, FewestFound, CanSettle, Settled}
 use Rattle.first.specs.declared.History.{History}
 use Rattle.first.proofs.Histories.{history-length}
 use Rattle.first.proofs.Asking.{ends-length}
@@ -35,7 +35,7 @@ module _ {s entries : List ℕ} {o : Outcome} (F : FewestFound s entries o) wher
           let y : Found n t ≡ Found (length h) u = sym e ∙ q in
           let yn : n ≡ length h = cc in
           let yt : u ≡ t = cc in
-          let f : EndsAt s t (take n entries) = subst (EndsAt s t) (sym (ap (λ (k : ℕ). take k entries) yn ∙ z)) (subst (λ (k : ℕ). EndsAt s k h) yt (m .plan)) in
+          let f : RunOf s (take n entries) t = subst (λ (g : List ℕ). RunOf s g t) (sym (ap (λ (k : ℕ). take k entries) yn ∙ z)) (subst (RunOf s h) yt (m .plan)) in
           let w = m .within in (
             record { bounded = omega arith; fewest = subst (λ (k : ℕ). NoneBelow (Goes (worldOf s)) (Ends (worldOf s)) k (firstOf s)) yt (m .none-below) },
             record {

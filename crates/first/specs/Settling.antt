@@ -6,11 +6,11 @@ use mathlib.Core.Bool.{Bool, true, false}
 use mathlib.Core.List.{List}
 use lib.ListN.{length, take}
 use Rattle.runs.specs.Search.{Verdict, plan, nothing, more}
-use Rattle.runs.specs.First.{FinalAt, NoneBelow}
+use Rattle.runs.specs.First.{NoneBelow}
 use Rattle.runs.specs.Guide.{Guide, along, Obeys}
 use Rattle.runs.specs.Growing.{SoFar, MeansFewest, Grown}
 use Rattle.demands.specs.Decoded.{worldOf, firstOf, boundOf}
-use Rattle.demands.specs.Planning.{Goes, Ends}
+use Rattle.demands.specs.Planning.{Goes, Ends, RunOf}
 use Rattle.search.specs.Outcome.{isMore}
 use Rattle.search.specs.declared.Window.{Window}
 use Rattle.search.specs.declared.Question.{Question}
@@ -32,15 +32,11 @@ pub record Within (h : History) : Type 0 where
 abbrev pub notFound : History → Answer
 notFound h = record { found = false; history = h }
 
--- a run of t transitions from the sheet's first configuration has this history and ends final
-abbrev pub EndsAt : List ℕ → (t : ℕ) → List ℕ → Type 0
-EndsAt s t h = FinalAt (Goes (worldOf s)) (Ends (worldOf s)) t (firstOf s) h
-
 -- the transitions of a plan
-abbrev pub transitionsOf : Outcome → ℕ
-transitionsOf (Found n t) = t
-transitionsOf Nothing = 0
-transitionsOf More = 0
+abbrev pub transitionCount : Outcome → ℕ
+transitionCount (Found n t) = t
+transitionCount Nothing = 0
+transitionCount More = 0
 
 -- any run of at most so many transitions
 abbrev pub anyRun : (left : ℕ) (cut : Bool) → Question
@@ -81,5 +77,5 @@ asking h i w = along (take i (historyOf h)) (w .low) (w .high)
 
 -- what came of asking for a plan within t transitions
 pub record Answers (s : List ℕ) (t : ℕ) (h : History) (i : ℕ) (w : Window) (r : Answer) : Type 0 where
-  pub yes : r .found ≡ true → Within (r .history) × ((u : ℕ) × (u ≤ t) × EndsAt s u (historyOf (r .history))) × Obeys (asking h i w) (historyOf (r .history))
-  pub no : r .found ≡ false → (r .history ≡ h) × ((u : ℕ) (g : List ℕ) → u ≤ t → EndsAt s u g → ¬ Obeys (asking h i w) g)
+  pub yes : r .found ≡ true → Within (r .history) × ((u : ℕ) × (u ≤ t) × RunOf s (historyOf (r .history)) u) × Obeys (asking h i w) (historyOf (r .history))
+  pub no : r .found ≡ false → (r .history ≡ h) × ((u : ℕ) (g : List ℕ) → u ≤ t → RunOf s g u → ¬ Obeys (asking h i w) g)

@@ -10,7 +10,7 @@ ghost use Rattle.demands.specs.Decoded.{boundOf};
 ghost use Rattle.demands.specs.Planning.{FirstPlan, verdictOf};
 ghost use Rattle.search.specs.Outcome.{Reported};
 ghost use Rattle.search.specs.Searching.{Standing};
-ghost use Rattle.first.specs.Settling.{historyOf, Within, notFound, transitionsOf, anyRun, FoundSoFar, FewestFound, CanSettle, Settled, Answers};
+ghost use Rattle.first.specs.Settling.{historyOf, Within, notFound, transitionCount, anyRun, FoundSoFar, FewestFound, CanSettle, Settled, Answers};
 use search::Outcome;
 use search::Question;
 use search::Window;
@@ -28,8 +28,8 @@ struct Answer {
     history: History,
 }
 
-fn transitions_of(o: Outcome) -> usize
-    ensures { λ r. ⌜ r ≡ transitionsOf o ⌝ }
+fn transition_count(o: Outcome) -> usize
+    ensures { λ r. ⌜ r ≡ transitionCount o ⌝ }
 {
     match o {
         Outcome::Found { n: _, t } => t,
@@ -56,8 +56,8 @@ fn lower(
 {
     let none = [0u16; 1];
     let mut fewest = o;
-    while low < transitions_of(fewest) {
-        let left = transitions_of(fewest) - 1;
+    while low < transition_count(fewest) {
+        let left = transition_count(fewest) - 1;
         let a = any_run(left, true);
         let x = search::explore(work, best, flags, numbers, s, found, &none[..0], a);
         if !search::is_found(x) {
@@ -155,7 +155,7 @@ fn rank_at(h: History, i: usize) -> u32
     0
 }
 
-fn unfound(history: History) -> Answer
+fn not_found(history: History) -> Answer
     ensures { λ r. ⌜ r ≡ notFound history ⌝ }
 {
     Answer {
@@ -164,7 +164,7 @@ fn unfound(history: History) -> Answer
     }
 }
 
-// Asks for a plan of t transitions whose history begins with the first i entries, what follows them lying in the window.
+// Asks for a plan of at most t transitions whose history begins with the first i entries, what follows them lying in the window.
 fn ask(
     work: &mut [u32],
     flags: &mut [bool],
@@ -194,8 +194,8 @@ fn ask(
             found: true,
             history: History { entries, n },
         },
-        Outcome::Nothing => unfound(h),
-        Outcome::More => unfound(h),
+        Outcome::Nothing => not_found(h),
+        Outcome::More => not_found(h),
     }
 }
 

@@ -1,6 +1,6 @@
--- Demands 1, 2 and 3 of the mission, about the calls `plan` and `replay` as a user makes them: sheet, lent work and lent trace in; answer
--- and final content of the lent slices out. The contracts in src/lib.rt say that the calls equal answerOf, traceOf, planWork, replyOf
--- and replayWork (specs/Answers.antt); the theorems here say what those are, in the demands' words. Assumes nothing.
+-- Demands 1, 2 and 3 of the mission and F-1 of document 02, about the calls `plan` and `replay` as a user makes them: sheet, lent work and
+-- lent trace in; answer and final content of the lent slices out. The contracts in src/lib.rt say that the calls equal answerOf, traceOf,
+-- planWork, replyOf and replayWork (specs/Answers.antt); the theorems here say what those are, in the demands' words. Assumes nothing.
 use mathlib.Core.Path.{_≡_, refl, sym, _∙_, ap, ap₂, subst}
 use mathlib.Core.Bool.{Bool, true, false, cond}
 use mathlib.Core.List.{List, _++_, List·Memᴰ}
@@ -241,8 +241,8 @@ module _ (s : List ℕ) (w : ℕ) (accepted : checkOf s ≡ checked.Accepted w) 
             let g = f .0 in
             let a = answer-is ∙ ap answerAs (f .2) in
             let z : length g ≡ length h = sym (ap planMoves a) ∙ n in
-            let long = sym (trace-is ∙ ap (λ (a : meant.PlanAnswer). traced a trace) (f .2)) ∙ q in
-            let same : g ≡ h = sym (take-at g (drop (length g) trace) (length h) z) ∙ ap (take (length h)) long ∙ take-at h (drop (length h) trace) (length h) refl in
+            let laid = sym (trace-is ∙ ap (λ (a : meant.PlanAnswer). traced a trace) (f .2)) ∙ q in
+            let same : g ≡ h = sym (take-at g (drop (length g) trace) (length h) z) ∙ ap (take (length h)) laid ∙ take-at h (drop (length h) trace) (length h) refl in
             first-exactly s (w, accepted) h t .0 (f .2 ∙ ap₂ meant.found same (sym (ap planTransitions a) ∙ u)),
         λ F.
             let e = first-exactly s (w, accepted) h t .1 F in

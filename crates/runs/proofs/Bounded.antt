@@ -36,7 +36,7 @@ module _ {C : Type 0} where
   tries-unguided f g e ((none, d) ∷ xs) = ap₂ (before none) (e d) (tries-unguided f g e xs)
   tries-unguided f g e ((some a, d) ∷ xs) = ap₂ (before (some a)) (e d) (tries-unguided f g e xs)
 
-  -- planning
+  -- where nothing is asked
   pub outcome-unguided :
       (transitions : C → List (Option ℕ × C)) (final : C → Bool) (k : ℕ) (c : C) → verdictWithin transitions final k (c, unguided) ≡ search transitions final k c
   outcome-unguided transitions final zero c = refl

@@ -1,27 +1,18 @@
 -- Deepening: where no run of fewer than so many transitions ends final, a higher bound finds a plan, or none ends final up to it; and where
 -- no run goes on past a bound, none does past a higher one. A plan has the fewest transitions where none ends final with one less.
 -- Assumes nothing.
-use Prim.Native.Nat.{ℕ, suc, _≤_, zero-le}
+use Prim.Native.Nat.{ℕ, suc, _≤_, _<_, zero-le}
 use native.Mathlib.Omega.{arith}
-use native.Mathlib.Decide.{decLe}
 use mathlib.Core.List.{List, []}
 use mathlib.Core.Option.{Option}
 use mathlib.Core.Path.{refl}
-use Rattle.runs.specs.Runs.{FinalRun}
 use Rattle.runs.specs.Search.{nothing, more, Means}
-use Rattle.runs.specs.First.{FinalAt, NoneBelow}
+use Rattle.runs.specs.First.{FinalAt}
 use Rattle.runs.specs.Growing.{FoundFrom, SoFar, MeansFewest}
 use Rattle.runs.proofs.Raised.{none-raised}
+use Rattle.runs.proofs.Firsts.{none-below}
 
 module _ {C : Type 0} (Trans : C → Option ℕ → C → Type 0) (Ends : C → Type 0) where
-  -- no run of at most t transitions ends final: each that does has more
-  none-below : (t : ℕ) (c : C) → ¬ FinalRun Trans Ends t c → NoneBelow Trans Ends (suc t) c
-  none-below t c no-run n g (d, run, end) = go (decLe (suc t) n)
-    where
-      go : Dec (suc t ≤ n) → suc t ≤ n
-      go (yes l) = l
-      go (no l) = absurd (no-run (n, g, d, omega arith, run, end))
-
   pub so-far-none : (k : ℕ) (c : C) → SoFar Trans Ends 0 k c more
   so-far-none k c = (λ n g f. zero-le, ([], c, (refl, refl)))
 
@@ -30,7 +21,7 @@ module _ {C : Type 0} (Trans : C → Option ℕ → C → Type 0) (Ends : C → 
   so-far-nothing low k t c l m = none-raised Trans Ends k t c l m
 
   pub so-far-more : (k t : ℕ) (c : C) → Means Trans Ends t c more → SoFar Trans Ends (suc t) k c more
-  so-far-more k t c m = (none-below t c (m .0), m .1)
+  so-far-more k t c m = (none-below Trans Ends (suc t) c (λ n g l (d, run, end). m .0 (n, g, d, omega arith, run, end)), m .1)
 
   -- all bounds are done
   pub so-far-all : (k : ℕ) (c : C) → SoFar Trans Ends (suc k) k c more → MeansFewest Trans Ends k c more
@@ -41,9 +32,5 @@ module _ {C : Type 0} (Trans : C → Option ℕ → C → Type 0) (Ends : C → 
     pub fewest-met : t ≤ low → FoundFrom Trans Ends t k c h t
     fewest-met l = record { within = F .within; plan = F .plan; none-below = λ n g f. omega (arith, F .none-below n g f) }
 
-    pub fewest-alone : ((n : ℕ) (g : List ℕ) → suc n ≤ t → ¬ FinalAt Trans Ends n c g) → FoundFrom Trans Ends t k c h t
-    fewest-alone no-run = record { within = F .within; plan = F .plan; none-below = λ n g f. go n g f (decLe t n) }
-      where
-        go : (n : ℕ) (g : List ℕ) → FinalAt Trans Ends n c g → Dec (t ≤ n) → t ≤ n
-        go n g f (yes l) = l
-        go n g f (no l) = absurd (no-run n g (omega arith) f)
+    pub fewest-alone : ((n : ℕ) (g : List ℕ) → n < t → ¬ FinalAt Trans Ends n c g) → FoundFrom Trans Ends t k c h t
+    fewest-alone no-run = record { within = F .within; plan = F .plan; none-below = none-below Trans Ends t c no-run }

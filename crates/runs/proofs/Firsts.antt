@@ -1,7 +1,7 @@
 -- There is at most one first plan, and `firstPlan` computes it: the least history from c is the least, over its transitions, of the move
 -- and the least history from where it leads, since a move in front keeps the order; and the numbers of transitions are tried upwards.
 -- So there is one exactly where some run within the bound ends final, and a higher bound keeps it. Assumes nothing.
-use Prim.Native.Nat.{ℕ, zero, suc, _+_, _≤_, zero-le}
+use Prim.Native.Nat.{ℕ, zero, suc, _+_, _≤_, _<_, zero-le}
 use native.Mathlib.Omega.{arith}
 use native.Mathlib.Nat.{le-antisymm}
 use native.Mathlib.Decide.{decLe}
@@ -14,7 +14,7 @@ use lib.Dec.{T}
 use Rattle.runs.specs.Runs.{add, FinalRun}
 use Rattle.runs.specs.Search.{Verdict, plan, nothing, more, search, Lists, DecidesFinal, Means}
 use Rattle.runs.specs.Order.{AtMost}
-use Rattle.runs.specs.First.{FinalAt, NoneBelow, First}
+use Rattle.runs.specs.First.{FinalAt, NoneBelow, IsFirst}
 use Rattle.runs.specs.Earliest.{atMost, lesser, onto, leastOf, ifFinal, orElse, leastAt, earliest, firstPlan, MeansFirst}
 use Rattle.runs.proofs.Searched.{search-means}
 use Rattle.runs.proofs.Ordered.{at-most-iff, at-most-trans, at-most-antisym, at-most-total, none-at-most, entry-at-most}
@@ -33,7 +33,7 @@ least-iff : (P Q : List ℕ → Type 0) → ((h : List ℕ) → P h ↔ Q h) →
 least-iff P Q i none p = λ h q. p h (i h .1 q)
 least-iff P Q i (some h) p = (i h .0 (p .0), λ g q. p .1 g (i g .1 q))
 
--- what holds of either is what P or Q holds of: the lesser of the least is the least
+-- R holds of what P or Q holds of: the lesser of the two least is the least
 least-lesser : (P Q R : List ℕ → Type 0) → ((h : List ℕ) → (P h ⊎ Q h) ↔ R h) → (o p : Option (List ℕ)) → LeastIn P o → LeastIn Q p → LeastIn R (lesser o p)
 least-lesser P Q R i none none l m = λ h r. ⊎-elim (l h) (m h) (i h .1 r)
 least-lesser P Q R i none (some g) l m = (i g .0 (inr (m .0)), λ f r. ⊎-elim (λ x. absurd (l f x)) (m .1 f) (i f .1 r))
@@ -53,8 +53,16 @@ least-onto m P none l = λ h (r, e, p). l r p
 least-onto m P (some h) l = ((h, refl, l .0), λ g (r, e, p). subst (AtMost (add m h)) (sym e) (add-at-most m h r (l .1 r p)))
 
 module _ {C : Type 0} (Trans : C → Option ℕ → C → Type 0) (Ends : C → Type 0) where
+  -- no run of so few transitions ends final: each that does has as many
+  pub none-below : (t : ℕ) (c : C) → ((n : ℕ) (g : List ℕ) → n < t → ¬ FinalAt Trans Ends n c g) → NoneBelow Trans Ends t c
+  none-below t c no-run n g f = go (decLe t n)
+    where
+      go : Dec (t ≤ n) → t ≤ n
+      go (yes l) = l
+      go (no l) = absurd (no-run n g (omega arith) f)
+
   -- "Plan and t are thus decided": there is only one
-  pub first-unique : (k : ℕ) (c : C) (h g : List ℕ) (t u : ℕ) → First Trans Ends k c h t → First Trans Ends k c g u → (h ≡ g) × (t ≡ u)
+  pub first-unique : (k : ℕ) (c : C) (h g : List ℕ) (t u : ℕ) → IsFirst Trans Ends k c h t → IsFirst Trans Ends k c g u → (h ≡ g) × (t ≡ u)
   first-unique k c h g t u F G =
       let e : t ≡ u = le-antisymm (F .fewest u g (G .plan)) (G .fewest t h (F .plan)) in (
         at-most-antisym h g (F .smallest g (subst (λ (n : ℕ). FinalAt Trans Ends n c g) (sym e) (G .plan)))
@@ -63,16 +71,16 @@ module _ {C : Type 0} (Trans : C → Option ℕ → C → Type 0) (Ends : C → 
       )
 
   -- the first plan is a plan
-  pub first-means : (k : ℕ) (c : C) (v : Verdict) → MeansFirst Trans Ends k c v → Means Trans Ends k c v
+  first-means : (k : ℕ) (c : C) (v : Verdict) → MeansFirst Trans Ends k c v → Means Trans Ends k c v
   first-means k c (plan h t) F = let (d, run, end) = F .plan in (d, F .within, run, end)
   first-means k c nothing p = p
   first-means k c more p = p
 
-  first-final : (k : ℕ) (c : C) (h : List ℕ) (t : ℕ) → First Trans Ends k c h t → FinalRun Trans Ends k c
+  first-final : (k : ℕ) (c : C) (h : List ℕ) (t : ℕ) → IsFirst Trans Ends k c h t → FinalRun Trans Ends k c
   first-final k c h t F = let (d, run, end) = F .plan in (t, h, d, F .within, run, end)
 
   -- so what it says fixes the verdict
-  pub verdict-unique : (k : ℕ) (c : C) (v w : Verdict) → MeansFirst Trans Ends k c v → MeansFirst Trans Ends k c w → v ≡ w
+  verdict-unique : (k : ℕ) (c : C) (v w : Verdict) → MeansFirst Trans Ends k c v → MeansFirst Trans Ends k c w → v ≡ w
   verdict-unique k c (plan h t) (plan g u) p q = let e = first-unique k c h g t u p q in ap₂ plan (e .0) (e .1)
   verdict-unique k c (plan h t) nothing p q = absurd (q .0 (first-final k c h t p))
   verdict-unique k c (plan h t) more p q = absurd (q .0 (first-final k c h t p))
@@ -127,11 +135,8 @@ module _ {C : Type 0} (Trans : C → Option ℕ → C → Type 0) (Ends : C → 
     -- t transitions, where none has fewer: the least history is the first plan; without one, none has so few
     module _ (k t : ℕ) (c : C) (few : NoneBelow Trans Ends t c) (l : t ≤ k) where
       one-more : ((h : List ℕ) → ¬ FinalAt Trans Ends t c h) → NoneBelow Trans Ends (suc t) c
-      one-more no-run n g f = go (decLe (suc t) n)
-        where
-          go : Dec (suc t ≤ n) → suc t ≤ n
-          go (yes m) = m
-          go (no m) = let e : n ≡ t = le-antisymm (omega arith) (few n g f) in absurd (no-run g (subst (λ (i : ℕ). FinalAt Trans Ends i c g) e f))
+      one-more no-run =
+          none-below (suc t) c (λ n g l f. no-run g (subst (λ (i : ℕ). FinalAt Trans Ends i c g) (le-antisymm (omega arith) (few n g f)) f))
 
       tried :
           (o : Option (List ℕ)) → LeastIn (FinalAt Trans Ends t c) o → (v : Verdict) → (NoneBelow Trans Ends (suc t) c → MeansFirst Trans Ends k c v)
@@ -155,7 +160,7 @@ module _ {C : Type 0} (Trans : C → Option ℕ → C → Type 0) (Ends : C → 
     stands k c more few m = m
 
     -- F-1: "Plan and t are thus decided by a definition; existence is judged as before"
-    pub first-plan : (k : ℕ) (c : C) → MeansFirst Trans Ends k c (firstPlan transitions final k c)
+    first-plan : (k : ℕ) (c : C) → MeansFirst Trans Ends k c (firstPlan transitions final k c)
     first-plan k c =
         upwards k k 0 c (search transitions final k c) (omega arith) (λ n g f. zero-le)
         (λ low. stands k c (search transitions final k c) low (search-means Trans Ends transitions final listed decided k c))
@@ -169,18 +174,18 @@ module _ {C : Type 0} (Trans : C → Option ℕ → C → Type 0) (Ends : C → 
     same-first k c v m = verdict-unique k c v (firstPlan transitions final k c) m (first-plan k c)
 
     -- a plan comes out exactly when it is the first
-    pub first-plan-exactly : (k : ℕ) (c : C) (h : List ℕ) (t : ℕ) → (firstPlan transitions final k c ≡ plan h t) ↔ First Trans Ends k c h t
+    pub first-plan-exactly : (k : ℕ) (c : C) (h : List ℕ) (t : ℕ) → (firstPlan transitions final k c ≡ plan h t) ↔ IsFirst Trans Ends k c h t
     first-plan-exactly k c h t = (λ e. subst (MeansFirst Trans Ends k c) e (first-plan k c), λ F. sym (same-first k c (plan h t) F))
 
     -- there is a first plan exactly where some run of at most k transitions ends final
-    pub first-exists : (k : ℕ) (c : C) → ((h : List ℕ) × (t : ℕ) × First Trans Ends k c h t) ↔ FinalRun Trans Ends k c
+    pub first-exists : (k : ℕ) (c : C) → ((h : List ℕ) × (t : ℕ) × IsFirst Trans Ends k c h t) ↔ FinalRun Trans Ends k c
     first-exists k c = (λ (h, t, F). first-final k c h t F, λ r. go (firstPlan transitions final k c) (first-plan k c) r)
       where
-        go : (v : Verdict) → MeansFirst Trans Ends k c v → FinalRun Trans Ends k c → (h : List ℕ) × (t : ℕ) × First Trans Ends k c h t
+        go : (v : Verdict) → MeansFirst Trans Ends k c v → FinalRun Trans Ends k c → (h : List ℕ) × (t : ℕ) × IsFirst Trans Ends k c h t
         go (plan h t) F r = (h, t, F)
         go nothing p r = absurd (p .0 r)
         go more p r = absurd (p .0 r)
 
   -- a higher bound keeps the very same plan
-  pub first-stays : (j k : ℕ) (c : C) (h : List ℕ) (t : ℕ) → k ≤ j → First Trans Ends k c h t → First Trans Ends j c h t
+  pub first-stays : (j k : ℕ) (c : C) (h : List ℕ) (t : ℕ) → k ≤ j → IsFirst Trans Ends k c h t → IsFirst Trans Ends j c h t
   first-stays j k c h t l F = record { within = omega (arith, F .within); plan = F .plan; fewest = F .fewest; smallest = F .smallest }

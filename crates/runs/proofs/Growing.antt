@@ -12,7 +12,7 @@ use mathlib.Core.Path.{_≡_, refl, sym, ap, ap₂, subst, _∙_}
 use lib.ListN.{length, take, drop, getD, length-append}
 use lib.Seq.{length-take-le, take-all, take-at, drop-at, take-suc, drop-cons}
 use Rattle.runs.specs.Order.{AtMost}
-use Rattle.runs.specs.First.{FinalAt, NoneBelow, First}
+use Rattle.runs.specs.First.{FinalAt, NoneBelow, IsFirst}
 use Rattle.runs.specs.Guide.{rank, along, Obeys}
 use Rattle.runs.specs.Growing.{Grown, Narrowed}
 use Rattle.runs.proofs.Tests.{window-iff}
@@ -83,7 +83,7 @@ module _ {C : Type 0} (Trans : C → Option ℕ → C → Type 0) (Ends : C → 
         }
 
   -- all entries are settled
-  pub settled-all : (k i : ℕ) (h : List ℕ) → t ≤ k → NoneBelow Trans Ends t c → length h ≤ i → Grown Trans Ends t c i h → First Trans Ends k c h t
+  pub settled-all : (k i : ℕ) (h : List ℕ) → t ≤ k → NoneBelow Trans Ends t c → length h ≤ i → Grown Trans Ends t c i h → IsFirst Trans Ends k c h t
   settled-all k i h l few all G =
       record {
         within = l;

@@ -1,6 +1,7 @@
 -- Verdicts joined: a flag says whether the bound ran out in some run before, and beside it only a plan matters. Assumes nothing.
 use Prim.Native.Nat.{ℕ}
 use mathlib.Core.Bool.{Bool, true, false}
+use mathlib.Core.List.{List}
 use mathlib.Core.Option.{Option}
 use mathlib.Core.Path.{_≡_, refl, sym, _∙_, ap}
 use Rattle.runs.specs.Search.{Verdict, plan, nothing, more, isPlan, orMore, before}
@@ -10,6 +11,19 @@ use Rattle.runs.specs.Bounded.{join, flagged}
 pub flag-nothing : (cut : Bool) → join (flagged cut) nothing ≡ flagged cut
 flag-nothing true = refl
 flag-nothing false = refl
+
+-- a flag neither makes a plan nor hides one
+pub flag-plan : (cut : Bool) (v : Verdict) → isPlan (join (flagged cut) v) ≡ isPlan v
+flag-plan true (plan h t) = refl
+flag-plan true nothing = refl
+flag-plan true more = refl
+flag-plan false v = refl
+
+pub flag-plan-is : (cut : Bool) (v : Verdict) (h : List ℕ) (t : ℕ) → join (flagged cut) v ≡ plan h t → v ≡ plan h t
+flag-plan-is true (plan g u) h t e = e
+flag-plan-is true nothing h t e = cc
+flag-plan-is true more h t e = e
+flag-plan-is false v h t e = e
 
 more-twice : (r : Verdict) → orMore (orMore r) ≡ orMore r
 more-twice (plan h t) = refl

@@ -1,5 +1,5 @@
--- The order of histories: it is that of F-1's sentence, transitive, antisymmetric and total; it can be tested; and a beginning in common
--- does not count in it. Assumes nothing.
+-- The order of histories: it is that of F-1's sentence, transitive, antisymmetric and total; it goes by the first entry, and can be tested.
+-- Assumes nothing.
 use Prim.Native.Nat.{ℕ, _<_}
 use native.Mathlib.Omega.{arith}
 use native.Mathlib.Decide.{decLt, ℕ-discrete}
@@ -8,13 +8,9 @@ use mathlib.Core.List.{List, [], _∷_, _++_, head-eq-of-cons-eq, tail-eq-of-con
 use mathlib.Core.Logic.{_⊎_, inl, inr, ⊎-elim, _↔_}
 use mathlib.Core.Path.{_≡_, refl, ap, ap₂, sym, subst, _∙_}
 use lib.Dec.{T, ltb, eqb}
-use Rattle.runs.specs.Order.{Smaller, AtMost}
+use Rattle.runs.specs.Order.{Smaller, SmallerAtDifference, AtMost}
 use Rattle.runs.specs.Earliest.{atMost}
 use Rattle.runs.proofs.Tests.{and-iff, or-iff, eqb-iff, ltb-iff}
-
--- F-1's sentence: after a common beginning p the second goes on with b, where the first ends, or goes on with a smaller entry
-abbrev pub Parts : List ℕ → List ℕ → Type 0
-Parts h g = (p : List ℕ) × (b : ℕ) × (s : List ℕ) × (g ≡ p ++ b ∷ s) × ((h ≡ p) ⊎ ((a : ℕ) × (r : List ℕ) × (h ≡ p ++ a ∷ r) × (a < b)))
 
 beginning-smaller : (p : List ℕ) (b : ℕ) (s : List ℕ) → Smaller p (p ++ b ∷ s)
 beginning-smaller [] b s = tt
@@ -24,17 +20,18 @@ entry-smaller : (p : List ℕ) (a b : ℕ) (r s : List ℕ) → a < b → Smalle
 entry-smaller [] a b r s l = inl l
 entry-smaller (x ∷ p) a b r s l = inr (refl, entry-smaller p a b r s l)
 
-parts : (h g : List ℕ) → Smaller h g → Parts h g
-parts h [] w = absurd w
-parts [] (b ∷ g) w = ([], b, g, refl, inl refl)
-parts (a ∷ h) (b ∷ g) (inl l) = ([], b, g, refl, inr (a, h, refl, l))
-parts (a ∷ h) (b ∷ g) (inr (e, w)) =
-    let (p, x, s, q, v) = parts h g w in
+difference : (h g : List ℕ) → Smaller h g → SmallerAtDifference h g
+difference h [] w = absurd w
+difference [] (b ∷ g) w = ([], b, g, refl, inl refl)
+difference (a ∷ h) (b ∷ g) (inl l) = ([], b, g, refl, inr (a, h, refl, l))
+difference (a ∷ h) (b ∷ g) (inr (e, w)) =
+    let (p, x, s, q, v) = difference h g w in
     (b ∷ p, x, s, ap (b ∷_) q, ⊎-elim (λ z. inl (ap₂ _∷_ e z)) (λ (y, r, z, l). inr (y, r, ap₂ _∷_ e z, l)) v)
 
-pub parts-iff : (h g : List ℕ) → Smaller h g ↔ Parts h g
-parts-iff h g = (
-  parts h g,
+-- F-1's sentence
+pub smaller-exactly : (h g : List ℕ) → Smaller h g ↔ SmallerAtDifference h g
+smaller-exactly h g = (
+  difference h g,
   λ (p, b, s, q, v). rw q (⊎-elim (λ z. rw z (beginning-smaller p b s)) (λ (a, r, z, l). rw z (entry-smaller p a b r s l)) v),
 )
 
@@ -89,7 +86,7 @@ at-most-antisym h g (inl v) (inl w) = absurd (not-smaller h (smaller-trans h g h
 pub at-most-total : (h g : List ℕ) → AtMost h g ⊎ AtMost g h
 at-most-total h g = ⊎-elim (λ v. inl (inl v)) (⊎-elim (λ e. inl (inr e)) (λ v. inr (inl v))) (one-smaller h g)
 
--- nothing is smaller than no move at all, and no history ends before it
+-- nothing is smaller than no move at all
 pub none-at-most : (g : List ℕ) → AtMost [] g
 none-at-most [] = inr refl
 none-at-most (b ∷ g) = inl tt

@@ -1,5 +1,5 @@
 -- Own vocabulary: the bounded search that a strategy makes, for any transition system: the guided search, but at the bound it asks only
--- whether there is a transition at all. Where nothing is asked it is plain planning, and under any guide it finds the plan that the guided
+-- whether there is a transition at all. Where nothing is asked it is the plain search, and under any guide it finds the plan that the guided
 -- search does: proofs/Bounded.antt. And verdicts on rows of transitions, one after the other. Assumes nothing.
 use Prim.Native.Nat.{ℕ, zero, suc}
 use mathlib.Core.Bool.{Bool, true, false}

@@ -7,7 +7,7 @@ use mathlib.Core.Option.{Option, none, some}
 use lib.Dec.{ltb, eqb}
 use Rattle.runs.specs.Runs.{add, NoneAtAll, NoneWithin}
 use Rattle.runs.specs.Search.{Verdict, plan, nothing, more, search}
-use Rattle.runs.specs.First.{First}
+use Rattle.runs.specs.First.{IsFirst}
 
 -- the order of histories as a test
 abbrev pub atMost : List ℕ → List ℕ → Bool
@@ -59,6 +59,6 @@ module _ {C : Type 0} (transitions : C → List (Option ℕ × C)) (final : C �
 module _ {C : Type 0} (Trans : C → Option ℕ → C → Type 0) (Ends : C → Type 0) where
   -- what such a verdict on c within k transitions says of runs: "existence is judged as before"
   abbrev pub MeansFirst : ℕ → C → Verdict → Type 0
-  MeansFirst k c (plan h t) = First Trans Ends k c h t
+  MeansFirst k c (plan h t) = IsFirst Trans Ends k c h t
   MeansFirst k c nothing = NoneAtAll Trans Ends k c
   MeansFirst k c more = NoneWithin Trans Ends k c

@@ -17,7 +17,7 @@ module _ {C : Type 0} (Trans : C → Option ℕ → C → Type 0) (Ends : C → 
 
   -- within k transitions from c, the plan with history h and t transitions is the first: "fewest transitions, and among those the history
   -- that is smaller .. t is that fewest number"
-  pub record First (k : ℕ) (c : C) (h : List ℕ) (t : ℕ) : Type 0 where
+  pub record IsFirst (k : ℕ) (c : C) (h : List ℕ) (t : ℕ) : Type 0 where
     pub within : t ≤ k
     pub plan : FinalAt t c h
     pub fewest : NoneBelow t c

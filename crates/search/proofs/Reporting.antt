@@ -6,11 +6,12 @@ use native.Mathlib.Omega.{arith}
 use mathlib.Core.Bool.{Bool, true, false, true≢false}
 use mathlib.Core.List.{List, [], _∷_, _++_}
 use mathlib.Core.Path.{_≡_, refl, sym, _∙_, ap}
-use lib.ListN.{length, drop, set, length-set}
+use lib.ListN.{length, drop, set}
 use Rattle.runs.specs.Search.{Verdict, plan, nothing, more, isPlan}
 use Rattle.runs.specs.Guide.{exactly}
 use Rattle.runs.specs.Bounded.{join, flagged}
 use Rattle.runs.proofs.Bounded.{outcome-exactly}
+use Rattle.runs.proofs.Joined.{flag-plan}
 use Rattle.demands.specs.Decoded.{worldOf, firstOf, boundOf}
 use Rattle.demands.specs.Planning.{transitionsIn, isFinalIn, acceptsOf}
 use Rattle.search.specs.Outcome.{lay, ReportsVerdict, Reported, isFound}
@@ -27,10 +28,6 @@ pub lay-front : (h trace : List ℕ) → length h ≤ length trace → lay trace
 lay-front [] trace l = refl
 lay-front (e ∷ h) [] l = absurd (omega arith)
 lay-front (e ∷ h) (x ∷ trace) l = ap (λ (k : List ℕ). set k 0 e) (lay-cons h x trace 0) ∙ ap (λ (k : List ℕ). e ∷ k) (lay-front h trace (omega arith))
-
-pub lay-length : (h trace : List ℕ) (n : ℕ) → length (lay trace n h) ≡ length trace
-lay-length [] trace n = refl
-lay-length (e ∷ h) trace n = length-set (lay trace (n + 1) h) n e ∙ lay-length h trace (n + 1)
 
 -- a plan that is reported from the front
 pub found-says :
@@ -54,18 +51,6 @@ pub unfound-kept : (n d : ℕ) (trace trace′ : List ℕ) (o : Outcome) (v : Ve
 unfound-kept n d trace trace′ o (plan h t) (e, l) z = absurd (true≢false (sym (ap isFound e) ∙ z))
 unfound-kept n d trace trace′ o nothing (e, l) z = l
 unfound-kept n d trace trace′ o more (e, l) z = l
-
-pub flag-plan : (cut : Bool) (v : Verdict) → isPlan (join (flagged cut) v) ≡ isPlan v
-flag-plan true (plan h t) = refl
-flag-plan true nothing = refl
-flag-plan true more = refl
-flag-plan false v = refl
-
-pub flag-plan-is : (cut : Bool) (v : Verdict) (h : List ℕ) (t : ℕ) → join (flagged cut) v ≡ plan h t → v ≡ plan h t
-flag-plan-is true (plan g u) h t e = e
-flag-plan-is true nothing h t e = cc
-flag-plan-is true more h t e = e
-flag-plan-is false v h t e = e
 
 -- replay
 pub exactly-found :

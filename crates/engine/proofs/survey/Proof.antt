@@ -80,10 +80,10 @@ returns c =
     let d = at-start .args .d in
     let long = at-tally .tally .ensures .0 .prepared .numbers-long in
     let S = counted (at-count-survey .count-survey .ensures .0) (at-count-survey .count-survey .kept .0) long (at-tally .tally .ensures .0) in
-    let F = filled d (P .flags-long) (P .numbers-long) (at-judge .judge .ensures .1) (at-judge .judge .kept .0) (at-tally .tally .ensures .1) (at-tally .tally .kept .0) in (
+    let T = filled d (P .flags-long) (P .numbers-long) (at-judge .judge .ensures .1) (at-judge .judge .kept .0) (at-tally .tally .ensures .1) (at-tally .tally .kept .0) in (
       λ left p F. tells (O .accepted) F (at-start .args .st) S
           (c .total .ensures (F .rest) (subst (λ (o : ℕ). At (F .rest) (now (at-start .args .work)) (o + header)) (sym (frame-by O d)) (F .words-are))),
-      (S, filled-then F (counted-filled (at-count-survey .count-survey .ensures .0) (at-count-survey .count-survey .kept .0) long d d) d d (omega arith) (omega arith) (omega arith) (omega arith)),
+      (S, filled-then T (counted-filled (at-count-survey .count-survey .ensures .0) (at-count-survey .count-survey .kept .0) long d d) d d (omega arith) (omega arith) (omega arith) (omega arith)),
     )
 
 pub survey-spec : {M : Type 1} → statement M

@@ -61,14 +61,14 @@ enum-known-o c = search needs
 enum-told : tie.Need-enum-told
 enum-told c = search needs
 
-unfound-requires : tie.Need-unfound-requires
-unfound-requires c κs = search needs
+not-found-requires : tie.Need-not-found-requires
+not-found-requires c κs = search needs
 
 enum-told-2 : tie.Need-enum-told-2
 enum-told-2 c = search needs
 
-unfound-requires-2 : tie.Need-unfound-requires-2
-unfound-requires-2 c κs = search needs
+not-found-requires-2 : tie.Need-not-found-requires-2
+not-found-requires-2 c κs = search needs
 
 same-length : tie.Need-same-length
 same-length c = search needs
@@ -107,7 +107,7 @@ returns-2 c =
     let p = at-start .pre in
     let none = asked-no (now (a .s)) (a .t) (a .h) (a .i) (a .window) (p .3) (omega (arith, p .1, laid _ (p .0 .of .accepted) .d)) (p .2) (at-explore .explore .ensures .0)
     (ap isFound (c .before .enum-told .given .1)) in
-    (subst (Answers (now (a .s)) (a .t) (a .h) (a .i) (a .window)) (sym (c .unfound .ensures)) none, at-explore .explore .ensures .1)
+    (subst (Answers (now (a .s)) (a .t) (a .h) (a .i) (a .window)) (sym (c .not-found .ensures)) none, at-explore .explore .ensures .1)
 
 same-length-7 : tie.Need-same-length-7
 same-length-7 c = search needs
@@ -126,7 +126,7 @@ returns-3 c =
     let p = at-start .pre in
     let none = asked-no (now (a .s)) (a .t) (a .h) (a .i) (a .window) (p .3) (omega (arith, p .1, laid _ (p .0 .of .accepted) .d)) (p .2) (at-explore .explore .ensures .0)
     (ap isFound (c .before .enum-told2 .given .1)) in
-    (subst (Answers (now (a .s)) (a .t) (a .h) (a .i) (a .window)) (sym (c .unfound2 .ensures)) none, at-explore .explore .ensures .1)
+    (subst (Answers (now (a .s)) (a .t) (a .h) (a .i) (a .window)) (sym (c .not-found2 .ensures)) none, at-explore .explore .ensures .1)
 
 pub ask-spec : {M : Type 1} → statement M
 ask-spec =
@@ -138,9 +138,9 @@ ask-spec =
     explore-requires
     enum-known-o
     enum-told
-    unfound-requires
+    not-found-requires
     enum-told-2
-    unfound-requires-2
+    not-found-requires-2
     same-length
     same-length-2
     same-length-3

@@ -12,7 +12,7 @@ use Rattle.runs.specs.Bounded.{join, flagged}
 use Rattle.search.specs.Outcome.{Reported}
 use Rattle.search.specs.Searching.{verdictFrom, Standing}
 use Rattle.search.specs.declared.Question.{Question}
-use Rattle.first.specs.Settling.{transitionsOf, FoundSoFar}
+use Rattle.first.specs.Settling.{transitionCount, FoundSoFar}
 use Rattle.first.proofs.Deepened.{any-asked, lowest, lowered, lowered-out, transitions-bounded}
 use borrow.Author.Needs.{needs}
 use Rattle.first.proofs.lower.Statement.{statement}
@@ -24,7 +24,7 @@ Inv-loop work₀ best₀ flags₀ numbers₀ s found low none fewest₀ work bes
     × Standing s work found flags numbers × (boundOf s ≤ length best) × FoundSoFar s low best fewest
 
 abbrev μ-loop : tie.MeasureT-loop
-μ-loop work₀ best₀ flags₀ numbers₀ s found low none fewest₀ work best flags numbers fewest = transitionsOf fewest
+μ-loop work₀ best₀ flags₀ numbers₀ s found low none fewest₀ work best flags numbers fewest = transitionCount fewest
 
 -- Places: what stands before a need, by name. Written by `named`: run it again when the code changes.
 abbrev start-from-loop-holds : tie.After-shared-slice-known Inv-loop μ-loop → tie.Start Inv-loop μ-loop
@@ -33,8 +33,8 @@ start-from-loop-holds c = c .before .before .before .before .before
 abbrev start-from-loop : tie.At-loop Inv-loop μ-loop → tie.Start Inv-loop μ-loop
 start-from-loop c = start-from-loop-holds (c .before)
 
-abbrev start-from-transitions-of2 : tie.After-transitions-of2 Inv-loop μ-loop → tie.Start Inv-loop μ-loop
-start-from-transitions-of2 c = start-from-loop (c .before .before .before)
+abbrev start-from-transition-count2 : tie.After-transition-count2 Inv-loop μ-loop → tie.Start Inv-loop μ-loop
+start-from-transition-count2 c = start-from-loop (c .before .before .before)
 
 abbrev any-run-from-explore-requires : tie.After-none Inv-loop μ-loop → tie.After-any-run Inv-loop μ-loop
 any-run-from-explore-requires c = c .before .before .before .before .before
@@ -42,11 +42,11 @@ any-run-from-explore-requires c = c .before .before .before .before .before
 abbrev any-run-from-explore : tie.After-explore Inv-loop μ-loop → tie.After-any-run Inv-loop μ-loop
 any-run-from-explore c = any-run-from-explore-requires (c .before)
 
-abbrev transitions-of2-from-explore : tie.After-explore Inv-loop μ-loop → tie.After-transitions-of2 Inv-loop μ-loop
-transitions-of2-from-explore c = (any-run-from-explore c) .before
+abbrev transition-count2-from-explore : tie.After-explore Inv-loop μ-loop → tie.After-transition-count2 Inv-loop μ-loop
+transition-count2-from-explore c = (any-run-from-explore c) .before
 
 abbrev loop-from-explore : tie.After-explore Inv-loop μ-loop → tie.At-loop Inv-loop μ-loop
-loop-from-explore c = (transitions-of2-from-explore c) .before .before .before
+loop-from-explore c = (transition-count2-from-explore c) .before .before .before
 
 abbrev slice-known6-from-is-found : tie.After-is-found Inv-loop μ-loop → tie.After-slice-known6 Inv-loop μ-loop
 slice-known6-from-is-found c = c .before .before .before .before .before
@@ -57,14 +57,14 @@ explore-from-is-found c = slice-known6-from-is-found c .before .before .before .
 loop-holds : tie.Need-loop-holds Inv-loop μ-loop
 loop-holds c = let p = start-from-loop-holds c .pre in (refl, refl, refl, refl, p .0, p .1, p .2)
 
-transitions-of-requires : tie.Need-transitions-of-requires Inv-loop μ-loop
-transitions-of-requires c κs = search needs
+transition-count-requires : tie.Need-transition-count-requires Inv-loop μ-loop
+transition-count-requires c κs = search needs
 
-transitions-of-requires-2 : tie.Need-transitions-of-requires-2 Inv-loop μ-loop
-transitions-of-requires-2 c κs = search needs
+transition-count-requires-2 : tie.Need-transition-count-requires-2 Inv-loop μ-loop
+transition-count-requires-2 c κs = search needs
 
 sub-left : tie.Need-sub-left Inv-loop μ-loop
-sub-left c = omega (arith, c .before .before .transitions-of .ensures, c .transitions-of2 .ensures, c .before .if1 .taken)
+sub-left c = omega (arith, c .before .before .transition-count .ensures, c .transition-count2 .ensures, c .before .if1 .taken)
 
 any-run-requires : tie.Need-any-run-requires Inv-loop μ-loop
 any-run-requires c κs = search needs
@@ -78,12 +78,12 @@ slice-aggregate-explore c = search needs
 explore-requires : tie.Need-explore-requires Inv-loop μ-loop
 explore-requires c κs =
     let at-any-run = any-run-from-explore-requires c in
-    let at-transitions-of2 = at-any-run .before in
-    let at-loop = at-transitions-of2 .before .before .before in
+    let at-transition-count2 = at-any-run .before in
+    let at-loop = at-transition-count2 .before .before .before in
     let v = at-loop .loop .inv in
     let e = ap (λ (a : Question). a .left) (at-any-run .any-run .ensures) in
     let few = transitions-bounded (v .6) in
-    let same = at-transitions-of2 .transitions-of2 .ensures in
+    let same = at-transition-count2 .transition-count2 .ensures in
     (v .4, omega (arith, e, few, same), omega (arith, e, few, same, v .5))
 
 is-found-requires : tie.Need-is-found-requires Inv-loop μ-loop
@@ -114,40 +114,40 @@ same-length-4 c =
     at-explore .explore .kept .1 .1 .1 .0 ∙ at-loop .loop .inv .3
 
 asked : (c : tie.After-explore Inv-loop μ-loop) →
-    let at-transitions-of2 = transitions-of2-from-explore c in
-    let at-loop = at-transitions-of2 .before .before .before in
+    let at-transition-count2 = transition-count2-from-explore c in
+    let at-loop = at-transition-count2 .before .before .before in
     let at-start = start-from-loop at-loop in
     Reported 0 0 (at-loop .loop .best) (c .explore .last .1 .0) (c .explore .result) (join (flagged true)
-    (verdictFrom (now (at-start .args .s)) (at-transitions-of2 .transitions-of2 .result - 1) (firstOf (now (at-start .args .s)), unguided)))
+    (verdictFrom (now (at-start .args .s)) (at-transition-count2 .transition-count2 .result - 1) (firstOf (now (at-start .args .s)), unguided)))
 asked c =
     let at-any-run = any-run-from-explore c in
-    let at-transitions-of2 = at-any-run .before in
-    let at-start = start-from-transitions-of2 at-transitions-of2 in
-    any-asked (now (at-start .args .s)) _ (at-transitions-of2 .transitions-of2 .result - 1) true (at-any-run .any-run .ensures) (c .explore .ensures .0)
+    let at-transition-count2 = at-any-run .before in
+    let at-start = start-from-transition-count2 at-transition-count2 in
+    any-asked (now (at-start .args .s)) _ (at-transition-count2 .transition-count2 .result - 1) true (at-any-run .any-run .ensures) (c .explore .ensures .0)
 
-one-more : (c : tie.After-transitions-of2 Inv-loop μ-loop) → transitionsOf (c .before .before .before .loop .fewest) ≡ suc (c .transitions-of2 .result - 1)
-one-more c = omega (arith, c .before .before .transitions-of .ensures, c .transitions-of2 .ensures, c .before .if1 .taken)
+one-more : (c : tie.After-transition-count2 Inv-loop μ-loop) → transitionCount (c .before .before .before .loop .fewest) ≡ suc (c .transition-count2 .result - 1)
+one-more c = omega (arith, c .before .before .transition-count .ensures, c .transition-count2 .ensures, c .before .if1 .taken)
 
 returns : tie.Need-returns Inv-loop μ-loop
 returns c =
     let at-explore = explore-from-is-found (c .before) in
-    let at-transitions-of2 = transitions-of2-from-explore at-explore in
-    let at-loop = at-transitions-of2 .before .before .before in
+    let at-transition-count2 = transition-count2-from-explore at-explore in
+    let at-loop = at-transition-count2 .before .before .before in
     let v = at-loop .loop .inv in
     let none = sym (c .before .is-found .ensures) ∙ not-true _ (c .if2 .taken) in
-    (lowered-out (v .6) (at-transitions-of2 .transitions-of2 .result - 1) (one-more at-transitions-of2) (asked at-explore) none, at-explore .explore .ensures .1)
+    (lowered-out (v .6) (at-transition-count2 .transition-count2 .result - 1) (one-more at-transition-count2) (asked at-explore) none, at-explore .explore .ensures .1)
 
 fewer : (c : tie.Else2 Inv-loop μ-loop) →
     let at-explore = explore-from-is-found (c .before) in
     let at-loop = loop-from-explore at-explore in
     let at-start = start-from-loop at-loop in
     FoundSoFar (now (at-start .args .s)) (at-start .args .low) (at-explore .explore .last .1 .0) (at-explore .explore .result) ×
-    (transitionsOf (at-explore .explore .result) < transitionsOf (at-loop .loop .fewest))
+    (transitionCount (at-explore .explore .result) < transitionCount (at-loop .loop .fewest))
 fewer c =
     let at-explore = explore-from-is-found (c .before) in
-    let at-transitions-of2 = transitions-of2-from-explore at-explore in
-    let at-loop = at-transitions-of2 .before .before .before in
-    lowered (at-loop .loop .inv .6) (at-transitions-of2 .transitions-of2 .result - 1) (one-more at-transitions-of2) (asked at-explore) (at-loop .loop .inv .5)
+    let at-transition-count2 = transition-count2-from-explore at-explore in
+    let at-loop = at-transition-count2 .before .before .before in
+    lowered (at-loop .loop .inv .6) (at-transition-count2 .transition-count2 .result - 1) (one-more at-transition-count2) (asked at-explore) (at-loop .loop .inv .5)
     (sym (c .before .is-found .ensures) ∙ not-false _ (c .if2 .left))
 
 loop-less : tie.Need-loop-less Inv-loop μ-loop
@@ -183,7 +183,7 @@ same-length-8 c = c .before .before .loop .inv .3
 returns-2 : tie.Need-returns-2 Inv-loop μ-loop
 returns-2 c =
     let at-loop = c .before .before in
-    (lowest (at-loop .loop .inv .6) (omega (arith, c .before .transitions-of .ensures, c .if1 .left)), at-loop .loop .inv .4)
+    (lowest (at-loop .loop .inv .6) (omega (arith, c .before .transition-count .ensures, c .if1 .left)), at-loop .loop .inv .4)
 
 pub lower-spec : {M : Type 1} → statement M
 lower-spec =
@@ -192,8 +192,8 @@ lower-spec =
     Inv-loop
     μ-loop
     loop-holds
-    transitions-of-requires
-    transitions-of-requires-2
+    transition-count-requires
+    transition-count-requires-2
     sub-left
     any-run-requires
     array-share-prefix-none

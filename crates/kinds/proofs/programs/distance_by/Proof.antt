@@ -37,11 +37,11 @@ returns-3 c = rw (c .before .match .keys3) cc
 
 returns-4 : tie.Need-returns-4
 unfolding distanceBy distanceOf
-returns-4 c = rw (c .before .match .keys4) cc
+returns-4 c = rw (c .before .match .keys4) (c .lesser .ensures)
 
 returns-5 : tie.Need-returns-5
 unfolding distanceBy distanceOf
-returns-5 c = rw (c .before .match .keys5) cc
+returns-5 c = rw (c .before .match .keys5) (c .lesser2 .ensures)
 
 returns-6 : tie.Need-returns-6
 unfolding distanceBy distanceOf
