@@ -1,6 +1,6 @@
 -- The bounds one after the other: what the search reports at one of them ends the deepening, or the next is tried. A plan that is found has the
 -- fewest transitions once no search for fewer finds one. Assumes nothing.
-use Prim.Native.Nat.{ℕ, suc, _≤_, _<_}
+use Prim.Native.Nat.{ℕ, suc, _+_, _≤_, _<_}
 use native.Mathlib.Omega.{arith}
 use mathlib.Core.Bool.{Bool, true, false, true≢false}
 use mathlib.Core.List.{List}
@@ -50,6 +50,21 @@ pub record Tried (s : List ℕ) (low : ℕ) : Type 0 where
 
 pub tried-none : (s : List ℕ) → Tried s 0
 tried-none s = record { none-so-far = so-far-none (Goes (worldOf s)) (Ends (worldOf s)) (boundOf s) (firstOf s) }
+
+-- the bound is raised: beyond those tried, at most one past d, with room for a plan
+pub record Raising (s best₀ best : List ℕ) (d low step : ℕ) : Type 0 where
+  pub best-long : length best ≡ length best₀
+  pub bound : d ≡ boundOf s
+  pub room : d ≤ length best
+  pub tried : Tried s low
+  pub inside : low ≤ d + 1
+  pub step-on : 1 ≤ step
+
+-- a plan of fewer transitions is sought than that of the plan at hand
+pub record Lowering (s best₀ best : List ℕ) (low : ℕ) (fewest : Outcome) : Type 0 where
+  pub best-long : length best ≡ length best₀
+  pub room : boundOf s ≤ length best
+  pub so-far : FoundSoFar s low best fewest
 
 module _ {s : List ℕ} {low : ℕ} (T : Tried s low) (t : ℕ) (l : t ≤ boundOf s) {trace trace′ : List ℕ} {o : Outcome}
     (R : Reported 0 0 trace trace′ o (verdictFrom s t (firstOf s, unguided))) where

@@ -1,4 +1,5 @@
 pub mod Histories
+pub mod Kept
 pub mod Asking
 pub mod Deepened
 pub mod Settled

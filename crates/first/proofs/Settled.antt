@@ -30,6 +30,12 @@ pub record Narrowing (s : List ℕ) (t i low : ℕ) (h : History) : Type 0 where
   pub within : Within h
   pub narrowed : Narrowed (Goes (worldOf s)) (Ends (worldOf s)) t (firstOf s) i low (historyOf h)
 
+-- the next window begins where that is known, and ends at most at the rank at hand, and past its beginning while that is below
+pub record Halving (s : List ℕ) (t i low high : ℕ) (h : History) : Type 0 where
+  pub narrowing : Narrowing s t i low h
+  pub at-most : high ≤ rankOf h i
+  pub past : low < rankOf h i → low < high
+
 module _ {s : List ℕ} {t i : ℕ} {h : History} where
   pub narrowing-none : i ≤ h .n → Settled s t i h → Narrowing s t i 0 h
   narrowing-none l S =

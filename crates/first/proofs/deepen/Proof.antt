@@ -1,28 +1,27 @@
 -- At each bound the search stands ready and the bounds below are tried; the next one is higher, and at most D. Assumes nothing.
 use denote.Ref.{now}
-use Prim.Native.Nat.{suc, _+_, _-_, _≤_}
+use Prim.Native.Nat.{suc, _+_, _-_}
 use native.Mathlib.Omega.{arith}
 use native.Mathlib.Numerals.{add-one}
 use mathlib.Core.Bool.{false}
 use mathlib.Core.Path.{_≡_, refl, sym, _∙_, ap, subst}
 use borrow.Author.Tests.{not-true, not-false}
-use lib.ListN.{length}
 use Rattle.sheet.specs.declared.Layout.{Layout}
 use Rattle.sheet.proofs.Accepted.{laid}
 use Rattle.demands.specs.Decoded.{firstOf, boundOf}
 use Rattle.runs.specs.Guide.{unguided}
 use Rattle.search.specs.Outcome.{Reported}
-use Rattle.search.specs.Searching.{verdictFrom, Standing}
+use Rattle.search.specs.Searching.{verdictFrom}
 use Rattle.search.specs.declared.Question.{Question}
-use Rattle.first.proofs.Deepened.{any-asked, Tried, tried-none, tried-on, tried-out, all-tried}
+use Rattle.first.proofs.Kept.{Kept, kept-first, kept-on}
+use Rattle.first.proofs.Deepened.{any-asked, Tried, Raising, tried-none, tried-on, tried-out, all-tried}
 use borrow.Author.Needs.{needs}
 use Rattle.first.proofs.deepen.Statement.{statement}
 use Rattle.first.proofs.deepen.Tie as tie
 
 abbrev Inv-loop : tie.InvT-loop
 Inv-loop work₀ best₀ flags₀ numbers₀ s found d none low₀ step₀ before₀ work best flags numbers low step before =
-    (length work ≡ length work₀) × (length best ≡ length best₀) × (length flags ≡ length flags₀) × (length numbers ≡ length numbers₀)
-    × Standing s work found flags numbers × (d ≡ boundOf s) × (d ≤ length best) × Tried s low × (low ≤ d + 1) × (1 ≤ step)
+    Kept s found work₀ flags₀ numbers₀ work flags numbers × Raising s best₀ best d low step
 
 abbrev μ-loop : tie.MeasureT-loop
 μ-loop work₀ best₀ flags₀ numbers₀ s found d none low₀ step₀ before₀ work best flags numbers low step before = d + 1 - low
@@ -74,14 +73,16 @@ loop-holds : tie.Need-loop-holds Inv-loop μ-loop
 loop-holds c =
     let at-start = start-from-loop-holds c in
     let p = at-start .pre in
-    let e = ap (λ (l : Layout). l .d) (p .0 .of .layout-is) in
-    (refl, refl, refl, refl, p .0, e, omega (arith, e, p .1), tried-none (now (at-start .args .s)), omega arith, omega arith)
+    let e = ap (λ (l : Layout). l .d) (p .0 .of .layout-is) in (
+      kept-first (p .0),
+      record { best-long = refl; bound = e; room = omega (arith, e, p .1); tried = tried-none (now (at-start .args .s)); inside = omega arith; step-on = omega arith },
+    )
 
 bound-from-requires : tie.Need-bound-from-requires Inv-loop μ-loop
-bound-from-requires c κs = (c .loop-test .taken, c .before .loop .inv .9)
+bound-from-requires c κs = (c .loop-test .taken, c .before .loop .inv .1 .step-on)
 
 surveys-requires : tie.Need-surveys-requires Inv-loop μ-loop
-surveys-requires c κs = c .before .before .before .loop .inv .4 .prepared .numbers-long
+surveys-requires c κs = c .before .before .before .loop .inv .0 .standing .prepared .numbers-long
 
 any-run-requires : tie.Need-any-run-requires Inv-loop μ-loop
 any-run-requires c κs = search needs
@@ -100,7 +101,7 @@ explore-requires c κs =
     let v = at-loop .loop .inv in
     let e = ap (λ (a : Question). a .left) (at-any-run .any-run .ensures) in
     let few = at-bound-from .bound-from .ensures .1 in
-    (v .4, omega (arith, e, few, v .5), omega (arith, e, few, v .6))
+    (v .0 .standing, omega (arith, e, few, v .1 .bound), omega (arith, e, few, v .1 .room))
 
 is-more-requires : tie.Need-is-more-requires Inv-loop μ-loop
 is-more-requires c κs = search needs
@@ -126,40 +127,40 @@ lower-requires c κs =
     let at-explore = explore-from-is-more at-is-more in
     let at-bound-from = bound-from-from-explore at-explore in
     let at-loop = at-bound-from .before .before in
-    let v = at-loop .loop .inv in
-    let z = at-bound-from .bound-from .ensures in
-    let R = asked at-explore in
-    let out = tried-out (v .7) (at-bound-from .bound-from .result) (omega (arith, z .1, v .5)) R (omega (arith, z .1, v .6)) (sym (at-is-more .is-more .ensures) ∙ not-true _ (at-if1 .if1 .taken))
-    in
-    (at-explore .explore .ensures .1, omega (arith, at-explore .explore .kept .1 .0, v .5, v .6), out)
+    let B = at-loop .loop .inv .1 in
+    let t = at-bound-from .bound-from .result in
+    let few = at-bound-from .bound-from .ensures .1 in
+    let stops = sym (at-is-more .is-more .ensures) ∙ not-true _ (at-if1 .if1 .taken) in
+    let out = tried-out (B .tried) t (omega (arith, few, B .bound)) (asked at-explore) (omega (arith, few, B .room)) stops in
+    (at-explore .explore .ensures .1, omega (arith, at-explore .explore .kept .1 .0, B .bound, B .room), out)
 
 same-length : tie.Need-same-length Inv-loop μ-loop
 same-length c =
     let at-lower = lower-from-same-length c in
     let at-explore = explore-from-lower at-lower in
     let at-loop = loop-from-explore at-explore in
-    at-lower .lower .kept .0 ∙ at-explore .explore .kept .0 ∙ at-loop .loop .inv .0
+    at-lower .lower .kept .0 ∙ at-explore .explore .kept .0 ∙ at-loop .loop .inv .0 .work-long
 
 same-length-2 : tie.Need-same-length-2 Inv-loop μ-loop
 same-length-2 c =
     let at-lower = lower-from-same-length c in
     let at-explore = explore-from-lower at-lower in
     let at-loop = loop-from-explore at-explore in
-    at-lower .lower .kept .1 .0 ∙ at-explore .explore .kept .1 .0 ∙ at-loop .loop .inv .1
+    at-lower .lower .kept .1 .0 ∙ at-explore .explore .kept .1 .0 ∙ at-loop .loop .inv .1 .best-long
 
 same-length-3 : tie.Need-same-length-3 Inv-loop μ-loop
 same-length-3 c =
     let at-lower = lower-from-same-length c in
     let at-explore = explore-from-lower at-lower in
     let at-loop = loop-from-explore at-explore in
-    at-lower .lower .kept .1 .1 .0 ∙ at-explore .explore .kept .1 .1 .0 ∙ at-loop .loop .inv .2
+    at-lower .lower .kept .1 .1 .0 ∙ at-explore .explore .kept .1 .1 .0 ∙ at-loop .loop .inv .0 .flags-long
 
 same-length-4 : tie.Need-same-length-4 Inv-loop μ-loop
 same-length-4 c =
     let at-lower = lower-from-same-length c in
     let at-explore = explore-from-lower at-lower in
     let at-loop = loop-from-explore at-explore in
-    at-lower .lower .kept .1 .1 .1 .0 ∙ at-explore .explore .kept .1 .1 .1 .0 ∙ at-loop .loop .inv .3
+    at-lower .lower .kept .1 .1 .1 .0 ∙ at-explore .explore .kept .1 .1 .1 .0 ∙ at-loop .loop .inv .0 .numbers-long
 
 returns : tie.Need-returns Inv-loop μ-loop
 returns c = lower-from-same-length c .lower .ensures
@@ -174,7 +175,7 @@ add-next-step : tie.Need-add-next-step Inv-loop μ-loop
 add-next-step c =
     let at-bound-from = bound-from-from-else1 (c .before .before .before) in
     let at-loop = at-bound-from .before .before in
-    omega (arith, at-loop .loop .inv .5, laid _ (at-loop .loop .inv .4 .of .accepted) .d, at-bound-from .bound-from .ensures .1)
+    omega (arith, at-loop .loop .inv .1 .bound, laid _ (at-loop .loop .inv .0 .standing .of .accepted) .d, at-bound-from .bound-from .ensures .1)
 
 sub-next-step : tie.Need-sub-next-step Inv-loop μ-loop
 sub-next-step c = omega (arith, bound-from-from-else1 (c .before .before .before) .bound-from .ensures .0)
@@ -186,7 +187,7 @@ add-low : tie.Need-add-low Inv-loop μ-loop
 add-low c =
     let at-bound-from = bound-from-from-else1 (c .before .before .before .before) in
     let at-loop = at-bound-from .before .before in
-    omega (arith, at-loop .loop .inv .5, laid _ (at-loop .loop .inv .4 .of .accepted) .d, at-bound-from .bound-from .ensures .1)
+    omega (arith, at-loop .loop .inv .1 .bound, laid _ (at-loop .loop .inv .0 .standing .of .accepted) .d, at-bound-from .bound-from .ensures .1)
 
 loop-less : tie.Need-loop-less Inv-loop μ-loop
 loop-less c =
@@ -202,42 +203,42 @@ loop-again c =
     let at-bound-from = bound-from-from-explore at-explore in
     let at-loop = at-bound-from .before .before in
     let at-start = start-from-loop at-loop in
-    let v = at-loop .loop .inv in
-    let z = at-bound-from .bound-from .ensures in
-    let R = asked at-explore in
-    let on = tried-on (v .7) (at-bound-from .bound-from .result) (omega (arith, z .1, v .5)) R (sym (at-is-more .is-more .ensures) ∙ not-false _ (at-if1 .if1 .left)) in
-    let long = at-explore .explore .kept .1 .0 in (
-      at-explore .explore .kept .0 ∙ v .0,
-      long ∙ v .1,
-      at-explore .explore .kept .1 .1 .0 ∙ v .2,
-      at-explore .explore .kept .1 .1 .1 .0 ∙ v .3,
-      at-explore .explore .ensures .1,
-      v .5,
-      omega (arith, long, v .6),
-      subst (Tried (now (at-start .args .s))) (sym (add-one (at-bound-from .bound-from .result))) on,
-      omega (arith, z .1),
-      c .next-step .ensures,
+    let B = at-loop .loop .inv .1 in
+    let t = at-bound-from .bound-from .result in
+    let few = at-bound-from .bound-from .ensures .1 in
+    let goes = sym (at-is-more .is-more .ensures) ∙ not-false _ (at-if1 .if1 .left) in
+    let on = tried-on (B .tried) t (omega (arith, few, B .bound)) (asked at-explore) goes in
+    let k = at-explore .explore .kept in (
+      kept-on (at-loop .loop .inv .0) (k .0) (k .1 .1 .0) (k .1 .1 .1 .0) (at-explore .explore .ensures .1),
+      record {
+        best-long = k .1 .0 ∙ B .best-long;
+        bound = B .bound;
+        room = omega (arith, k .1 .0, B .room);
+        tried = subst (Tried (now (at-start .args .s))) (sym (add-one t)) on;
+        inside = omega (arith, few);
+        step-on = c .next-step .ensures;
+      },
     )
 
 same-length-5 : tie.Need-same-length-5 Inv-loop μ-loop
-same-length-5 c = c .before .loop .inv .0
+same-length-5 c = c .before .loop .inv .0 .work-long
 
 same-length-6 : tie.Need-same-length-6 Inv-loop μ-loop
-same-length-6 c = c .before .loop .inv .1
+same-length-6 c = c .before .loop .inv .1 .best-long
 
 same-length-7 : tie.Need-same-length-7 Inv-loop μ-loop
-same-length-7 c = c .before .loop .inv .2
+same-length-7 c = c .before .loop .inv .0 .flags-long
 
 same-length-8 : tie.Need-same-length-8 Inv-loop μ-loop
-same-length-8 c = c .before .loop .inv .3
+same-length-8 c = c .before .loop .inv .0 .numbers-long
 
 returns-2 : tie.Need-returns-2 Inv-loop μ-loop
 returns-2 c =
     let at-loop = c .before in
     let at-start = start-from-loop at-loop in
-    let v = at-loop .loop .inv in
-    let e : at-loop .loop .low ≡ suc (boundOf (now (at-start .args .s))) = omega (arith, v .5, v .8, c .loop-test .left) in
-    (all-tried (at-loop .loop .best) (subst (Tried (now (at-start .args .s))) e (v .7)), v .4)
+    let B = at-loop .loop .inv .1 in
+    let e : at-loop .loop .low ≡ suc (boundOf (now (at-start .args .s))) = omega (arith, B .bound, B .inside, c .loop-test .left) in
+    (all-tried (at-loop .loop .best) (subst (Tried (now (at-start .args .s))) e (B .tried)), at-loop .loop .inv .0 .standing)
 
 pub deepen-spec : {M : Type 1} → statement M
 deepen-spec =

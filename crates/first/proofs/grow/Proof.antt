@@ -1,10 +1,8 @@
 -- One entry more is settled at each turn, and there are at most 64. Assumes nothing.
 use Prim.Native.Nat.{_-_, _≤_}
 use native.Mathlib.Omega.{arith}
-use mathlib.Core.Path.{_≡_, refl, _∙_}
-use lib.ListN.{length}
-use Rattle.search.specs.Searching.{Standing}
 use Rattle.first.specs.Settling.{CanSettle, Settled}
+use Rattle.first.proofs.Kept.{Kept, kept-first, kept-on}
 use Rattle.first.proofs.Settled.{settled-first}
 use borrow.Author.Needs.{needs}
 use Rattle.first.proofs.grow.Statement.{statement}
@@ -12,14 +10,13 @@ use Rattle.first.proofs.grow.Tie as tie
 
 abbrev Inv-loop : tie.InvT-loop
 Inv-loop work₀ flags₀ numbers₀ s found t best₀ i₀ work flags numbers best i =
-    (length work ≡ length work₀) × (length flags ≡ length flags₀) × (length numbers ≡ length numbers₀) × Standing s work found flags numbers
-    × CanSettle s t × Settled s t i best × (i ≤ 64)
+    Kept s found work₀ flags₀ numbers₀ work flags numbers × CanSettle s t × Settled s t i best × (i ≤ 64)
 
 abbrev μ-loop : tie.MeasureT-loop
 μ-loop work₀ flags₀ numbers₀ s found t best₀ i₀ work flags numbers best i = 64 - i
 
 loop-holds : tie.Need-loop-holds Inv-loop μ-loop
-loop-holds c = let p = c .before .before .before .before .pre in (refl, refl, refl, p .0, p .1, p .2, omega arith)
+loop-holds c = let p = c .before .before .before .before .pre in (kept-first (p .0), p .1, p .2, omega arith)
 
 -- Places: what stands before a need, by name. Written by `named`: run it again when the code changes.
 abbrev loop-from-then1 : tie.Then1 Inv-loop μ-loop → tie.At-loop Inv-loop μ-loop
@@ -32,7 +29,7 @@ abbrev if1-from-loop-less : tie.After-slice-known6 Inv-loop μ-loop → tie.Then
 if1-from-loop-less c = (narrow-from-loop-less c) .before .before .before .before
 
 narrow-requires : tie.Need-narrow-requires Inv-loop μ-loop
-narrow-requires c κs = let v = loop-from-then1 (c .before .before .before) .loop .inv in (v .3, v .4, v .5, omega arith)
+narrow-requires c κs = let v = loop-from-then1 (c .before .before .before) .loop .inv in (v .0 .standing, v .1, v .2, omega arith)
 
 add-settled : tie.Need-add-settled Inv-loop μ-loop
 add-settled c = search needs
@@ -41,36 +38,30 @@ loop-less : tie.Need-loop-less Inv-loop μ-loop
 loop-less c =
     let at-if1 = if1-from-loop-less c in
     let at-loop = at-if1 .before .before in
-    omega (arith, at-loop .loop .inv .5 .within .few, at-if1 .if1 .taken)
+    omega (arith, at-loop .loop .inv .2 .within .few, at-if1 .if1 .taken)
 
 loop-again : tie.Need-loop-again Inv-loop μ-loop
 loop-again c =
     let at-narrow = narrow-from-loop-less c in
     let at-if1 = at-narrow .before .before .before .before in
     let at-loop = at-if1 .before .before in
-    let v = at-loop .loop .inv in (
-      at-narrow .narrow .kept .0 ∙ v .0,
-      at-narrow .narrow .kept .1 .0 ∙ v .1,
-      at-narrow .narrow .kept .1 .1 .0 ∙ v .2,
-      at-narrow .narrow .ensures .1,
-      v .4,
-      at-narrow .narrow .ensures .0,
-      omega (arith, at-loop .loop .inv .5 .within .few, at-if1 .if1 .taken),
-    )
+    let v = at-loop .loop .inv in
+    let k = at-narrow .narrow .kept in
+    (kept-on (v .0) (k .0) (k .1 .0) (k .1 .1 .0) (at-narrow .narrow .ensures .1), v .1, at-narrow .narrow .ensures .0, omega (arith, v .2 .within .few, at-if1 .if1 .taken))
 
 same-length : tie.Need-same-length Inv-loop μ-loop
-same-length c = c .before .before .loop .inv .0
+same-length c = c .before .before .loop .inv .0 .work-long
 
 same-length-2 : tie.Need-same-length-2 Inv-loop μ-loop
-same-length-2 c = c .before .before .loop .inv .1
+same-length-2 c = c .before .before .loop .inv .0 .flags-long
 
 same-length-3 : tie.Need-same-length-3 Inv-loop μ-loop
-same-length-3 c = c .before .before .loop .inv .2
+same-length-3 c = c .before .before .loop .inv .0 .numbers-long
 
 returns : tie.Need-returns Inv-loop μ-loop
 returns c =
     let v = c .before .before .loop .inv in
-    ((v .5 .within, settled-first (v .4) (v .5) (c .if1 .left)), v .3)
+    ((v .2 .within, settled-first (v .1) (v .2) (c .if1 .left)), v .0 .standing)
 
 pub grow-spec : {M : Type 1} → statement M
 grow-spec =

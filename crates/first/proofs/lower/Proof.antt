@@ -1,27 +1,26 @@
 -- A plan of fewer transitions takes the place of the one at hand, until there is none, by the laws of Deepened. Assumes nothing.
 use denote.Ref.{now}
-use Prim.Native.Nat.{suc, _-_, _≤_, _<_}
+use Prim.Native.Nat.{suc, _-_, _<_}
 use native.Mathlib.Omega.{arith}
 use mathlib.Core.Bool.{true}
 use mathlib.Core.Path.{_≡_, refl, sym, _∙_, ap}
 use borrow.Author.Tests.{not-true, not-false}
-use lib.ListN.{length}
-use Rattle.demands.specs.Decoded.{firstOf, boundOf}
+use Rattle.demands.specs.Decoded.{firstOf}
 use Rattle.runs.specs.Guide.{unguided}
 use Rattle.runs.specs.Bounded.{join, flagged}
 use Rattle.search.specs.Outcome.{Reported}
-use Rattle.search.specs.Searching.{verdictFrom, Standing}
+use Rattle.search.specs.Searching.{verdictFrom}
 use Rattle.search.specs.declared.Question.{Question}
 use Rattle.first.specs.Settling.{transitionCount, FoundSoFar}
-use Rattle.first.proofs.Deepened.{any-asked, lowest, lowered, lowered-out, transitions-bounded}
+use Rattle.first.proofs.Kept.{Kept, kept-first, kept-on}
+use Rattle.first.proofs.Deepened.{any-asked, Lowering, lowest, lowered, lowered-out, transitions-bounded}
 use borrow.Author.Needs.{needs}
 use Rattle.first.proofs.lower.Statement.{statement}
 use Rattle.first.proofs.lower.Tie as tie
 
 abbrev Inv-loop : tie.InvT-loop
 Inv-loop work₀ best₀ flags₀ numbers₀ s found low none fewest₀ work best flags numbers fewest =
-    (length work ≡ length work₀) × (length best ≡ length best₀) × (length flags ≡ length flags₀) × (length numbers ≡ length numbers₀)
-    × Standing s work found flags numbers × (boundOf s ≤ length best) × FoundSoFar s low best fewest
+    Kept s found work₀ flags₀ numbers₀ work flags numbers × Lowering s best₀ best low fewest
 
 abbrev μ-loop : tie.MeasureT-loop
 μ-loop work₀ best₀ flags₀ numbers₀ s found low none fewest₀ work best flags numbers fewest = transitionCount fewest
@@ -55,7 +54,7 @@ abbrev explore-from-is-found : tie.After-is-found Inv-loop μ-loop → tie.After
 explore-from-is-found c = slice-known6-from-is-found c .before .before .before .before
 
 loop-holds : tie.Need-loop-holds Inv-loop μ-loop
-loop-holds c = let p = start-from-loop-holds c .pre in (refl, refl, refl, refl, p .0, p .1, p .2)
+loop-holds c = let p = start-from-loop-holds c .pre in (kept-first (p .0), record { best-long = refl; room = p .1; so-far = p .2 })
 
 transition-count-requires : tie.Need-transition-count-requires Inv-loop μ-loop
 transition-count-requires c κs = search needs
@@ -82,9 +81,9 @@ explore-requires c κs =
     let at-loop = at-transition-count2 .before .before .before in
     let v = at-loop .loop .inv in
     let e = ap (λ (a : Question). a .left) (at-any-run .any-run .ensures) in
-    let few = transitions-bounded (v .6) in
+    let few = transitions-bounded (v .1 .so-far) in
     let same = at-transition-count2 .transition-count2 .ensures in
-    (v .4, omega (arith, e, few, same), omega (arith, e, few, same, v .5))
+    (v .0 .standing, omega (arith, e, few, same), omega (arith, e, few, same, v .1 .room))
 
 is-found-requires : tie.Need-is-found-requires Inv-loop μ-loop
 is-found-requires c κs = search needs
@@ -93,25 +92,25 @@ same-length : tie.Need-same-length Inv-loop μ-loop
 same-length c =
     let at-explore = explore-from-is-found (c .before) in
     let at-loop = loop-from-explore at-explore in
-    at-explore .explore .kept .0 ∙ at-loop .loop .inv .0
+    at-explore .explore .kept .0 ∙ at-loop .loop .inv .0 .work-long
 
 same-length-2 : tie.Need-same-length-2 Inv-loop μ-loop
 same-length-2 c =
     let at-explore = explore-from-is-found (c .before) in
     let at-loop = loop-from-explore at-explore in
-    at-explore .explore .kept .1 .0 ∙ at-loop .loop .inv .1
+    at-explore .explore .kept .1 .0 ∙ at-loop .loop .inv .1 .best-long
 
 same-length-3 : tie.Need-same-length-3 Inv-loop μ-loop
 same-length-3 c =
     let at-explore = explore-from-is-found (c .before) in
     let at-loop = loop-from-explore at-explore in
-    at-explore .explore .kept .1 .1 .0 ∙ at-loop .loop .inv .2
+    at-explore .explore .kept .1 .1 .0 ∙ at-loop .loop .inv .0 .flags-long
 
 same-length-4 : tie.Need-same-length-4 Inv-loop μ-loop
 same-length-4 c =
     let at-explore = explore-from-is-found (c .before) in
     let at-loop = loop-from-explore at-explore in
-    at-explore .explore .kept .1 .1 .1 .0 ∙ at-loop .loop .inv .3
+    at-explore .explore .kept .1 .1 .1 .0 ∙ at-loop .loop .inv .0 .numbers-long
 
 asked : (c : tie.After-explore Inv-loop μ-loop) →
     let at-transition-count2 = transition-count2-from-explore c in
@@ -133,9 +132,9 @@ returns c =
     let at-explore = explore-from-is-found (c .before) in
     let at-transition-count2 = transition-count2-from-explore at-explore in
     let at-loop = at-transition-count2 .before .before .before in
-    let v = at-loop .loop .inv in
+    let found = at-loop .loop .inv .1 .so-far in
     let none = sym (c .before .is-found .ensures) ∙ not-true _ (c .if2 .taken) in
-    (lowered-out (v .6) (at-transition-count2 .transition-count2 .result - 1) (one-more at-transition-count2) (asked at-explore) none, at-explore .explore .ensures .1)
+    (lowered-out found (at-transition-count2 .transition-count2 .result - 1) (one-more at-transition-count2) (asked at-explore) none, at-explore .explore .ensures .1)
 
 fewer : (c : tie.Else2 Inv-loop μ-loop) →
     let at-explore = explore-from-is-found (c .before) in
@@ -147,7 +146,8 @@ fewer c =
     let at-explore = explore-from-is-found (c .before) in
     let at-transition-count2 = transition-count2-from-explore at-explore in
     let at-loop = at-transition-count2 .before .before .before in
-    lowered (at-loop .loop .inv .6) (at-transition-count2 .transition-count2 .result - 1) (one-more at-transition-count2) (asked at-explore) (at-loop .loop .inv .5)
+    let L = at-loop .loop .inv .1 in
+    lowered (L .so-far) (at-transition-count2 .transition-count2 .result - 1) (one-more at-transition-count2) (asked at-explore) (L .room)
     (sym (c .before .is-found .ensures) ∙ not-false _ (c .if2 .left))
 
 loop-less : tie.Need-loop-less Inv-loop μ-loop
@@ -157,33 +157,28 @@ loop-again : tie.Need-loop-again Inv-loop μ-loop
 loop-again c =
     let at-explore = explore-from-is-found (c .before) in
     let at-loop = loop-from-explore at-explore in
-    let v = at-loop .loop .inv in
-    let long = at-explore .explore .kept .1 .0 in (
-      at-explore .explore .kept .0 ∙ v .0,
-      long ∙ v .1,
-      at-explore .explore .kept .1 .1 .0 ∙ v .2,
-      at-explore .explore .kept .1 .1 .1 .0 ∙ v .3,
-      at-explore .explore .ensures .1,
-      omega (arith, long, v .5),
-      fewer c .0,
+    let L = at-loop .loop .inv .1 in
+    let k = at-explore .explore .kept in (
+      kept-on (at-loop .loop .inv .0) (k .0) (k .1 .1 .0) (k .1 .1 .1 .0) (at-explore .explore .ensures .1),
+      record { best-long = k .1 .0 ∙ L .best-long; room = omega (arith, k .1 .0, L .room); so-far = fewer c .0 },
     )
 
 same-length-5 : tie.Need-same-length-5 Inv-loop μ-loop
-same-length-5 c = c .before .before .loop .inv .0
+same-length-5 c = c .before .before .loop .inv .0 .work-long
 
 same-length-6 : tie.Need-same-length-6 Inv-loop μ-loop
-same-length-6 c = c .before .before .loop .inv .1
+same-length-6 c = c .before .before .loop .inv .1 .best-long
 
 same-length-7 : tie.Need-same-length-7 Inv-loop μ-loop
-same-length-7 c = c .before .before .loop .inv .2
+same-length-7 c = c .before .before .loop .inv .0 .flags-long
 
 same-length-8 : tie.Need-same-length-8 Inv-loop μ-loop
-same-length-8 c = c .before .before .loop .inv .3
+same-length-8 c = c .before .before .loop .inv .0 .numbers-long
 
 returns-2 : tie.Need-returns-2 Inv-loop μ-loop
 returns-2 c =
     let at-loop = c .before .before in
-    (lowest (at-loop .loop .inv .6) (omega (arith, c .before .transition-count .ensures, c .if1 .left)), at-loop .loop .inv .4)
+    (lowest (at-loop .loop .inv .1 .so-far) (omega (arith, c .before .transition-count .ensures, c .if1 .left)), at-loop .loop .inv .0 .standing)
 
 pub lower-spec : {M : Type 1} → statement M
 lower-spec =

@@ -1,22 +1,20 @@
 -- While what is known is below the rank at hand, the next window ends between them; each answer brings them nearer, by the law of Settled.
 -- Assumes nothing.
 use denote.Ref.{now}
-use Prim.Native.Nat.{_-_, _≤_, _<_}
+use Prim.Native.Nat.{_-_, _<_}
 use native.Mathlib.Omega.{arith}
 use mathlib.Core.Logic.{⊎-elim, inl, inr}
-use mathlib.Core.Path.{_≡_, refl, _∙_}
+use mathlib.Core.Path.{refl}
 use borrow.Author.Tests.{not-true, not-false}
-use lib.ListN.{length}
-use Rattle.search.specs.Searching.{Standing}
 use Rattle.first.specs.Settling.{CanSettle}
-use Rattle.first.proofs.Settled.{rankOf, Narrowing, narrowing-none, narrowing-inside, narrowing-on, narrowing-met}
+use Rattle.first.proofs.Kept.{Kept, kept-first, kept-on}
+use Rattle.first.proofs.Settled.{rankOf, Narrowing, Halving, narrowing-none, narrowing-inside, narrowing-on, narrowing-met}
 use Rattle.first.proofs.narrow.Statement.{statement}
 use Rattle.first.proofs.narrow.Tie as tie
 
 abbrev Inv-loop : tie.InvT-loop
 Inv-loop work₀ flags₀ numbers₀ s found t i best₀ low₀ high₀ work flags numbers best low high =
-    (length work ≡ length work₀) × (length flags ≡ length flags₀) × (length numbers ≡ length numbers₀) × Standing s work found flags numbers
-    × CanSettle s t × Narrowing s t i low best × (high ≤ rankOf best i) × (low < rankOf best i → low < high)
+    Kept s found work₀ flags₀ numbers₀ work flags numbers × CanSettle s t × Halving s t i low high best
 
 abbrev μ-loop : tie.MeasureT-loop
 μ-loop work₀ flags₀ numbers₀ s found t i best₀ low₀ high₀ work flags numbers best low high = rankOf best i - low
@@ -53,15 +51,15 @@ loop-holds : tie.Need-loop-holds Inv-loop μ-loop
 loop-holds c =
     let p = start-from-loop-holds c .pre in
     let e = c .rank-at .ensures .0 in
-    (refl, refl, refl, p .0, p .1, narrowing-none (p .3) (p .2), omega (arith, e), λ l. omega (arith, e, l))
+    (kept-first (p .0), p .1, record { narrowing = narrowing-none (p .3) (p .2); at-most = omega (arith, e); past = λ l. omega (arith, e, l) })
 
 rank-at-requires-2 : tie.Need-rank-at-requires-2 Inv-loop μ-loop
-rank-at-requires-2 c κs = c .loop .inv .5 .within
+rank-at-requires-2 c κs = c .loop .inv .2 .narrowing .within
 
 ask-requires : tie.Need-ask-requires Inv-loop μ-loop
 ask-requires c κs =
     let v = loop-from-then1 (c .before .before .before) .loop .inv in
-    (v .3, v .4 .bounded, v .5 .within, narrowing-inside (v .5))
+    (v .0 .standing, v .1 .bounded, v .2 .narrowing .within, narrowing-inside (v .2 .narrowing))
 
 below : (c : tie.Then1 Inv-loop μ-loop) → c .before .before .loop .low < rankOf (c .before .before .loop .best) (start-from-then1 c .args .i)
 below c = omega (arith, c .before .rank-at2 .ensures .0, c .if1 .taken)
@@ -76,8 +74,9 @@ nearer c =
     let at-ask = ask-from-joined2 c in
     let at-if1 = at-ask .before .before .before .before in
     let at-loop = at-if1 .before .before in
-    narrowing-on (at-loop .loop .inv .5) record { low = at-loop .loop .low; high = at-loop .loop .high } (c .if2 .low) (at-loop .loop .inv .4) refl (at-loop .loop .inv .7 (below at-if1))
-    (at-loop .loop .inv .6) (at-ask .ask .ensures .0) (⊎-elim (λ w. inr (not-true _ (w .0 .taken), w .1)) (λ w. inl (not-false _ (w .0 .left), w .1)) (c .if2 .came))
+    let H = at-loop .loop .inv .2 in
+    narrowing-on (H .narrowing) record { low = at-loop .loop .low; high = at-loop .loop .high } (c .if2 .low) (at-loop .loop .inv .1) refl (H .past (below at-if1))
+    (H .at-most) (at-ask .ask .ensures .0) (⊎-elim (λ w. inr (not-true _ (w .0 .taken), w .1)) (λ w. inl (not-false _ (w .0 .left), w .1)) (c .if2 .came))
 
 rank-at-requires-3 : tie.Need-rank-at-requires-3 Inv-loop μ-loop
 rank-at-requires-3 c κs = nearer c .0 .within
@@ -93,30 +92,26 @@ loop-again c =
     let at-ask = ask-from-rank-at3 (c .before) in
     let v = loop-from-ask at-ask .loop .inv in
     let e = c .before .rank-at3 .ensures .0 in
-    let m = c .middle .ensures in (
-      at-ask .ask .kept .0 ∙ v .0,
-      at-ask .ask .kept .1 .0 ∙ v .1,
-      at-ask .ask .kept .1 .1 .0 ∙ v .2,
-      at-ask .ask .ensures .1,
-      v .4,
-      nearer (c .before .before) .0,
-      omega (arith, e, m .0),
-      λ k. m .1 (omega (arith, e, k)),
+    let m = c .middle .ensures in
+    let k = at-ask .ask .kept in (
+      kept-on (v .0) (k .0) (k .1 .0) (k .1 .1 .0) (at-ask .ask .ensures .1),
+      v .1,
+      record { narrowing = nearer (c .before .before) .0; at-most = omega (arith, e, m .0); past = λ k. m .1 (omega (arith, e, k)) },
     )
 
 same-length : tie.Need-same-length Inv-loop μ-loop
-same-length c = c .before .before .loop .inv .0
+same-length c = c .before .before .loop .inv .0 .work-long
 
 same-length-2 : tie.Need-same-length-2 Inv-loop μ-loop
-same-length-2 c = c .before .before .loop .inv .1
+same-length-2 c = c .before .before .loop .inv .0 .flags-long
 
 same-length-3 : tie.Need-same-length-3 Inv-loop μ-loop
-same-length-3 c = c .before .before .loop .inv .2
+same-length-3 c = c .before .before .loop .inv .0 .numbers-long
 
 returns : tie.Need-returns Inv-loop μ-loop
 returns c =
     let at-loop = c .before .before in
-    (narrowing-met (at-loop .loop .inv .5) (omega (arith, c .before .rank-at2 .ensures .0, c .if1 .left)), at-loop .loop .inv .3)
+    (narrowing-met (at-loop .loop .inv .2 .narrowing) (omega (arith, c .before .rank-at2 .ensures .0, c .if1 .left)), at-loop .loop .inv .0 .standing)
 
 pub narrow-spec : {M : Type 1} → statement M
 narrow-spec =
