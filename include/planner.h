@@ -15,8 +15,9 @@
  *  - Work, trace and the single results are written. No two of them overlap, nor does one overlap a sheet or a history.
  *    They may hold anything before the call.
  *
- * Time and stack. planner_plan and planner_replay search, which may take time exponential in D; where there is a plan,
- * in the number of its transitions. A call cannot be broken off. It takes at most PLANNER_STACK bytes of stack.
+ * Time and stack. planner_plan and planner_replay search, which may take time exponential in D; planner_plan, where
+ * there is a plan, in the number of its transitions. A call cannot be broken off. It takes at most PLANNER_STACK bytes
+ * of stack.
  *
  * Answers. Every function returns a number; the place and the other results come through pointers.
  *  - 0: accepted, found, answered. The place is 0.

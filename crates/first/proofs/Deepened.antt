@@ -52,13 +52,12 @@ pub tried-none : (s : List ℕ) → Tried s 0
 tried-none s = record { none-so-far = so-far-none (Goes (worldOf s)) (Ends (worldOf s)) (boundOf s) (firstOf s) }
 
 -- the bound is raised: beyond those tried, at most one past d, with room for a plan
-pub record Raising (s best₀ best : List ℕ) (d low step : ℕ) : Type 0 where
+pub record Raising (s best₀ best : List ℕ) (d low : ℕ) : Type 0 where
   pub best-long : length best ≡ length best₀
   pub bound : d ≡ boundOf s
   pub room : d ≤ length best
   pub tried : Tried s low
   pub inside : low ≤ d + 1
-  pub step-on : 1 ≤ step
 
 -- a plan of fewer transitions is sought than that of the plan at hand
 pub record Lowering (s best₀ best : List ℕ) (low : ℕ) (fewest : Outcome) : Type 0 where

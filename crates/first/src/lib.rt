@@ -68,32 +68,26 @@ fn lower(
     fewest
 }
 
-// How far apart bounds are tried, after a search that cost so much, where one with a bound lower by so many levels cost what is before: one,
-// unless the cost about doubles from level to level. Small searches tell nothing of that.
-fn next_step(levels: usize, before: u32, cost: u32) -> usize
-    ensures { λ r. ⌜ 1 ≤ r ⌝ }
-{
+// So many bounds, the last ones, are tried at once where the cost of a search about doubles from bound to bound.
+const LAST: usize = 3;
+
+// Whether it does, after two searches that cost so much, the bound of one being lower by one: no answer depends on it. Small searches tell
+// nothing of the next.
+fn doubles(before: u32, cost: u32) -> bool {
     let b = before as u64;
     let c = cost as u64;
-    if b < 8 {
-        return 1;
-    }
-    if 2 * c < 3 * b {
-        return 1;
-    }
-    match levels {
-        1 => if 5 * c <= 11 * b { 2 } else { 1 },
-        2 => if 5 * c <= 24 * b { 3 } else { 1 },
-        _ => if 5 * c <= 53 * b { 3 } else { 1 },
-    }
+    (8 <= b) & (3 * b <= 2 * c) & (5 * c <= 11 * b)
 }
 
-// The least bound not below `low` from which so long steps lead to d.
-fn bound_from(low: usize, d: usize, step: usize) -> usize
-    requires { ⌜ (low ≤ d) × (1 ≤ step) ⌝ }
+// The bound to try where those below `low` are done: D itself where that is one of the last, to be tried at once.
+fn next_bound(low: usize, d: usize, at_once: bool) -> usize
+    requires { ⌜ low ≤ d ⌝ }
     ensures { λ r. ⌜ (low ≤ r) × (r ≤ d) ⌝ }
 {
-    low + (d - low) % step
+    if at_once & (d - low < LAST) {
+        return d;
+    }
+    low
 }
 
 // What is asked where any run will do.
@@ -125,10 +119,10 @@ fn deepen(
     let d = l.d;
     let none = [0u16; 1];
     let mut low = 0;
-    let mut step = 1;
+    let mut at_once = false;
     let mut before = 0u32;
     while low <= d {
-        let t = bound_from(low, d, step);
+        let t = next_bound(low, d, at_once);
         let begun = engine::surveys(numbers);
         let a = any_run(t, false);
         let o = search::explore(work, best, flags, numbers, s, found, &none[..0], a);
@@ -136,7 +130,7 @@ fn deepen(
             return lower(work, best, flags, numbers, s, found, low, o);
         }
         let cost = std::num::wrapping_sub_u32(engine::surveys(numbers), begun);
-        step = next_step(t + 1 - low, before, cost);
+        at_once = doubles(before, cost);
         before = cost;
         low = t + 1;
     }

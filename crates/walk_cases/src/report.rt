@@ -35,7 +35,7 @@ pub fn configuration(d: usize, st: State, x: Findings) {
     text(b", final");
     yes_or_no(x.done);
     text(b", soon");
-    yes_or_no(x.soon <= 1);
+    number(x.soon as u64);
     text(b", transitions");
     number(first.end as u64);
     text(b", rest");

@@ -20,11 +20,11 @@ use Rattle.first.proofs.deepen.Statement.{statement}
 use Rattle.first.proofs.deepen.Tie as tie
 
 abbrev Inv-loop : tie.InvT-loop
-Inv-loop work₀ best₀ flags₀ numbers₀ s found d none low₀ step₀ before₀ work best flags numbers low step before =
-    Kept s found work₀ flags₀ numbers₀ work flags numbers × Raising s best₀ best d low step
+Inv-loop work₀ best₀ flags₀ numbers₀ s found d none low₀ at-once₀ before₀ work best flags numbers low at-once before =
+    Kept s found work₀ flags₀ numbers₀ work flags numbers × Raising s best₀ best d low
 
 abbrev μ-loop : tie.MeasureT-loop
-μ-loop work₀ best₀ flags₀ numbers₀ s found d none low₀ step₀ before₀ work best flags numbers low step before = d + 1 - low
+μ-loop work₀ best₀ flags₀ numbers₀ s found d none low₀ at-once₀ before₀ work best flags numbers low at-once before = d + 1 - low
 
 -- Places: what stands before a need, by name. Written by `named`: run it again when the code changes.
 abbrev start-from-loop-holds : tie.After-l Inv-loop μ-loop → tie.Start Inv-loop μ-loop
@@ -33,8 +33,8 @@ start-from-loop-holds c = c .before .before .before .before .before .before
 abbrev start-from-loop : tie.At-loop Inv-loop μ-loop → tie.Start Inv-loop μ-loop
 start-from-loop c = start-from-loop-holds (c .before)
 
-abbrev start-from-bound-from : tie.After-bound-from Inv-loop μ-loop → tie.Start Inv-loop μ-loop
-start-from-bound-from c = start-from-loop (c .before .before)
+abbrev start-from-next-bound : tie.After-next-bound Inv-loop μ-loop → tie.Start Inv-loop μ-loop
+start-from-next-bound c = start-from-loop (c .before .before)
 
 abbrev any-run-from-explore-requires : tie.After-none Inv-loop μ-loop → tie.After-any-run Inv-loop μ-loop
 any-run-from-explore-requires c = c .before .before .before .before .before
@@ -42,11 +42,11 @@ any-run-from-explore-requires c = c .before .before .before .before .before
 abbrev any-run-from-explore : tie.After-explore Inv-loop μ-loop → tie.After-any-run Inv-loop μ-loop
 any-run-from-explore c = any-run-from-explore-requires (c .before)
 
-abbrev bound-from-from-explore : tie.After-explore Inv-loop μ-loop → tie.After-bound-from Inv-loop μ-loop
-bound-from-from-explore c = (any-run-from-explore c) .before .before .before
+abbrev next-bound-from-explore : tie.After-explore Inv-loop μ-loop → tie.After-next-bound Inv-loop μ-loop
+next-bound-from-explore c = (any-run-from-explore c) .before .before .before
 
 abbrev loop-from-explore : tie.After-explore Inv-loop μ-loop → tie.At-loop Inv-loop μ-loop
-loop-from-explore c = (bound-from-from-explore c) .before .before
+loop-from-explore c = (next-bound-from-explore c) .before .before
 
 abbrev slice-known6-from-is-more : tie.After-is-more Inv-loop μ-loop → tie.After-slice-known6 Inv-loop μ-loop
 slice-known6-from-is-more c = c .before .before .before .before .before
@@ -57,8 +57,8 @@ explore-from-is-more c = slice-known6-from-is-more c .before .before .before .be
 abbrev explore-from-else1 : tie.Else1 Inv-loop μ-loop → tie.After-explore Inv-loop μ-loop
 explore-from-else1 c = explore-from-is-more (c .before)
 
-abbrev bound-from-from-else1 : tie.Else1 Inv-loop μ-loop → tie.After-bound-from Inv-loop μ-loop
-bound-from-from-else1 c = bound-from-from-explore (explore-from-else1 c)
+abbrev next-bound-from-else1 : tie.Else1 Inv-loop μ-loop → tie.After-next-bound Inv-loop μ-loop
+next-bound-from-else1 c = next-bound-from-explore (explore-from-else1 c)
 
 abbrev explore-from-lower : tie.After-lower Inv-loop μ-loop → tie.After-explore Inv-loop μ-loop
 explore-from-lower c = explore-from-is-more (c .before .before .before .before .before .before)
@@ -75,11 +75,11 @@ loop-holds c =
     let p = at-start .pre in
     let e = ap (λ (l : Layout). l .d) (p .0 .of .layout-is) in (
       kept-first (p .0),
-      record { best-long = refl; bound = e; room = omega (arith, e, p .1); tried = tried-none (now (at-start .args .s)); inside = omega arith; step-on = omega arith },
+      record { best-long = refl; bound = e; room = omega (arith, e, p .1); tried = tried-none (now (at-start .args .s)); inside = omega arith },
     )
 
-bound-from-requires : tie.Need-bound-from-requires Inv-loop μ-loop
-bound-from-requires c κs = (c .loop-test .taken, c .before .loop .inv .1 .step-on)
+next-bound-requires : tie.Need-next-bound-requires Inv-loop μ-loop
+next-bound-requires c κs = c .loop-test .taken
 
 surveys-requires : tie.Need-surveys-requires Inv-loop μ-loop
 surveys-requires c κs = c .before .before .before .loop .inv .0 .standing .prepared .numbers-long
@@ -96,40 +96,40 @@ slice-aggregate-explore c = search needs
 explore-requires : tie.Need-explore-requires Inv-loop μ-loop
 explore-requires c κs =
     let at-any-run = any-run-from-explore-requires c in
-    let at-bound-from = at-any-run .before .before .before in
-    let at-loop = at-bound-from .before .before in
+    let at-next-bound = at-any-run .before .before .before in
+    let at-loop = at-next-bound .before .before in
     let v = at-loop .loop .inv in
     let e = ap (λ (a : Question). a .left) (at-any-run .any-run .ensures) in
-    let few = at-bound-from .bound-from .ensures .1 in
+    let few = at-next-bound .next-bound .ensures .1 in
     (v .0 .standing, omega (arith, e, few, v .1 .bound), omega (arith, e, few, v .1 .room))
 
 is-more-requires : tie.Need-is-more-requires Inv-loop μ-loop
 is-more-requires c κs = search needs
 
 asked : (c : tie.After-explore Inv-loop μ-loop) →
-    let at-bound-from = bound-from-from-explore c in
-    let at-loop = at-bound-from .before .before in
+    let at-next-bound = next-bound-from-explore c in
+    let at-loop = at-next-bound .before .before in
     let at-start = start-from-loop at-loop in
-    Reported 0 0 (at-loop .loop .best) (c .explore .last .1 .0) (c .explore .result) (verdictFrom (now (at-start .args .s)) (at-bound-from .bound-from .result) (
+    Reported 0 0 (at-loop .loop .best) (c .explore .last .1 .0) (c .explore .result) (verdictFrom (now (at-start .args .s)) (at-next-bound .next-bound .result) (
       firstOf (now (at-start .args .s)),
       unguided,
     ))
 asked c =
     let at-any-run = any-run-from-explore c in
-    let at-bound-from = at-any-run .before .before .before in
-    let at-start = start-from-bound-from at-bound-from in
-    any-asked (now (at-start .args .s)) _ (at-bound-from .bound-from .result) false (at-any-run .any-run .ensures) (c .explore .ensures .0)
+    let at-next-bound = at-any-run .before .before .before in
+    let at-start = start-from-next-bound at-next-bound in
+    any-asked (now (at-start .args .s)) _ (at-next-bound .next-bound .result) false (at-any-run .any-run .ensures) (c .explore .ensures .0)
 
 lower-requires : tie.Need-lower-requires Inv-loop μ-loop
 lower-requires c κs =
     let at-if1 = c .before .before .before .before in
     let at-is-more = at-if1 .before in
     let at-explore = explore-from-is-more at-is-more in
-    let at-bound-from = bound-from-from-explore at-explore in
-    let at-loop = at-bound-from .before .before in
+    let at-next-bound = next-bound-from-explore at-explore in
+    let at-loop = at-next-bound .before .before in
     let B = at-loop .loop .inv .1 in
-    let t = at-bound-from .bound-from .result in
-    let few = at-bound-from .bound-from .ensures .1 in
+    let t = at-next-bound .next-bound .result in
+    let few = at-next-bound .next-bound .ensures .1 in
     let stops = sym (at-is-more .is-more .ensures) ∙ not-true _ (at-if1 .if1 .taken) in
     let out = tried-out (B .tried) t (omega (arith, few, B .bound)) (asked at-explore) (omega (arith, few, B .room)) stops in
     (at-explore .explore .ensures .1, omega (arith, at-explore .explore .kept .1 .0, B .bound, B .room), out)
@@ -171,41 +171,32 @@ surveys-requires-2 c κs = explore-from-else1 (c .before) .explore .ensures .1 .
 wrapping-sub-u32-requires : tie.Need-wrapping-sub-u32-requires Inv-loop μ-loop
 wrapping-sub-u32-requires c κs = search needs
 
-add-next-step : tie.Need-add-next-step Inv-loop μ-loop
-add-next-step c =
-    let at-bound-from = bound-from-from-else1 (c .before .before .before) in
-    let at-loop = at-bound-from .before .before in
-    omega (arith, at-loop .loop .inv .1 .bound, laid _ (at-loop .loop .inv .0 .standing .of .accepted) .d, at-bound-from .bound-from .ensures .1)
-
-sub-next-step : tie.Need-sub-next-step Inv-loop μ-loop
-sub-next-step c = omega (arith, bound-from-from-else1 (c .before .before .before) .bound-from .ensures .0)
-
-next-step-requires : tie.Need-next-step-requires Inv-loop μ-loop
-next-step-requires c κs = search needs
+doubles-requires : tie.Need-doubles-requires Inv-loop μ-loop
+doubles-requires c κs = search needs
 
 add-low : tie.Need-add-low Inv-loop μ-loop
 add-low c =
-    let at-bound-from = bound-from-from-else1 (c .before .before .before .before) in
-    let at-loop = at-bound-from .before .before in
-    omega (arith, at-loop .loop .inv .1 .bound, laid _ (at-loop .loop .inv .0 .standing .of .accepted) .d, at-bound-from .bound-from .ensures .1)
+    let at-next-bound = next-bound-from-else1 (c .before .before .before .before) in
+    let at-loop = at-next-bound .before .before in
+    omega (arith, at-loop .loop .inv .1 .bound, laid _ (at-loop .loop .inv .0 .standing .of .accepted) .d, at-next-bound .next-bound .ensures .1)
 
 loop-less : tie.Need-loop-less Inv-loop μ-loop
 loop-less c =
-    let at-bound-from = bound-from-from-else1 (c .before .before .before .before) in
-    let at-loop-test = at-bound-from .before in
-    omega (arith, at-bound-from .bound-from .ensures .0, at-loop-test .loop-test .taken)
+    let at-next-bound = next-bound-from-else1 (c .before .before .before .before) in
+    let at-loop-test = at-next-bound .before in
+    omega (arith, at-next-bound .next-bound .ensures .0, at-loop-test .loop-test .taken)
 
 loop-again : tie.Need-loop-again Inv-loop μ-loop
 loop-again c =
     let at-if1 = c .before .before .before .before in
     let at-is-more = at-if1 .before in
     let at-explore = explore-from-is-more at-is-more in
-    let at-bound-from = bound-from-from-explore at-explore in
-    let at-loop = at-bound-from .before .before in
+    let at-next-bound = next-bound-from-explore at-explore in
+    let at-loop = at-next-bound .before .before in
     let at-start = start-from-loop at-loop in
     let B = at-loop .loop .inv .1 in
-    let t = at-bound-from .bound-from .result in
-    let few = at-bound-from .bound-from .ensures .1 in
+    let t = at-next-bound .next-bound .result in
+    let few = at-next-bound .next-bound .ensures .1 in
     let goes = sym (at-is-more .is-more .ensures) ∙ not-false _ (at-if1 .if1 .left) in
     let on = tried-on (B .tried) t (omega (arith, few, B .bound)) (asked at-explore) goes in
     let k = at-explore .explore .kept in (
@@ -216,7 +207,6 @@ loop-again c =
         room = omega (arith, k .1 .0, B .room);
         tried = subst (Tried (now (at-start .args .s))) (sym (add-one t)) on;
         inside = omega (arith, few);
-        step-on = c .next-step .ensures;
       },
     )
 
@@ -247,7 +237,7 @@ deepen-spec =
     Inv-loop
     μ-loop
     loop-holds
-    bound-from-requires
+    next-bound-requires
     surveys-requires
     any-run-requires
     array-share-prefix-none
@@ -262,9 +252,7 @@ deepen-spec =
     returns
     surveys-requires-2
     wrapping-sub-u32-requires
-    add-next-step
-    sub-next-step
-    next-step-requires
+    doubles-requires
     add-low
     loop-less
     loop-again

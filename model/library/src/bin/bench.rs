@@ -61,6 +61,10 @@ fn without_plan() -> Vec<Family> {
                 .into(),
         },
         Family {
+            name: "ten choices, then one act",
+            sheets: [12, 16, 32, 64].map(|bound| (format!("bound {bound}"), choices_then_act(bound))).into(),
+        },
+        Family {
             name: "shared formulas",
             sheets: [8, 64, 512].map(|count| (format!("{count} formulas"), shared_formulas(count, 6))).into(),
         },
@@ -71,7 +75,7 @@ fn without_plan() -> Vec<Family> {
     ]
 }
 
-/// In the first two families the bound grows, from t on, and the plan stays; in the others the bound is t.
+/// In the first three families the bound grows, from t on, and the plan stays; in the others the bound is t.
 fn with_plan() -> Vec<Family> {
     use Listed::*;
     let acts = |ships| (format!("{ships} ships, 3 acts each"), side_by_side(ships, 3));
@@ -89,10 +93,18 @@ fn with_plan() -> Vec<Family> {
                 .into(),
         },
         Family {
+            name: "left or right, the last way",
+            sheets: [11, 12, 13, 14, 15, 64].map(|bound| (format!("bound {bound}"), ways(10, bound))).into(),
+        },
+        Family {
             name: "two like acts",
             sheets: [4, 8, 10, 12].map(|times| (format!("{times} times"), like_acts(2, times, Rising))).into(),
         },
         Family { name: "side by side, in any order", sheets: [2, 3, 4, 6].map(acts).into() },
+        Family {
+            name: "side by side, acts and tests",
+            sheets: [4, 6, 8].map(|acts| (format!("{acts} acts, {acts} tests"), beside_tests(acts))).into(),
+        },
         Family { name: "side by side, in turn", sheets: vec![("16 ships, 4 acts each".into(), in_turn(16, 4))] },
         Family {
             name: "listed against the numbers",
@@ -159,6 +171,25 @@ fn like_acts(acts: usize, times: usize, listed: Listed) -> Vec<u8> {
     source.sheet(&sequence([star(listed.choice(acts)), test(done.is(times))]))
 }
 
+/// So many times left or right, and a test that it was always right: of all ways the last in listed order is the plan.
+fn ways(times: usize, bound: u16) -> Vec<u8> {
+    let mut source = Source::new("left or right", bound);
+    let done = source.fluent("times done", 16, 0);
+    let right = source.fluent("always right", 2, 1);
+    let mut to_left = done.goes_up();
+    to_left.push(right.gets(0));
+    let acts = [source.action("left", TRUE, to_left), source.action("right", TRUE, done.goes_up())];
+    source.sheet(&sequence([star(choice(acts)), test(done.is(times) & right.is(1))]))
+}
+
+/// One act so many times beside as many tests, which have no entry: all orders have the same history.
+fn beside_tests(times: usize) -> Vec<u8> {
+    let mut source = Source::new("acts and tests", 2 * times as u16);
+    let value = source.fluent("value", 2, 0);
+    let act = source.action("set it", TRUE, [value.gets(1)]);
+    source.sheet(&together([sequence(vec![act; times]), sequence(vec![test(TRUE); times])]))
+}
+
 /// Ships with so many acts each, one after the other: all orders of different ships' acts are plans.
 fn side_by_side(ships: usize, acts: usize) -> Vec<u8> {
     let mut source = Source::new("side by side", (ships * acts) as u16);
@@ -223,6 +254,15 @@ fn interrupts(count: usize, bound: u16) -> Vec<u8> {
         all.push(interrupt(done.below(15), go_on));
     }
     source.sheet(&together(all))
+}
+
+/// Ten choices of two, and then one act again and again: behind the choices a higher bound costs little more.
+fn choices_then_act(bound: u16) -> Vec<u8> {
+    let mut source = Source::new("choices, then one act", bound);
+    let value = source.fluent("value", 2, 0);
+    let acts = [0, 1].map(|number| source.action("set it", TRUE, [value.gets(number)]));
+    let choices = vec![choice(acts.clone()); 10];
+    source.sheet(&sequence(choices.into_iter().chain([star(acts[0].clone()), test(FALSE)])))
 }
 
 /// Formula n is the conjunction of n - 1 with itself; the last is the precondition of four actions.
