@@ -36,10 +36,6 @@ each : {P : RestTransition → Type 0} (xs : List RestTransition) → ((x : Rest
 each [] h = nobody
 each (x ∷ xs) h = also (h x (List·Memᴰ·head refl)) (each xs (λ y k. h y (List·Memᴰ·tail k)))
 
-is-true : (b : Bool) → T b → b ≡ true
-is-true true t = refl
-is-true false t = absurd t
-
 -- each of the three constructs is as far from its end as both parts
 node-distance : (p : ℕ → Program) (tag : ℕ) (l r : Rest) → distance (unfolded p (node tag l r)) ≡ distance (unfolded p l) + distance (unfolded p r)
 unfolding unfolded distance

@@ -3,6 +3,7 @@ pub mod Exact
 pub mod Truths
 pub mod Formulas
 pub mod Moves
+pub mod Possible
 pub mod Acts
 pub mod Construct
 pub mod Distance

@@ -1,5 +1,6 @@
 pub mod World
 pub mod Says
+pub mod Possible
 pub mod Prog
 pub mod Trans
 pub mod Transitions

@@ -1,7 +1,7 @@
--- To be believed: what formulas say of a state, and what performing an action does (document 01, "The sheet" and "Moves"); what a formula
--- says of values, kind by kind, is in kinds/specs/Truth.antt. Assumes nothing.
+-- To be believed: what formulas say of a state, when an action is possible and what performing it does (document 01, "The sheet" and "Moves";
+-- document 02, F-2); what a formula says of values, kind by kind, is in kinds/specs/Truth.antt. Assumes nothing.
 use Prim.Native.Nat.{ℕ, zero, suc}
-use mathlib.Core.Bool.{Bool, false, cond, _&&_, _||_}
+use mathlib.Core.Bool.{Bool, false, not, cond, _&&_, _||_}
 use mathlib.Core.List.{List, [], _∷_}
 use mathlib.Core.Option.{Option, none, some}
 use lib.Dec.{eqb, ltb}
@@ -41,9 +41,23 @@ stop = 65535
 abbrev pub special : ℕ → Bool
 special a = ltb 65533 a
 
--- "An action is possible when its precondition holds"; "Start and stop are always possible": `says` is what each formula says in the state
-unfoldable pub possibleBy : (says : ℕ → Bool) (action : ℕ → Action) → ℕ → Bool
-possibleBy says action a = special a || says (action a .precondition)
+-- one of the k numbers from i on has it
+unfoldable pub someFrom : (ℕ → Bool) → (i k : ℕ) → Bool
+someFrom has i zero = false
+someFrom has i (suc k) = has i || someFrom has (suc i) k
+
+-- two effects hold and give one fluent different values: `says` is what each formula says in the state, before any value is changed
+abbrev pub contradict : (says : ℕ → Bool) → Effect → Effect → Bool
+contradict says d e = (says (d .condition) && says (e .condition)) && (eqb (d .fluent) (e .fluent) && not (eqb (d .value) (e .value)))
+
+-- so do two of the k effects from number i on
+unfoldable pub conflicting : (says : ℕ → Bool) (effect : ℕ → Effect) (i k : ℕ) → Bool
+conflicting says effect i k = someFrom (λ (a : ℕ). someFrom (λ (b : ℕ). contradict says (effect a) (effect b)) i k) i k
+
+-- "An action is possible when its precondition holds"; "Start and stop are always possible"; document 02, F-2: "An action with two holding
+-- effects that give one fluent different values is now impossible"
+unfoldable pub possibleBy : (says : ℕ → Bool) (effect : ℕ → Effect) (action : ℕ → Action) → ℕ → Bool
+possibleBy says effect action a = special a || (says (action a .precondition) && not (conflicting says effect (action a .first) (action a .count)))
 
 -- an effect names fluent x and its condition holds
 abbrev pub changes : (says : ℕ → Bool) → Effect → (x : ℕ) → Bool
@@ -76,7 +90,7 @@ saysIn W s q = holds W q s
 
 -- the paper's Poss(a, s), and its do(a, s)
 abbrev pub possible : World → ℕ → State → Bool
-possible W a s = possibleBy (saysIn W s) (W .action) a
+possible W a s = possibleBy (saysIn W s) (W .effect) (W .action) a
 
 abbrev pub perform : World → ℕ → State → State
 perform W a s = performBy (saysIn W s) (W .effect) (W .action) a s

@@ -98,12 +98,6 @@ module _ (says : ℕ → Bool) (effects : List ℕ) (n : ℕ) where
           ap (λ (y : ℕ). getD new y 0) (omega arith) ∙ L .laid j q ∙ ap (λ (y : ℕ). from y (getD values j 0)) (omega arith)
       pick j (no q) b = L .above j (omega arith) ∙ sym (given-stays (0 + j) (getD values j 0) (r .count) (r .first) h (omega arith))
 
--- where formulas say the same of a precondition, an action is as possible
-pub possible-same : (says said : ℕ → Bool) (action : ℕ → Action) (a : ℕ) → says (action a .precondition) ≡ said (action a .precondition)
-    → possibleBy says action a ≡ possibleBy said action a
-unfolding possibleBy
-possible-same says said action a e = ap (λ (b : Bool). special a || b) e
-
 -- and of the conditions of a range, performing it leads to the same state
 module _ (effects actions : List ℕ) (says said : ℕ → Bool) (n : ℕ) (same : (q : ℕ) → q < n → says q ≡ said q) where
   given-same : (x old k i : ℕ) → ConditionsBelow effects n i k → given says (effectAt effects) x old i k ≡ given said (effectAt effects) x old i k

@@ -4,11 +4,11 @@ use mathlib.Core.Path.{_≡_}
 use mathlib.Core.Bool.{Bool, false}
 use mathlib.Core.List.{List, _++_}
 use lib.ListN.{getD, drop}
-use Rattle.records.specs.Records.{formulaAt, actionAt}
+use Rattle.records.specs.Records.{formulaAt}
 use Rattle.records.specs.Table.{upTo}
 use Rattle.kinds.specs.Truth.{truthOf}
 use Rattle.golog.specs.declared.State.{State}
-use Rattle.golog.specs.World.{World, holds, possibleBy}
+use Rattle.golog.specs.World.{World, holds}
 
 -- document 01, "Formula": formula i of the table t, given what the lower ones say (golog's `truthAt`)
 abbrev pub truthIn : (t values : List ℕ) → ℕ → (lower : List Bool) → Bool
@@ -21,10 +21,6 @@ truthsOf t values n old = upTo (truthIn t values) n ++ drop n old
 -- what each formula says, by a table of truths
 abbrev pub saidBy : (truths : List Bool) → ℕ → Bool
 saidBy truths q = getD truths q false
-
--- whether an action is possible, by such a table and that of actions
-abbrev pub possibleIn : (actions : List ℕ) (truths : List Bool) → ℕ → Bool
-possibleIn actions truths = possibleBy (saidBy truths) (actionAt actions)
 
 -- `truths` has what each of the first n formulas says in s
 abbrev pub AreTruths : World → State → ℕ → List Bool → Type 0

@@ -1,0 +1,47 @@
+-- An action is possible exactly when its precondition holds and no two holding effects of its range give one fluent different values
+-- (document 02, F-2): each test computed decides its line of the statement. Assumes nothing.
+use mathlib.Core.Path.{_≡_, refl, subst}
+use mathlib.Core.Bool.{Bool, not, _&&_}
+use mathlib.Core.Logic.{_⊎_, inl, inr, ⊎-elim, _↔_}
+use Prim.Native.Nat.{ℕ, zero, suc, _≤_}
+use native.Mathlib.Nat.{eq-or-lt-of-le}
+use native.Mathlib.Omega.{arith}
+use lib.Dec.{T, eqb}
+use Rattle.records.specs.declared.Effect.{Effect}
+use Rattle.runs.proofs.Tests.{and-iff, or-iff, eqb-iff}
+use Rattle.golog.specs.declared.State.{State}
+use Rattle.golog.specs.World.{World, special, holds, someFrom, contradict, conflicting, possibleBy, saysIn, possible}
+use Rattle.golog.specs.Possible.{Contradict, InRange, Conflict, Possible}
+use Rattle.golog.proofs.Tests.{same, not-iff}
+
+-- one of the k numbers from i on has what the test decides
+pub some-iff : {P : ℕ → Type 0} (has : ℕ → Bool) → ((a : ℕ) → T (has a) ↔ P a) → (k i : ℕ) → T (someFrom has i k) ↔ ((a : ℕ) × InRange i k a × P a)
+unfolding someFrom
+some-iff has h zero i = (λ t. absurd t, λ (a, (l, m), p). absurd (omega arith))
+some-iff {P} has h (suc k) i =
+    let both = or-iff (has i) (someFrom has (suc i) k) (h i) (some-iff has h k (suc i)) in (
+      λ t. ⊎-elim (λ p. (i, (omega arith, omega arith), p)) (λ (a, (l, m), p). (a, (omega arith, omega arith), p)) (both .0 t),
+      λ (a, (l, m), p). both .1 (⊎-elim (λ e. inl (subst P e p)) (λ j. inr (a, (omega arith, omega arith), p)) (here a l)),
+    )
+  where
+    here : (a : ℕ) → i ≤ a → (a ≡ i) ⊎ (suc i ≤ a)
+    here a l = ⊎-elim (λ e. inl (omega arith)) inr (eq-or-lt-of-le l)
+
+contradict-iff : (says : ℕ → Bool) (d e : Effect) → T (contradict says d e) ↔ Contradict says d e
+contradict-iff says d e =
+    let hold = and-iff (says (d .condition)) (says (e .condition)) (same _) (same _) in
+    let differ = not-iff (eqb (d .value) (e .value)) (eqb-iff (d .value) (e .value)) in
+    and-iff (says (d .condition) && says (e .condition)) (eqb (d .fluent) (e .fluent) && not (eqb (d .value) (e .value))) hold
+    (and-iff (eqb (d .fluent) (e .fluent)) (not (eqb (d .value) (e .value))) (eqb-iff (d .fluent) (e .fluent)) differ)
+
+pub conflicting-exactly : (says : ℕ → Bool) (effect : ℕ → Effect) (i k : ℕ) → T (conflicting says effect i k) ↔ Conflict says effect i k
+unfolding conflicting
+conflicting-exactly says effect i k = some-iff _ (λ a. some-iff _ (λ b. contradict-iff says (effect a) (effect b)) k i) k i
+
+pub possible-exactly : (W : World) (a : ℕ) (s : State) → T (possible W a s) ↔ Possible W a s
+unfolding possibleBy
+possible-exactly W a s =
+    let r = W .action a in
+    let conflict = conflicting (saysIn W s) (W .effect) (r .first) (r .count) in
+    or-iff (special a) (holds W (r .precondition) s && not conflict) (same _)
+    (and-iff (holds W (r .precondition) s) (not conflict) (same _) (not-iff conflict (conflicting-exactly (saysIn W s) (W .effect) (r .first) (r .count))))
