@@ -1,8 +1,8 @@
 -- The laws of judging actions: a pass that notes what each fluent was given finds a conflict exactly where there is one; a list has the marked
 -- numbers; marks are those of the listed actions; and whoever can go by them is possible. Assumes nothing.
-use Prim.Native.Nat.{ℕ, suc, _+_, _-_, _≤_, _<_}
+use Prim.Native.Nat.{ℕ, zero, suc, _+_, _-_, _≤_, _<_}
 use mathlib.Core.Path.{_≡_, refl, sym, _∙_, ap, subst}
-use mathlib.Core.Bool.{Bool, true, false, not, _&&_, false≢true}
+use mathlib.Core.Bool.{Bool, true, false, not, _&&_, _||_, false≢true}
 use mathlib.Core.List.{List}
 use mathlib.Core.Logic.{_⊎_, inl, inr, ⊎-elim}
 use native.Mathlib.Numerals.{add-one}
@@ -17,10 +17,11 @@ use Rattle.records.specs.Records.{effectAt, actionAt}
 use Rattle.records.proofs.Fills.{getD-same}
 use Rattle.records.proofs.Truth.{and-left, and-right, and-both, is-true, is-false}
 use Rattle.records.proofs.Written.{written}
-use Rattle.golog.specs.World.{conflicting}
+use Rattle.golog.specs.World.{special, someFrom, conflicting, possibleBy}
 use Rattle.golog.specs.Possible.{InRange, Conflict}
 use Rattle.golog.proofs.Possible.{conflicting-exactly}
-use Rattle.state.specs.Conflicts.{listedCount, Lists, bars, Barred}
+use Rattle.state.specs.Truths.{saidBy}
+use Rattle.state.specs.Conflicts.{listedCount, Listed, Lists, bars, Barred, allowedBy}
 
 -- what is noted is another value, or it is none or the same
 pub differ-true : (n w : ℕ) → (not (eqb n 0) && not (eqb n w)) ≡ true → (¬ (n ≡ 0)) × (¬ (n ≡ w))
@@ -235,3 +236,40 @@ module _ (effects actions list : List ℕ) (truths : List Bool) where
       whole = λ a (i, h, z) t.
           subst (λ (b : ℕ). getD marks b false ≡ true) z (B .whole i (omega arith) (ap (λ (b : ℕ). bars effects truths (actionAt actions b)) z ∙ t));
     }
+
+some-same : (f g : ℕ → Bool) (k i : ℕ) → ((a : ℕ) → InRange i k a → f a ≡ g a) → someFrom f i k ≡ someFrom g i k
+unfolding someFrom
+some-same f g zero i h = refl
+some-same f g (suc k) i h = rw (h i (omega arith, omega arith), some-same f g k (suc i) (λ a (l, m). h a (omega arith, omega arith)))
+
+-- what is asked of the formulas is no more than the conditions of the range: where these say the same, it conflicts alike
+module _ (effect : ℕ → Effect) (says said : ℕ → Bool) (i k : ℕ) where
+  pub conflict-same : ((a : ℕ) → InRange i k a → says (effect a .condition) ≡ said (effect a .condition)) → conflicting says effect i k ≡ conflicting said effect i k
+  unfolding conflicting
+  conflict-same same = some-same _ _ k i (λ a l. some-same _ _ k i (λ b m. rw (same a l, same b m)))
+
+  -- and where those that hold still hold, it still conflicts
+  pub conflict-more :
+      ((a : ℕ) → InRange i k a → T (says (effect a .condition)) → T (said (effect a .condition)))
+      → conflicting says effect i k ≡ true → conflicting said effect i k ≡ true
+  conflict-more more e =
+      let (a, l, (b, m, ((h, g), differ))) = conflicting-exactly says effect i k .0 (subst T (sym e) tt) in
+      is-true _ (conflicting-exactly said effect i k .1 (a, l, (b, m, ((more a l h, more b m g), differ))))
+
+-- a flag that is set exactly where both tests pass stands for the second
+both-same : (p b c : Bool) → ((p && c) ≡ true → b ≡ true) → (b ≡ true → (p && c) ≡ true) → (p && not b) ≡ (p && not c)
+both-same false b c f g = refl
+both-same true true c f g = sym (ap not (g refl))
+both-same true false c f g = sym (ap not (is-false c (λ e. false≢true (f e))))
+
+-- an action is possible by the marks, if it is listed wherever it is barred
+pub allowed-possible :
+    {effects actions list : List ℕ} {truths barred : List Bool} (a : ℕ) → Barred effects actions list truths barred
+    → (bars effects truths (actionAt actions a) ≡ true → Listed list a)
+    → allowedBy actions truths barred a ≡ possibleBy (saidBy truths) (effectAt effects) (actionAt actions) a
+unfolding possibleBy
+allowed-possible {effects} {actions} {list} {truths} {barred} a B listed =
+    let r = actionAt actions a in
+    ap (λ (b : Bool). special a || b)
+    (both-same (saidBy truths (r .precondition)) (getD barred a false) (conflicting (saidBy truths) (effectAt effects) (r .first) (r .count))
+    (λ t. B .whole a (listed t) t) (B .sound a))

@@ -39,21 +39,40 @@ mul-differs : tie.Need-mul-differs Inv-loop μ-loop
 mul-differs c = search needs
 
 array-read-differs : tie.Need-array-read-differs Inv-loop μ-loop
-array-read-differs c = let n = c .before .before .before .before .before .before .before .before .pre .1 _ (c .before .before .before .before .before .loop .inv .0) (omega (arith, c .before .before .before .before .before .loop .inv .2)) in rw (c .before .before .before .effect-at .ensures .0) n
+array-read-differs c =
+    let at-effect-at = c .before .before .before in
+    let at-loop = at-effect-at .before .before in
+    let at-start = at-loop .before .before .before in
+    let n = at-start .pre .1 _ (at-loop .loop .inv .0) (omega (arith, at-loop .loop .inv .2)) in
+    rw (at-effect-at .effect-at .ensures .0) n
 
 differs-requires : tie.Need-differs-requires Inv-loop μ-loop
 differs-requires c κs = search needs
 
 returns : tie.Need-returns Inv-loop μ-loop
 returns c =
-    let v = c .before .before .before .before .before .before .before .loop .inv in
-    sym (noted-other _ _ _ (v .3) (v .0) (c .before .before .before .before .before .effect-at .ensures .0) (c .before .before .before .before .flag-in .ensures) (c .before .before .before .if1 .taken) refl refl _ (omega (arith, v .2)) (sym (c .before .differs .ensures) ∙ c .if2 .taken))
+    let at-if1 = c .before .before .before in
+    let at-flag-in = at-if1 .before in
+    let at-effect-at = at-flag-in .before in
+    let at-loop = at-effect-at .before .before in
+    let v = at-loop .loop .inv in
+    sym (noted-other _ _ _ (v .3) (v .0) (at-effect-at .effect-at .ensures .0) (at-flag-in .flag-in .ensures) (at-if1 .if1 .taken) refl refl _ (omega (arith, v .2))
+    (sym (c .before .differs .ensures) ∙ c .if2 .taken))
 
 mul-noted : tie.Need-mul-noted Inv-loop μ-loop
 mul-noted c = search needs
 
+-- Places: what stands before a need, by name. Written by `named`: run it again when the code changes.
+abbrev effect-at-from-differs : tie.After-differs Inv-loop μ-loop → tie.After-effect-at Inv-loop μ-loop
+effect-at-from-differs c = c .before .before .before .before
+
 array-write-noted : tie.Need-array-write-noted Inv-loop μ-loop
-array-write-noted c = let n = c .before .before .before .before .before .before .before .before .before .before .pre .1 _ (c .before .before .before .before .before .before .before .loop .inv .0) (omega (arith, c .before .before .before .before .before .before .before .loop .inv .2)) in rw (c .before .before .before .before .before .effect-at .ensures .0) n
+array-write-noted c =
+    let at-effect-at = effect-at-from-differs (c .before) in
+    let at-loop = at-effect-at .before .before in
+    let at-start = at-loop .before .before .before in
+    let n = at-start .pre .1 _ (at-loop .loop .inv .0) (omega (arith, at-loop .loop .inv .2)) in
+    rw (at-effect-at .effect-at .ensures .0) n
 
 add-i : tie.Need-add-i Inv-loop μ-loop
 add-i c = search needs
@@ -63,10 +82,12 @@ loop-less c = search needs
 
 loop-again : tie.Need-loop-again Inv-loop μ-loop
 loop-again c =
-    let v = c .before .before .before .before .loop .inv in
+    let at-loop = c .before .before .before .before in
+    let at-start = at-loop .before .before .before in
+    let v = at-loop .loop .inv in
     let e = c .before .before .effect-at .ensures .0 in
     let f = c .before .flag-in .ensures in
-    let n = c .before .before .before .before .before .before .before .pre .1 _ (v .0) (omega (arith, v .2)) in (
+    let n = at-start .pre .1 _ (v .0) (omega (arith, v .2)) in (
       omega arith,
       omega arith,
       v .2,
@@ -77,7 +98,9 @@ loop-again c =
     )
 
 returns-2 : tie.Need-returns-2 Inv-loop μ-loop
-returns-2 c = sym (noted-all _ _ _ (c .before .loop .inv .3) (c .before .loop .inv .0) _ (omega (arith, c .before .loop .inv .2)))
+returns-2 c =
+    let at-loop = c .before in
+    sym (noted-all _ _ _ (at-loop .loop .inv .3) (at-loop .loop .inv .0) _ (omega (arith, at-loop .loop .inv .2)))
 
 pub conflict-spec : {M : Type 1} → statement M
 conflict-spec =

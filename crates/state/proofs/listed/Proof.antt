@@ -38,13 +38,14 @@ loop-less : tie.Need-loop-less Inv-loop μ-loop
 loop-less c = search needs
 
 loop-again : tie.Need-loop-again Inv-loop μ-loop
-loop-again c = (
-  omega arith,
-  ⊎-elim
-      (λ w. rw (w .1, w .2) (listing-more _ (c .before .before .before .loop .inv .1) (w .0 .taken) (omega arith)))
-      (λ w. rw (w .1, w .2) (listing-passed _ (c .before .before .before .loop .inv .1) (w .0 .left)))
-      (c .if1 .came),
-)
+loop-again c =
+    let at-loop = c .before .before .before in (
+      omega arith,
+      ⊎-elim
+          (λ w. rw (w .1, w .2) (listing-more _ (at-loop .loop .inv .1) (w .0 .taken) (omega arith)))
+          (λ w. rw (w .1, w .2) (listing-passed _ (at-loop .loop .inv .1) (w .0 .left)))
+          (c .if1 .came),
+    )
 
 cast-list-2 : tie.Need-cast-list-2 Inv-loop μ-loop
 cast-list-2 c = search needs
@@ -53,7 +54,9 @@ array-write-list-2 : tie.Need-array-write-list-2 Inv-loop μ-loop
 array-write-list-2 c = search needs
 
 returns : tie.Need-returns Inv-loop μ-loop
-returns c = listing-done _ (c .before .loop .inv .1) (omega arith) (c .before .loop .inv .0) (c .before .before .pre)
+returns c =
+    let at-loop = c .before in
+    listing-done _ (at-loop .loop .inv .1) (omega arith) (at-loop .loop .inv .0) (c .before .before .pre)
 
 pub listed-spec : {M : Type 1} → statement M
 listed-spec =

@@ -20,10 +20,23 @@ flag-in-requires-2 : tie.Need-flag-in-requires-2
 flag-in-requires-2 c κs = search needs
 
 returns-2 : tie.Need-returns-2
-returns-2 c = rw (le-ltb 65533 (c .before .before .before .before .before .before .before .before .args .a) (omega (arith, c .before .before .before .before .if1 .left)), ← c .before .before .before .action-at .ensures .0, ← c .before .before .flag-in .ensures, c .before .if2 .taken, c .flag-in2 .ensures)
+returns-2 c =
+    let at-action-at = c .before .before .before in
+    let at-if1 = at-action-at .before in
+    let at-start = at-if1 .before .before .before .before in
+    rw (
+      le-ltb 65533 (at-start .args .a) (omega (arith, at-if1 .if1 .left)),
+      ← at-action-at .action-at .ensures .0,
+      ← c .before .before .flag-in .ensures,
+      c .before .if2 .taken,
+      c .flag-in2 .ensures,
+    )
 
 returns-3 : tie.Need-returns-3
-returns-3 c = rw (le-ltb 65533 (c .before .before .before .before .before .before .before .args .a) (omega (arith, c .before .before .before .if1 .left)), ← c .before .before .action-at .ensures .0, ← c .before .flag-in .ensures, c .if2 .left)
+returns-3 c =
+    let at-if1 = c .before .before .before in
+    let at-start = at-if1 .before .before .before .before in
+    rw (le-ltb 65533 (at-start .args .a) (omega (arith, at-if1 .if1 .left)), ← c .before .before .action-at .ensures .0, ← c .before .flag-in .ensures, c .if2 .left)
 
 pub possible-spec : {M : Type 1} → statement M
 possible-spec =
