@@ -1,4 +1,5 @@
 pub mod Seen
+pub mod Performing
 pub mod Filling
 pub mod Entries
 pub mod Skipping

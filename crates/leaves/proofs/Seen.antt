@@ -12,12 +12,12 @@ use Rattle.golog.specs.declared.State.{State}
 use Rattle.golog.specs.World.{World, possibleBy}
 use Rattle.remaining.specs.Extended.{empty, virtual, extended}
 use Rattle.remaining.proofs.Started.{table-below, table-above}
-use Rattle.state.specs.Truths.{possibleIn}
+use Rattle.state.specs.Conflicts.{allowedBy}
 use Rattle.leaves.specs.Tallies.{SeesRecord, Sees}
 
-module _ (W : World) (s : State) (actions : List ℕ) (truths : List Bool) where
+module _ (W : World) (s : State) (actions : List ℕ) (truths barred : List Bool) where
   -- start and stop are above the actions of the table
-  virtual-seen : (b : Bool) (n k : ℕ) → SeesRecord W s truths (possibleIn actions truths) (getD (virtual b n) k empty)
+  virtual-seen : (b : Bool) (n k : ℕ) → SeesRecord W s truths (allowedBy actions truths barred) (getD (virtual b n) k empty)
   unfolding possibleBy fieldA fieldC
   virtual-seen true n zero = record { condition = λ t. absurd t; test = λ t. absurd t; act = λ t. refl }
   virtual-seen true n (suc zero) = record { condition = λ t. absurd t; test = λ t. absurd t; act = λ t. refl }
@@ -27,11 +27,11 @@ module _ (W : World) (s : State) (actions : List ℕ) (truths : List Bool) where
   virtual-seen false n k = record { condition = λ t. absurd t; test = λ t. absurd t; act = λ t. absurd t }
 
   -- so what is seen of the records of the sheet is seen of the table that runs
-  pub table-seen : (b : Bool) (p : ℕ → Program) (n m : ℕ) → ((i : ℕ) → i < n → SeesRecord W s truths (possibleIn actions truths) (p i)) →
-      Sees W s (extended b p n) m truths (possibleIn actions truths) (s .running)
+  pub table-seen : (b : Bool) (p : ℕ → Program) (n m : ℕ) → ((i : ℕ) → i < n → SeesRecord W s truths (allowedBy actions truths barred) (p i)) →
+      Sees W s (extended b p n) m truths (allowedBy actions truths barred) (s .running)
   table-seen b p n m seen = record { runs = refl; each = λ i l. go i (decLt i n) }
     where
-      go : (i : ℕ) → Dec (i < n) → SeesRecord W s truths (possibleIn actions truths) (extended b p n i)
+      go : (i : ℕ) → Dec (i < n) → SeesRecord W s truths (allowedBy actions truths barred) (extended b p n i)
       go i (yes l) = rw (table-below b p n i l) (seen i l)
       go i (no l) =
           let e : extended b p n i ≡ getD (virtual b n) (i - n) empty = ap (extended b p n) (omega arith) ∙ table-above b p n (i - n) in

@@ -5,12 +5,12 @@ ghost use mathlib.Core.Bool.{true, _&&_};
 ghost use Prim.Native.Nat.{_≤_, _<_, min};
 ghost use lib.Dec.{T};
 ghost use lib.ListN.{length, getD};
-ghost use Rattle.records.specs.Records.{TwoBytes, ProgramTable};
+ghost use Rattle.records.specs.Records.{TwoBytes, ProgramTable, programAt};
 ghost use Rattle.kinds.specs.Programs.{acts};
 ghost use Rattle.remaining.specs.Extended.{mostRecords, empty, virtual, tableOf};
-ghost use Rattle.state.specs.Truths.{possibleIn};
+ghost use Rattle.state.specs.Conflicts.{allowedBy};
 ghost use Rattle.state.specs.Ranges.{InActions};
-ghost use Rattle.leaves.specs.Tallies.{extendedSize, cappedCountBy, Tallied};
+ghost use Rattle.leaves.specs.Tallies.{extendedSize, Performed, cappedCountBy, Tallied};
 ghost use Rattle.leaves.specs.Endable.{finalBoundsOf, doubtBy, skipsOf, Tallyable};
 ghost use Rattle.leaves.specs.Distances.{distancesOf};
 use records::Program;
@@ -93,13 +93,31 @@ fn capped(n: u64, most: u32) -> u32
     if n < most as u64 { n as u32 } else { most }
 }
 
+// Which actions the first n records perform.
+pub fn performed(programs: &[u8], n: usize) -> [bool; state::ACTIONS]
+    requires { ⌜ ProgramTable (now programs) n ⌝ }
+    ensures { λ r. ⌜ Performed (programAt (now (programs .entry))) n r ⌝ }
+{
+    let mut marks = [false; state::ACTIONS];
+    let mut i = 0;
+    while i < n {
+        let r = records::program_at(programs, i);
+        let a = r.a;
+        if kinds::programs::acts(r.kind) & (a < state::ACTIONS) {
+            marks[a] = true;
+        }
+        i += 1;
+    }
+    marks
+}
+
 // Whether a record performs an action, and one that is possible.
-fn can_act(r: Program, actions: &[u8], truths: &[bool]) -> bool
+fn can_act(r: Program, actions: &[u8], truths: &[bool], barred: &[bool]) -> bool
     requires { ⌜ (T (acts (r .kind)) → InActions (now actions) (r .a)) ⌝ }
-    ensures { λ b. ⌜ b ≡ (acts (r .kind) && possibleIn (now (actions .entry)) (now (truths .entry)) (r .a)) ⌝ }
+    ensures { λ b. ⌜ b ≡ (acts (r .kind) && allowedBy (now (actions .entry)) (now (truths .entry)) (now (barred .entry)) (r .a)) ⌝ }
 {
     if kinds::programs::acts(r.kind) {
-        return state::possible(actions, truths, r.a);
+        return state::possible(actions, truths, barred, r.a);
     }
     false
 }
@@ -108,14 +126,15 @@ fn count_at(
     r: Program,
     actions: &[u8],
     truths: &[bool],
+    barred: &[bool],
     running: bool,
     finals: &[bool],
     counts: &[u32],
 ) -> u32
     requires { ⌜ (T (acts (r .kind)) → InActions (now actions) (r .a)) ⌝ }
-    ensures { λ k. ⌜ k ≡ cappedCountBy r (now (actions .entry)) (now (truths .entry)) running (now (finals .entry)) (now (counts .entry)) ⌝ }
+    ensures { λ k. ⌜ k ≡ cappedCountBy r (now (actions .entry)) (now (truths .entry)) (now (barred .entry)) running (now (finals .entry)) (now (counts .entry)) ⌝ }
 {
-    let can = can_act(r, actions, truths);
+    let can = can_act(r, actions, truths, barred);
     capped(
         kinds::programs::count_by(r, can, truths, running, finals, counts),
         CAP,
@@ -129,8 +148,8 @@ pub fn places_of(n: usize, interrupts: bool) -> usize
     if interrupts { n + 4 } else { n }
 }
 
-// Fills in how many transitions each record of the table that runs has in the state that `truths`, the actions and `running` say, where
-// `finals` tells which are final, whatever stood there: one pass upwards, since a record names lower ones only.
+// Fills in how many transitions each record of the table that runs has in the state that `truths`, the actions, `barred` and `running` say,
+// where `finals` tells which are final, whatever stood there: one pass upwards, since a record names lower ones only.
 pub fn tallies(
     counts: &mut [u32],
     programs: &[u8],
@@ -138,20 +157,21 @@ pub fn tallies(
     interrupts: bool,
     actions: &[u8],
     truths: &[bool],
+    barred: &[bool],
     running: bool,
     finals: &[bool],
 )
     requires { ⌜ ProgramTable (now programs) n × (length (now counts) ≡ mostRecords) ⌝ }
     requires { ⌜ Tallyable (tableOf (now programs) n interrupts) (extendedSize interrupts n) (now actions) (now truths) running (now finals) ⌝ }
     ensures counts { λ _. ⌜ Tallied (tableOf (now (programs .entry)) n interrupts) (extendedSize interrupts n) (now (actions .entry)) (now (truths .entry))
-        running (now (counts .entry)) (now (counts .exit)) ⌝ }
+        (now (barred .entry)) running (now (counts .entry)) (now (counts .exit)) ⌝ }
     ensures places { λ _. ⌜ length (now (counts .exit)) ≡ mostRecords ⌝ }
 {
     let m = places_of(n, interrupts);
     let mut i = 0;
     while i < m {
         let r = record_at(programs, n, interrupts, i);
-        let k = count_at(r, actions, truths, running, finals, counts);
+        let k = count_at(r, actions, truths, barred, running, finals, counts);
         counts[i] = k;
         i += 1;
     }

@@ -8,7 +8,7 @@ acts-requires : tie.Need-acts-requires
 acts-requires c κs = search needs
 
 possible-requires : tie.Need-possible-requires
-possible-requires c κs = c .before .before .before .before .pre (rw (sym (c .before .acts .ensures) ∙ c .if1 .taken) tt)
+possible-requires c κs = c .before .before .before .before .before .pre (rw (sym (c .before .acts .ensures) ∙ c .if1 .taken) tt)
 
 returns : tie.Need-returns
 returns c = rw (sym (c .before .before .acts .ensures) ∙ c .before .if1 .taken) (c .possible .ensures)

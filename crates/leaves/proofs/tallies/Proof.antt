@@ -12,27 +12,33 @@ use Rattle.golog.specs.declared.State.{State}
 use Rattle.golog.specs.World.{World}
 use Rattle.remaining.specs.Extended.{extended}
 use Rattle.remaining.specs.Leaves.{leafAt}
-use Rattle.state.specs.Truths.{possibleIn}
+use Rattle.state.specs.Conflicts.{allowedBy}
 use Rattle.leaves.specs.Tallies.{cappedCount, extendedSize, Sees}
 use Rattle.leaves.proofs.Filling.{next}
 use Rattle.leaves.proofs.tallies.Statement.{statement}
 use Rattle.leaves.proofs.tallies.Tie as tie
 
 abbrev Inv-loop : tie.InvT-loop
-Inv-loop counts₀ programs n interrupts actions truths running finals m i₀ counts i =
+Inv-loop counts₀ programs n interrupts actions truths barred running finals m i₀ counts i =
     (i ≤ m) × (length counts ≡ 260)
-    × ((W : World) (s : State) → Sees W s (extended interrupts (programAt programs) n) (extendedSize interrupts n) truths (possibleIn actions truths) running →
+    × ((W : World) (s : State) → Sees W s (extended interrupts (programAt programs) n) (extendedSize interrupts n) truths (allowedBy actions truths barred) running →
     Refilled (leafAt W s (extended interrupts (programAt programs) n)) cappedCount counts₀ counts i)
 
 abbrev μ-loop : tie.MeasureT-loop
-μ-loop counts₀ programs n interrupts actions truths running finals m i₀ counts i = m - i
+μ-loop counts₀ programs n interrupts actions truths barred running finals m i₀ counts i = m - i
 
 places-of-requires : tie.Need-places-of-requires Inv-loop μ-loop
 places-of-requires c κs = search needs
 
 -- Places: what stands before a need, by name. Written by `named`: run it again when the code changes.
 abbrev start-from-places-of : tie.After-places-of Inv-loop μ-loop → tie.Start Inv-loop μ-loop
-start-from-places-of c = c .before .before .before .before .before .before
+start-from-places-of c = c .before .before .before .before .before .before .before
+
+abbrev start-from-loop : tie.At-loop Inv-loop μ-loop → tie.Start Inv-loop μ-loop
+start-from-loop c = start-from-places-of (c .before)
+
+abbrev start-from-record-at : tie.After-record-at Inv-loop μ-loop → tie.Start Inv-loop μ-loop
+start-from-record-at c = start-from-loop (c .before .before)
 
 loop-holds : tie.Need-loop-holds Inv-loop μ-loop
 loop-holds c = (omega arith, start-from-places-of c .pre .0 .1, λ W s S. refill-start _ cappedCount _)
@@ -41,7 +47,10 @@ record-at-requires : tie.Need-record-at-requires Inv-loop μ-loop
 record-at-requires c κs = search needs
 
 count-at-requires : tie.Need-count-at-requires Inv-loop μ-loop
-count-at-requires c κs = λ t. rw (c .before .record-at .ensures .0) (start-from-places-of (c .before .before .before .before) .pre .1 .acts-known _ (rw (← c .before .record-at .ensures .0) t))
+count-at-requires c κs =
+    let at-record-at = c .before in
+    let at-start = start-from-record-at at-record-at in
+    λ t. rw (at-record-at .record-at .ensures .0) (at-start .pre .1 .acts-known _ (rw (← at-record-at .record-at .ensures .0) t))
 
 mul-counts : tie.Need-mul-counts Inv-loop μ-loop
 mul-counts c = search needs
@@ -57,12 +66,11 @@ loop-less c = search needs
 
 loop-again : tie.Need-loop-again Inv-loop μ-loop
 loop-again c =
-    let at-record-at = c .before .before in
-    let at-loop = at-record-at .before .before in
+    let at-loop = c .before .before .before .before in
     let at-places-of = at-loop .before in
     let at-start = start-from-places-of at-places-of in
     let z = at-start .pre in
-    let e = at-record-at .record-at .ensures .0 in
+    let e = c .before .before .record-at .ensures .0 in
     let v = at-loop .loop .inv in (
       omega arith,
       simp length-set (v .1),
@@ -73,7 +81,7 @@ loop-again c =
     )
 
 same-length : tie.Need-same-length Inv-loop μ-loop
-same-length c = c .before .loop .inv .1 ∙ sym (start-from-places-of (c .before .before) .pre .0 .1)
+same-length c = c .before .loop .inv .1 ∙ sym (start-from-loop (c .before) .pre .0 .1)
 
 returns : tie.Need-returns Inv-loop μ-loop
 returns c =
