@@ -1,4 +1,4 @@
--- The thirteen worked cases, the further rows, those of F-1 and the edges, each list by one computation. Assumes nothing.
+-- The thirteen worked cases, the further rows, those of F-1 and F-2 and the edges, each list by one computation. Assumes nothing.
 use mathlib.Core.List.{flatten}
 use mathlib.Core.Path.{refl}
 use Rattle.records.specs.Records.{fluentAt, formulaAt, effectAt, actionAt, programAt}
@@ -14,11 +14,11 @@ use Rattle.height.specs.Work.{levels}
 use Rattle.sheet.specs.Trailer.{trailerIn, limitsOk, distanceOk}
 use Rattle.sheet.specs.Layout.{layoutIn, layoutOf}
 use Rattle.sheet.specs.Check.{refusedAt, tablesChecked, heightChecked, trailerChecked, checkOf}
-use Rattle.golog.specs.World.{holds, possibleBy, given, each, changed, performBy}
+use Rattle.golog.specs.World.{holds, someFrom, conflicting, possibleBy, given, each, changed, performBy}
 use Rattle.golog.specs.Prog.{construct, programOf}
 use Rattle.golog.specs.Transitions.{final, transitions}
 use Rattle.demands.specs.Planning.{verdictOf, acceptsOf, planOf, replayOf}
-use Rattle.demands.specs.Cases.{All, rows, further, firsts, edges}
+use Rattle.demands.specs.Cases.{All, rows, further, firsts, conflicts, edges}
 
 -- opens what the rows compute with: records, their rules, height, check, formulas and effects, programs and their steps, plan and replay
 computing : Unit {0}
@@ -27,13 +27,13 @@ unfolding
     fieldX formulaA formulaB formulaOk fieldA fieldB fieldC programOk links
     fluentOk effectOk actionOk heightOver heightAt rise interrupts levels
     trailerIn limitsOk distanceOk layoutIn layoutOf refusedAt tablesChecked heightChecked trailerChecked checkOf
-    truthOf holds possibleBy given each changed performBy construct programOf final transitions
+    truthOf holds someFrom conflicting possibleBy given each changed performBy construct programOf final transitions
     verdictOf acceptsOf planOf replayOf
 computing = tt
 
 pub all-cases : All rows
 unfolding computing
-all-cases = (refl, (refl, ((refl, refl), (refl, ((refl, refl), (refl, ((refl, refl, refl, refl), (refl, (refl, (refl, (refl, (refl, (refl, tt)))))))))))))
+all-cases = (refl, (refl, ((refl, refl), (refl, ((refl, refl), (refl, ((refl, refl, refl, refl), (refl, (refl, (refl, (refl, (refl, ((refl, refl), tt)))))))))))))
 
 pub all-further : All further
 unfolding computing
@@ -42,6 +42,10 @@ all-further = ((refl, refl, refl, refl, refl, refl, refl), ((refl, refl, refl, r
 pub all-firsts : All firsts
 unfolding computing
 all-firsts = (refl, (refl, (refl, (refl, (refl, tt)))))
+
+pub all-conflicts : All conflicts
+unfolding computing
+all-conflicts = (refl, ((refl, refl, refl), (refl, (refl, ((refl, refl), ((refl, refl), tt))))))
 
 pub all-edges : All edges
 unfolding computing

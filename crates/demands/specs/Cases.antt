@@ -1,6 +1,6 @@
 -- To be believed: the thirteen worked cases of document 01 (its example of three sections) as a list of equations about whole sheets in
--- bytes; beside them further rows, for the kinds that no case has, rows for F-1 of document 02, and document 01's edges of the check. Assumes
--- nothing.
+-- bytes, case 13 by F-2 of document 02; beside them further rows, for the kinds that no case has, rows for F-1 and F-2, and document 01's edges
+-- of the check. Assumes nothing.
 use Prim.Native.Nat.{ℕ, zero, suc, _+_, _*_}
 use mathlib.Core.Bool.{true, false}
 use mathlib.Core.List.{List, [], _∷_, _++_, flatten}
@@ -8,8 +8,6 @@ use mathlib.Core.Path.{_≡_}
 use lib.ListN.{length, replicate}
 use Rattle.sheet.specs.Check.{refused, checkOf}
 use Rattle.sheet.specs.declared.Checked.the-variants.{Accepted}
-use Rattle.golog.specs.World.{perform}
-use Rattle.demands.specs.Decoded.{worldOf, initialOf}
 use Rattle.demands.specs.Planning.{refusedBy, found, replied, planOf, replayOf}
 
 -- each proposition of a list holds
@@ -50,9 +48,12 @@ formulas =
 abbrev not1 : List ℕ
 not1 = 5 ∷ 0 ∷ 1 ∷ 0 ∷ 0 ∷ 0 ∷ []
 
--- under condition 3: fluent x becomes v
+-- under condition c: fluent x becomes v
+abbrev effectIf : (c x v : ℕ) → List ℕ
+effectIf c x v = c ∷ 0 ∷ x ∷ v ∷ []
+
 abbrev effect : (x v : ℕ) → List ℕ
-effect x v = 3 ∷ 0 ∷ x ∷ v ∷ []
+effect x v = effectIf 3 x v
 
 abbrev effects : Table
 effects = effect 0 0 ∷ effect 1 2 ∷ []
@@ -114,10 +115,18 @@ sheetOf d programs = sheet (fluentsFrom 1) formulas effects actions programs d
 abbrev sheetNot : (d : ℕ) → (programs : Table) → List ℕ
 sheetNot d programs = sheet (fluentsFrom 1) (formulas ++ (not1 ∷ [])) effects actions programs d
 
--- the same with action 2, precondition 3, whose two effects give fluent 0 the values 1 and 2; fluent 0 starts 0, so that neither stands yet
+-- the same, where fluent 0 starts 0, with action 2, precondition 3, whose effects these are
+abbrev sheetWith : (own : Table) → (d : ℕ) → (programs : Table) → List ℕ
+sheetWith own d programs =
+    sheet (fluentsFrom 0) (formulas ++ (not1 ∷ [])) (effects ++ own) (actions ++ (action 3 2 (length own) ∷ [])) programs d
+
+-- action 2 gives fluent 0 the value 1
+abbrev sheetThird : (d : ℕ) → (programs : Table) → List ℕ
+sheetThird = sheetWith (effect 0 1 ∷ [])
+
+-- its two effects give fluent 0 the values 1 and 2, neither of which it has yet
 abbrev sheetTwice : (d : ℕ) → (programs : Table) → List ℕ
-sheetTwice d programs =
-    sheet (fluentsFrom 0) formulas (effects ++ (effect 0 1 ∷ effect 0 2 ∷ [])) (actions ++ (action 3 2 2 ∷ [])) programs d
+sheetTwice = sheetWith (effect 0 1 ∷ effect 0 2 ∷ [])
 
 -- star(act 0); act 1
 abbrev starThenAct : Table
@@ -167,8 +176,8 @@ rows =
     ∷ (planOf (sheetOf 4 (act 0 ∷ interrupt 3 0 ∷ [])) ≡ refusedBy 14)
     -- 12 "while formula 0 do nil, D 0: found 0 0"
     ∷ (planOf (sheetOf 0 (nil ∷ while 0 0 ∷ [])) ≡ found [] 0)
-    -- 13 "An action with two holding effects on fluent 0, values 1 then 2: gives 1"
-    ∷ (perform (worldOf case13) 2 (initialOf case13) .values ≡ 1 ∷ replicate 31 0)
+    -- 13 "An action with two holding effects on fluent 0, values 1 then 2", by F-2: "no step"
+    ∷ ((planOf case13 ≡ refusedBy 13) × (replayOf case13 (2 ∷ []) ≡ replied false))
     ∷ []
 
 -- beside the thirteen, a row for each kind that they do not have, with equations that tell it from its neighbours
@@ -197,23 +206,23 @@ further =
     × (replayOf (sheetOf 2 (act 0 ∷ act 1 ∷ nil ∷ ifThenElse 1 1 2 ∷ sequence 0 3 ∷ [])) (0 ∷ []) ≡ replied false))
     -- 8 "either steps, the other stays. Final if both are"
     -- act 0 together with act 2, D 2: both orders, where act 0; act 2 and act 0 over act 2 have only one; not act 0 alone
-    ∷ ((replayOf (sheetTwice 2 (act 0 ∷ act 2 ∷ together 0 1 ∷ [])) (0 ∷ 2 ∷ []) ≡ replied true)
-    × (replayOf (sheetTwice 2 (act 0 ∷ act 2 ∷ together 0 1 ∷ [])) (2 ∷ 0 ∷ []) ≡ replied true)
-    × (replayOf (sheetTwice 2 (act 0 ∷ act 2 ∷ sequence 0 1 ∷ [])) (2 ∷ 0 ∷ []) ≡ replied false)
-    × (replayOf (sheetTwice 2 (act 0 ∷ act 2 ∷ over 0 1 ∷ [])) (2 ∷ 0 ∷ []) ≡ replied false)
-    × (replayOf (sheetTwice 2 (act 0 ∷ act 2 ∷ together 0 1 ∷ [])) (0 ∷ []) ≡ replied false)
+    ∷ ((replayOf (sheetThird 2 (act 0 ∷ act 2 ∷ together 0 1 ∷ [])) (0 ∷ 2 ∷ []) ≡ replied true)
+    × (replayOf (sheetThird 2 (act 0 ∷ act 2 ∷ together 0 1 ∷ [])) (2 ∷ 0 ∷ []) ≡ replied true)
+    × (replayOf (sheetThird 2 (act 0 ∷ act 2 ∷ sequence 0 1 ∷ [])) (2 ∷ 0 ∷ []) ≡ replied false)
+    × (replayOf (sheetThird 2 (act 0 ∷ act 2 ∷ over 0 1 ∷ [])) (2 ∷ 0 ∷ []) ≡ replied false)
+    × (replayOf (sheetThird 2 (act 0 ∷ act 2 ∷ together 0 1 ∷ [])) (0 ∷ []) ≡ replied false)
     -- (act 0 together with act 2); test 1, D 3: the test holds after act 0 and does not after act 2
-    × (planOf (sheetTwice 3 (act 0 ∷ act 2 ∷ together 0 1 ∷ test 1 ∷ sequence 2 3 ∷ [])) ≡ found (2 ∷ 0 ∷ []) 3))
+    × (planOf (sheetThird 3 (act 0 ∷ act 2 ∷ together 0 1 ∷ test 1 ∷ sequence 2 3 ∷ [])) ≡ found (2 ∷ 0 ∷ []) 3))
     -- 10 "a step of a leaves (rest together with the iteration). Always final"
     -- (iteration of act 0); act 1, D 2: final after a round
     ∷ ((planOf (sheetOf 2 (act 0 ∷ iteration 0 ∷ act 1 ∷ sequence 1 2 ∷ [])) ≡ found (0 ∷ 1 ∷ []) 2)
     -- iteration of (act 0; act 2), D 4: rounds interleave, where those of star do not; each round ends
-    × (replayOf (sheetTwice 4 (act 0 ∷ act 2 ∷ sequence 0 1 ∷ iteration 2 ∷ [])) (0 ∷ 0 ∷ 2 ∷ 2 ∷ []) ≡ replied true)
-    × (replayOf (sheetTwice 4 (act 0 ∷ act 2 ∷ sequence 0 1 ∷ star 2 ∷ [])) (0 ∷ 0 ∷ 2 ∷ 2 ∷ []) ≡ replied false)
-    × (replayOf (sheetTwice 4 (act 0 ∷ act 2 ∷ sequence 0 1 ∷ iteration 2 ∷ [])) (0 ∷ 0 ∷ 2 ∷ []) ≡ replied false)
+    × (replayOf (sheetThird 4 (act 0 ∷ act 2 ∷ sequence 0 1 ∷ iteration 2 ∷ [])) (0 ∷ 0 ∷ 2 ∷ 2 ∷ []) ≡ replied true)
+    × (replayOf (sheetThird 4 (act 0 ∷ act 2 ∷ sequence 0 1 ∷ star 2 ∷ [])) (0 ∷ 0 ∷ 2 ∷ 2 ∷ []) ≡ replied false)
+    × (replayOf (sheetThird 4 (act 0 ∷ act 2 ∷ sequence 0 1 ∷ iteration 2 ∷ [])) (0 ∷ 0 ∷ 2 ∷ []) ≡ replied false)
     -- iteration of (act 0 | (act 2; test 1)), D 3: the test does not hold after act 2 and holds after another round's act 0
-    × (replayOf (sheetTwice 3 (act 0 ∷ act 2 ∷ test 1 ∷ sequence 1 2 ∷ choice 0 3 ∷ iteration 4 ∷ [])) (2 ∷ 0 ∷ []) ≡ replied true)
-    × (replayOf (sheetTwice 3 (act 0 ∷ act 2 ∷ test 1 ∷ sequence 1 2 ∷ choice 0 3 ∷ star 4 ∷ [])) (2 ∷ 0 ∷ []) ≡ replied false))
+    × (replayOf (sheetThird 3 (act 0 ∷ act 2 ∷ test 1 ∷ sequence 1 2 ∷ choice 0 3 ∷ iteration 4 ∷ [])) (2 ∷ 0 ∷ []) ≡ replied true)
+    × (replayOf (sheetThird 3 (act 0 ∷ act 2 ∷ test 1 ∷ sequence 1 2 ∷ choice 0 3 ∷ star 4 ∷ [])) (2 ∷ 0 ∷ []) ≡ replied false))
     ∷ []
 
 -- document 02, F-1: "the plan is the first: fewest transitions, and among those the history that is smaller at the first differing entry, a
@@ -223,13 +232,35 @@ firsts =
     -- star(act 0); act 1, D 12: no more transitions than needed
     (planOf (sheetOf 12 starThenAct) ≡ found (0 ∷ 1 ∷ []) 2)
     -- (act 0; act 0) | act 2, D 2: fewer transitions, although the history is larger
-    ∷ (planOf (sheetTwice 2 (act 0 ∷ sequence 0 0 ∷ act 2 ∷ choice 1 2 ∷ [])) ≡ found (2 ∷ []) 1)
+    ∷ (planOf (sheetThird 2 (act 0 ∷ sequence 0 0 ∷ act 2 ∷ choice 1 2 ∷ [])) ≡ found (2 ∷ []) 1)
     -- act 2 | act 0, D 1: the smaller entry, although it is listed later
-    ∷ (planOf (sheetTwice 1 (act 2 ∷ act 0 ∷ choice 0 1 ∷ [])) ≡ found (0 ∷ []) 1)
+    ∷ (planOf (sheetThird 1 (act 2 ∷ act 0 ∷ choice 0 1 ∷ [])) ≡ found (0 ∷ []) 1)
     -- (act 0; act 2) | (act 0; test 3), D 2: a proper beginning
-    ∷ (planOf (sheetTwice 2 (act 0 ∷ act 2 ∷ sequence 0 1 ∷ test 3 ∷ sequence 0 3 ∷ choice 2 4 ∷ [])) ≡ found (0 ∷ []) 2)
+    ∷ (planOf (sheetThird 2 (act 0 ∷ act 2 ∷ sequence 0 1 ∷ test 3 ∷ sequence 0 3 ∷ choice 2 4 ∷ [])) ≡ found (0 ∷ []) 2)
     -- ((act 0; test 3) | (act 0; act 0)); act 2, D 3: 0 is smaller than 0 0, but 0 2 is larger than 0 0 2
-    ∷ (planOf (sheetTwice 3 (act 0 ∷ test 3 ∷ sequence 0 1 ∷ sequence 0 0 ∷ choice 2 3 ∷ act 2 ∷ sequence 4 5 ∷ [])) ≡ found (0 ∷ 0 ∷ 2 ∷ []) 3)
+    ∷ (planOf (sheetThird 3 (act 0 ∷ test 3 ∷ sequence 0 1 ∷ sequence 0 0 ∷ choice 2 3 ∷ act 2 ∷ sequence 4 5 ∷ [])) ≡ found (0 ∷ 0 ∷ 2 ∷ []) 3)
+    ∷ []
+
+-- document 02, F-2: "An action with two holding effects that give one fluent different values is now impossible, like one whose precondition
+-- fails; equal values are fine"
+abbrev pub conflicts : List (Type 0)
+conflicts =
+    -- values 1 and 1, neither of which fluent 0 has yet: act 2, D 1
+    (planOf (sheetWith (effect 0 1 ∷ effect 0 1 ∷ []) 1 (act 2 ∷ [])) ≡ found (2 ∷ []) 1)
+    -- values 1 and, where fluent 0 is not 0, 2: once in the old values, which act 2 changes, and not twice
+    ∷ ((planOf (sheetWith (effect 0 1 ∷ effectIf 4 0 2 ∷ []) 1 (act 2 ∷ [])) ≡ found (2 ∷ []) 1)
+    × (planOf (sheetWith (effect 0 1 ∷ effectIf 4 0 2 ∷ []) 2 (act 2 ∷ sequence 0 0 ∷ [])) ≡ refusedBy 13)
+    × (replayOf (sheetWith (effect 0 1 ∷ effectIf 4 0 2 ∷ []) 2 (act 2 ∷ sequence 0 0 ∷ [])) (2 ∷ 2 ∷ []) ≡ replied false))
+    -- a conflict on another fluent than the first effect's
+    ∷ (planOf (sheetWith (effect 0 1 ∷ effect 1 1 ∷ effect 1 2 ∷ []) 1 (act 2 ∷ [])) ≡ refusedBy 13)
+    -- and one with an effect on another fluent between
+    ∷ (planOf (sheetWith (effect 0 1 ∷ effect 1 1 ∷ effect 0 2 ∷ []) 1 (act 2 ∷ [])) ≡ refusedBy 13)
+    -- star(act 2) over act 0, D 1: the second goes where act 2 conflicts, and does not where it is possible
+    ∷ ((planOf (sheetTwice 1 (act 2 ∷ star 0 ∷ act 0 ∷ over 1 2 ∷ [])) ≡ found (0 ∷ []) 1)
+    × (planOf (sheetThird 1 (act 2 ∷ star 0 ∷ act 0 ∷ over 1 2 ∷ [])) ≡ refusedBy 14))
+    -- interrupt true, act 2, D 2: stopped at once where act 2 conflicts, and never where it is possible
+    ∷ ((planOf (sheetTwice 2 (act 2 ∷ interrupt 3 0 ∷ [])) ≡ found (65534 ∷ 65535 ∷ []) 2)
+    × (planOf (sheetThird 2 (act 2 ∷ interrupt 3 0 ∷ [])) ≡ refusedBy 14))
     ∷ []
 
 -- n fluents that are always 0, and the root nil

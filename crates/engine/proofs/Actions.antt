@@ -75,9 +75,8 @@ module _ (s : List ℕ) (accepted : Accepts s) where
         names = λ h i l m. let r = action-of s accepted a (known .1 h) .1 in effect-of s accepted i (omega arith) .1;
       }
 
-  pub judged :
+  pub conditions-below :
       (a : ℕ)
-      → IsAction s a
-      → a < start
+      → a < layoutOf s .a
       → ConditionsBelow (effectsIn s (layoutOf s)) (layoutOf s .q) (actionAt (actionsIn s (layoutOf s)) a .first) (actionAt (actionsIn s (layoutOf s)) a .count)
-  judged a known h i l m = let r = action-of s accepted a (known .1 h) .1 in effect-of s accepted i (omega arith) .0
+  conditions-below a known i l m = let r = action-of s accepted a known .1 in effect-of s accepted i (omega arith) .0

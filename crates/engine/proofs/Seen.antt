@@ -1,37 +1,61 @@
 -- What the truths of a state tell of an accepted sheet: every record that runs is seen as it is. Assumes nothing.
-use mathlib.Core.Bool.{Bool}
+use mathlib.Core.Path.{_≡_, refl, _∙_}
+use mathlib.Core.Bool.{Bool, true}
 use mathlib.Core.List.{List}
-use Prim.Native.Nat.{ℕ}
-use Rattle.records.specs.declared.Program.{Program}
-use Rattle.kinds.specs.Programs.{fieldA, fieldC}
-use Rattle.kinds.proofs.ProgramFields.{Fields, action-below, formula-below}
-use Rattle.sheet.specs.Layout.{layoutOf, actionsIn}
+use Prim.Native.Nat.{ℕ, _<_}
+use lib.Dec.{T}
+use Rattle.records.proofs.Truth.{or-left, is-true}
+use Rattle.kinds.specs.Programs.{fieldA, fieldC, acts}
+use Rattle.kinds.proofs.ProgramFields.{action-below, formula-below}
+use Rattle.sheet.specs.Layout.{layoutOf, effectsIn, actionsIn}
 use Rattle.sheet.specs.Check.{Accepts}
 use Rattle.sheet.proofs.Lower.{fields-of, action-of}
 use Rattle.golog.specs.declared.State.{State}
+use Rattle.golog.specs.World.{special, possibleBy, saysIn, possible}
 use Rattle.demands.specs.Decoded.{worldOf, recordsOf, interruptsIn}
 use Rattle.demands.specs.Compact.{extendedRecords}
-use Rattle.state.specs.Truths.{possibleIn, AreTruths}
+use Rattle.state.specs.Truths.{saidBy, AreTruths}
+use Rattle.state.specs.Conflicts.{Barred, allowedBy}
+use Rattle.state.proofs.Conflicts.{allowed-possible}
 use Rattle.state.proofs.Performed.{possible-same}
 use Rattle.leaves.specs.Tallies.{SeesRecord, Sees}
 use Rattle.leaves.proofs.Seen.{table-seen}
-use Rattle.engine.specs.Tables.{extendedSizeOf}
+use Rattle.engine.specs.Tables.{extendedSizeOf, Judges}
+use Rattle.engine.proofs.Actions.{conditions-below}
 
 module _ (s : List ℕ) (accepted : Accepts s) (st : State) (truths : List Bool) (H : AreTruths (worldOf s) st (layoutOf s .q) truths) where
-  abbrev can : ℕ → Bool
-  can = possibleIn (actionsIn s (layoutOf s)) truths
+  module _
+      (can : ℕ → Bool) (always : (a : ℕ) → T (special a) → can a ≡ true)
+      (tells : (i : ℕ) → i < layoutOf s .p → T (acts (recordsOf s i .kind)) → can (recordsOf s i .a) ≡ possible (worldOf s) (recordsOf s i .a) st) where
+    -- by the roles of its fields, what a record asks of the state is told
+    seen : (i : ℕ) → i < layoutOf s .p → SeesRecord (worldOf s) st truths can (recordsOf s i)
+    seen i l =
+        let r = recordsOf s i in
+        let f = fields-of s accepted i l in
+        record {
+          condition = λ t. H (r .c) (formula-below _ _ i (fieldC (r .kind)) (f .c) t);
+          test = λ t. H (r .a) (formula-below _ _ i (fieldA (r .kind)) (f .a) t);
+          act = tells i l;
+        }
 
-  -- by the roles of its fields, what a record asks of the state is told
-  seen : (i : ℕ) (r : Program) → Fields (layoutOf s .q) (layoutOf s .a) i r → SeesRecord (worldOf s) st truths can r
-  seen i r f = record {
-    condition = λ t. H (r .c) (formula-below _ _ i (fieldC (r .kind)) (f .c) t);
-    test = λ t. H (r .a) (formula-below _ _ i (fieldA (r .kind)) (f .a) t);
-    act = λ t.
-        let l = action-below _ _ i (fieldA (r .kind)) (f .a) t in
-        possible-same _ _ (worldOf s .action) (r .a) (H _ (action-of s accepted (r .a) l .0));
-  }
+    sees-by : Sees (worldOf s) st (extendedRecords s) (extendedSizeOf s) truths can (st .running)
+    sees-by = table-seen (worldOf s) st truths can always (interruptsIn s) (recordsOf s) (layoutOf s .p) _ seen
 
-  pub sees : Sees (worldOf s) st (extendedRecords s) (extendedSizeOf s) truths can (st .running)
-  sees =
-      table-seen (worldOf s) st (actionsIn s (layoutOf s)) truths (interruptsIn s) (recordsOf s) (layoutOf s .p) _
-      (λ i l. seen i (recordsOf s i) (fields-of s accepted i l))
+  -- by what is possible
+  pub sees-possible : Sees (worldOf s) st (extendedRecords s) (extendedSizeOf s) truths (λ (a : ℕ). possible (worldOf s) a st) (st .running)
+  unfolding possibleBy
+  sees-possible = sees-by _ (λ a t. or-left (special a) _ (is-true (special a) t)) (λ i l t. refl)
+
+  -- by which actions the truths bar, where all that may be barred are judged
+  pub sees :
+      {list : List ℕ} {barred : List Bool} → Judges s list → Barred (effectsIn s (layoutOf s)) (actionsIn s (layoutOf s)) list truths barred
+      → Sees (worldOf s) st (extendedRecords s) (extendedSizeOf s) truths (allowedBy (actionsIn s (layoutOf s)) truths barred) (st .running)
+  sees J B = sees-by _ (λ a t. or-left (special a) _ (is-true (special a) t)) tells
+    where
+      tells : (i : ℕ) → i < layoutOf s .p → T (acts (recordsOf s i .kind))
+          → allowedBy (actionsIn s (layoutOf s)) truths _ (recordsOf s i .a) ≡ possible (worldOf s) (recordsOf s i .a) st
+      tells i l t =
+          let a = recordsOf s i .a in
+          let known = action-below _ _ i (fieldA (recordsOf s i .kind)) (fields-of s accepted i l .a) t in
+          allowed-possible a B (J .all i l t truths)
+          ∙ possible-same _ _ (saidBy truths) (saysIn (worldOf s) st) _ H a (action-of s accepted a known .0) (conditions-below s accepted a known)

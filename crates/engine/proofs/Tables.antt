@@ -13,8 +13,8 @@ use Rattle.sheet.specs.Layout.{layoutOf}
 use Rattle.golog.specs.declared.State.{State}
 use Rattle.demands.specs.Decoded.{worldOf}
 use Rattle.state.specs.Truths.{AreTruths}
-use Rattle.engine.specs.Tables.{window, Only, setOf, endableIn, truthsFrom, finalsFrom, truthsAt, finalsAt, skipsIn, distancesIn, numberPlaces, surveysAt, countsFrom, countsAt}
-use Rattle.engine.specs.Tables.{Prepared, Surveyed, SameTables, Filled}
+use Rattle.engine.specs.Tables.{window, Only, setOf, endableIn, truthsFrom, finalsFrom, truthsAt, finalsAt, skipsIn, distancesIn, judgedIn, numberPlaces, surveysAt, countsFrom, countsAt}
+use Rattle.engine.specs.Tables.{Judges, Prepared, Surveyed, SameTables, Filled}
 use Rattle.engine.proofs.Windows.{window-long, earlier, window-before, window-behind}
 
 module _ {s : List ℕ} {flags : List Bool} {numbers : List ℕ} (P : Prepared s flags numbers) where
@@ -42,6 +42,10 @@ pub distances-kept : {numbers numbers′ : List ℕ} {o n : ℕ} → 521 ≤ o �
     → distancesIn numbers′ ≡ distancesIn numbers
 distances-kept h P n l = window-before P n 261 260 h l
 
+pub judged-kept : {numbers numbers′ : List ℕ} {o n : ℕ} → 586 ≤ o → Only o n numbers numbers′ → length numbers′ ≡ length numbers → 521 ≤ length numbers
+    → judgedIn numbers′ ≡ judgedIn numbers
+judged-kept h P n l = window-before P n 521 65 h l
+
 -- depths less than eight apart have sets of their own
 apart : (d e : ℕ) → d < e → e < d + 8 → ¬ (setOf d ≡ setOf e)
 apart d e l h z = omega arith
@@ -59,7 +63,7 @@ module _ {A : Type 0} (b m j : ℕ) {l l′ : List A} (P : Only (b + m * j) m l 
       go (no x) = window-behind P n o k (omega (arith, below j i (omega (arith, z))))
 
 module _
-    {flags flags′ : List Bool} {numbers numbers′ : List ℕ} (d : ℕ) (fl : length flags ≡ 6436) (nl : length numbers ≡ 2602)
+    {flags flags′ : List Bool} {numbers numbers′ : List ℕ} (d : ℕ) (fl : length flags ≡ 6436) (nl : length numbers ≡ 2667)
     (F : Only (truthsFrom d) 772 flags flags′) (f : length flags′ ≡ length flags)
     (N : Only (countsFrom d) 260 numbers numbers′) (n : length numbers′ ≡ length numbers) where
   -- the tables for depth d were filled, and no others
@@ -69,18 +73,18 @@ module _
       record {
         same-truths = other 260 772 (setOf d) F f (setOf e) (truthsFrom e) 512 z (omega arith) (omega arith) (omega arith);
         same-finals = other 260 772 (setOf d) F f (setOf e) (finalsFrom e) 260 z (omega arith) (omega arith) (omega arith);
-        same-counts = other 521 260 (setOf d) N n (setOf e) (countsFrom e) 260 z (omega arith) (omega arith) (omega arith);
+        same-counts = other 586 260 (setOf d) N n (setOf e) (countsFrom e) 260 z (omega arith) (omega arith) (omega arith);
       }
 
 -- a place of the counts for depth e, where those for depth d were written anew: it is 0 where it was, or where that is
 pub none-by :
-    (d e i : ℕ) {numbers numbers′ : List ℕ} → length numbers ≡ 2602 → Only (countsFrom d) 260 numbers numbers′ → length numbers′ ≡ length numbers
+    (d e i : ℕ) {numbers numbers′ : List ℕ} → length numbers ≡ 2667 → Only (countsFrom d) 260 numbers numbers′ → length numbers′ ≡ length numbers
     → getD (countsAt e numbers) i 0 ≡ 0 → getD (countsAt d numbers′) i 0 ≡ 0 → getD (countsAt e numbers′) i 0 ≡ 0
 none-by d e i {numbers} {numbers′} l N n old new = go (ℕ-discrete (setOf e) (setOf d))
   where
     go : Dec (setOf e ≡ setOf d) → getD (countsAt e numbers′) i 0 ≡ 0
-    go (yes z) = ap (λ (j : ℕ). getD (window (521 + 260 * j) 260 numbers′) i 0) z ∙ new
-    go (no z) = ap (λ (x : List ℕ). getD x i 0) (other 521 260 (setOf d) N n (setOf e) (countsFrom e) 260 z (omega arith) (omega arith) (omega arith)) ∙ old
+    go (yes z) = ap (λ (j : ℕ). getD (window (586 + 260 * j) 260 numbers′) i 0) z ∙ new
+    go (no z) = ap (λ (x : List ℕ). getD x i 0) (other 586 260 (setOf d) N n (setOf e) (countsFrom e) 260 z (omega arith) (omega arith) (omega arith)) ∙ old
 
 -- tables that stand are still those of the state
 pub stands :
@@ -98,7 +102,7 @@ module _ {numbers numbers′ : List ℕ} (N : Only surveysAt 1 numbers numbers�
   counted-same d = record { same-truths = refl; same-finals = refl; same-counts = window-before N n (countsFrom d) 260 (omega arith) (omega arith) }
 
   counted-prepared : {s : List ℕ} {flags : List Bool} → Prepared s flags numbers → Prepared s flags numbers′
-  counted-prepared {flags = flags} P =
+  counted-prepared {s} {flags} P =
       record {
         flags-long = P .flags-long;
         numbers-long = n ∙ l;
@@ -106,6 +110,7 @@ module _ {numbers numbers′ : List ℕ} (N : Only surveysAt 1 numbers numbers�
         none-counted = λ d i h. ap (λ (x : List ℕ). getD x i 0) (counted-same {flags = flags} d .same-counts) ∙ P .none-counted d i h;
         skipping = rw (skips-kept (omega arith) N) (P .skipping);
         distances = rw (distances-kept (omega arith) N n (omega arith)) (P .distances);
+        judges = subst (Judges s) (sym (judged-kept (omega arith) N n (omega arith))) (P .judges);
       }
 
   pub counted : {s : List ℕ} {st : State} {d : ℕ} {flags : List Bool} → Surveyed s st d flags numbers → Surveyed s st d flags numbers′

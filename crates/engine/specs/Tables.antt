@@ -5,13 +5,17 @@ use Prim.Native.Nat.{ℕ, _+_, _*_, _%_, _≤_, _<_}
 use mathlib.Core.Path.{_≡_}
 use mathlib.Core.Bool.{Bool, true}
 use mathlib.Core.List.{List}
+use lib.Dec.{T}
 use lib.ListN.{length, getD, take, drop}
+use Rattle.records.specs.Records.{actionAt}
 use Rattle.records.specs.declared.Program.{Program}
-use Rattle.sheet.specs.Layout.{layoutOf, programsIn}
+use Rattle.kinds.specs.Programs.{acts}
+use Rattle.sheet.specs.Layout.{layoutOf, effectsIn, actionsIn, programsIn}
 use Rattle.golog.specs.declared.State.{State}
-use Rattle.demands.specs.Decoded.{worldOf, interruptsIn}
+use Rattle.demands.specs.Decoded.{worldOf, recordsOf, interruptsIn}
 use Rattle.demands.specs.Compact.{extendedRecords}
 use Rattle.state.specs.Truths.{AreTruths}
+use Rattle.state.specs.Conflicts.{Listed, bars, Barred, Judgeable}
 use Rattle.remaining.specs.Extended.{mostRecords}
 use Rattle.leaves.specs.Tallies.{extendedSize, finalsOf}
 use Rattle.leaves.specs.Endable.{Skips, FinalsKnown}
@@ -82,13 +86,13 @@ finalsAt d flags = window (finalsFrom d) mostRecords flags
 abbrev pub skipPlaces : ℕ
 skipPlaces = 261
 
--- numbers: from each place on, the first record whose finality depends on the state; then how far each record is from its end; then for
--- each set how many transitions each record has; then how many configurations were surveyed
+-- numbers: from each place on, the first record whose finality depends on the state; then how far each record is from its end; then the
+-- actions that are judged in each state; then for each set how many transitions each record has; then how many configurations were surveyed
 abbrev pub numberPlaces : ℕ
-numberPlaces = 2602
+numberPlaces = 2667
 
 abbrev pub surveysAt : ℕ
-surveysAt = 2601
+surveysAt = 2666
 
 abbrev pub surveysIn : List ℕ → ℕ
 surveysIn numbers = getD numbers surveysAt 0
@@ -99,8 +103,15 @@ skipsIn numbers = take skipPlaces numbers
 abbrev pub distancesIn : List ℕ → List ℕ
 distancesIn numbers = window skipPlaces mostRecords numbers
 
+-- the places of a list of actions
+abbrev pub listPlaces : ℕ
+listPlaces = 65
+
+abbrev pub judgedIn : List ℕ → List ℕ
+judgedIn numbers = window (skipPlaces + mostRecords) listPlaces numbers
+
 abbrev pub countsFrom : (d : ℕ) → ℕ
-countsFrom d = skipPlaces + mostRecords + mostRecords * setOf d
+countsFrom d = skipPlaces + mostRecords + listPlaces + mostRecords * setOf d
 
 abbrev pub countsAt : (d : ℕ) → List ℕ → List ℕ
 countsAt d numbers = window (countsFrom d) mostRecords numbers
@@ -108,6 +119,13 @@ countsAt d numbers = window (countsFrom d) mostRecords numbers
 -- the records of a sheet that run
 abbrev pub extendedSizeOf : List ℕ → ℕ
 extendedSizeOf s = extendedSize (interruptsIn s) (layoutOf s .p)
+
+-- the list has every action that a record performs and some truths bar, and its actions can be judged
+pub record Judges (s : List ℕ) (list : List ℕ) : Type 0 where
+  pub known : Judgeable (effectsIn s (layoutOf s)) (actionsIn s (layoutOf s)) list
+  pub all :
+      (i : ℕ) → i < layoutOf s .p → T (acts (recordsOf s i .kind)) → (truths : List Bool)
+      → bars (effectsIn s (layoutOf s)) truths (actionAt (actionsIn s (layoutOf s)) (recordsOf s i .a)) ≡ true → Listed list (recordsOf s i .a)
 
 -- what is told once of a sheet stands in the tables, and behind the records nil
 pub record Prepared (s : List ℕ) (flags : List Bool) (numbers : List ℕ) : Type 0 where
@@ -117,6 +135,7 @@ pub record Prepared (s : List ℕ) (flags : List Bool) (numbers : List ℕ) : Ty
   pub none-counted : (d i : ℕ) → extendedSizeOf s ≤ i → getD (countsAt d numbers) i 0 ≡ 0
   pub skipping : Skips (extendedRecords s) (extendedSizeOf s) (endableIn flags) (skipsIn numbers)
   pub distances : Distances (extendedRecords s) (extendedSizeOf s) (distancesIn numbers)
+  pub judges : Judges s (judgedIn numbers)
 
 -- what the formulas say in the state st, and which records are final in it, stands there too, for depth d
 pub record Judged (s : List ℕ) (st : State) (d : ℕ) (flags : List Bool) (numbers : List ℕ) : Type 0 where
@@ -124,6 +143,10 @@ pub record Judged (s : List ℕ) (st : State) (d : ℕ) (flags : List Bool) (num
   pub truths-are : AreTruths (worldOf s) st (layoutOf s .q) (truthsAt d flags)
   pub decides : FinalsKnown (extendedRecords s) (extendedSizeOf s) (truthsAt d flags) (st .running) (finalsAt d flags)
   pub finals-are : finalsAt d flags ≡ finalsOf (worldOf s) st (extendedRecords s) (extendedSizeOf s)
+
+-- which of the actions judged in each state what the formulas say there bars
+abbrev pub BarredAt : (s : List ℕ) (d : ℕ) (flags : List Bool) (numbers : List ℕ) (barred : List Bool) → Type 0
+BarredAt s d flags numbers barred = Barred (effectsIn s (layoutOf s)) (actionsIn s (layoutOf s)) (judgedIn numbers) (truthsAt d flags) barred
 
 -- how the sheet's program records are read in the state st
 abbrev pub settingOf : List ℕ → State → Setting

@@ -24,7 +24,8 @@ ghost use Rattle.ends.specs.Ends.{Totalled};
 ghost use Rattle.state.specs.Truths.{AreTruths};
 ghost use Rattle.engine.specs.Tables.{window, Only, mostFormulas, setFlags, truthsOn, finalsOn, FinalsOn, SameFrom, flagPlaces};
 ghost use Rattle.engine.specs.Tables.{numberPlaces, surveysAt, surveysIn};
-ghost use Rattle.engine.specs.Tables.{endableIn, truthsFrom, finalsAt, distancesIn, countsFrom, countsAt, Prepared, Judged, Surveyed, Filled};
+ghost use Rattle.engine.specs.Tables.{endableIn, truthsFrom, finalsAt, distancesIn, countsFrom, countsAt};
+ghost use Rattle.engine.specs.Tables.{Judges, Prepared, Judged, BarredAt, Surveyed, Filled};
 ghost use Rattle.engine.specs.Frames.{Frame};
 ghost use Rattle.engine.specs.Going.{isFinal, Ahead, Tells, Known, IsAction, moveOf, CanGoOn, GoesOn};
 ghost use Rattle.engine.specs.Turns.{Turns};
@@ -43,8 +44,10 @@ pub const FLAGS: usize = leaves::RECORDS + SETS * (sheet::MOST_FORMULAS + leaves
 
 pub const NUMBERS: usize = SURVEYS + 1;
 
-// Where among the numbers those of the sets begin: behind the skips and the distances.
-const COUNTS: usize = leaves::SKIPS + leaves::RECORDS;
+// Where among the numbers the actions judged in each state are listed, behind the skips and the distances, and where those of the sets begin.
+const JUDGED: usize = leaves::SKIPS + leaves::RECORDS;
+
+const COUNTS: usize = JUDGED + state::LIST;
 
 // Where among them it is counted how many configurations were surveyed.
 const SURVEYS: usize = COUNTS + SETS * leaves::RECORDS;
@@ -148,8 +151,24 @@ fn copy_numbers(to: &mut [u32], from: &[u32])
     }
 }
 
-// Fills in once what depends on the sheet alone: which records may be final in some state, which depend on it, and how far each is from
-// its end.
+// The actions to be judged in each state: those that records perform and whose effects contradict each other if every condition holds.
+fn judged_of(s: &[u8], found: Inspection) -> [u32; state::LIST]
+    requires { ⌜ Of (now s) found ⌝ }
+    ensures { λ r. ⌜ Judges (now (s .entry)) r ⌝ }
+{
+    let l = found.layout;
+    let effects = l.effects;
+    let actions = l.actions;
+    let programs = l.programs;
+    let end = l.end;
+    let performed = state::listed(&leaves::performed(&s[programs..end], l.p));
+    let truths = [true; sheet::MOST_FORMULAS];
+    let marks = state::barred(&s[effects..actions], &s[actions..programs], &performed, &truths);
+    state::listed(&marks)
+}
+
+// Fills in once what depends on the sheet alone: which records may be final in some state, which depend on it, how far each is from its
+// end, and which actions are judged in each state.
 pub fn prepare(flags: &mut [bool], numbers: &mut [u32], s: &[u8], found: Inspection)
     requires { ⌜ Of (now s) found × (length (now flags) ≡ flagPlaces) × (length (now numbers) ≡ numberPlaces) × ((i : ℕ) → getD (now numbers) i 0 ≡ 0) ⌝ }
     ensures { λ _. ⌜ Prepared (now (s .entry)) (now (flags .exit)) (now (numbers .exit)) ⌝ }
@@ -163,7 +182,8 @@ pub fn prepare(flags: &mut [bool], numbers: &mut [u32], s: &[u8], found: Inspect
     let distances = leaves::distances(t, l.p, found.interrupts);
     copy_flags(&mut flags[..leaves::RECORDS], &endable);
     copy_numbers(&mut numbers[..leaves::SKIPS], &skips);
-    copy_numbers(&mut numbers[leaves::SKIPS..COUNTS], &distances);
+    copy_numbers(&mut numbers[leaves::SKIPS..JUDGED], &distances);
+    copy_numbers(&mut numbers[JUDGED..COUNTS], &judged_of(s, found));
 }
 
 // Where the tables for depth d begin: among the flags what the formulas say, and behind it which records are final.
@@ -282,6 +302,25 @@ pub fn is_final(
     ends::final_rest(&flags[from..to], work, d * found.frame + height::HEADER)
 }
 
+// Which actions what the formulas say in the tables for depth d bars.
+fn barred_at(flags: &[bool], numbers: &[u32], s: &[u8], found: Inspection, d: usize) -> [bool; state::ACTIONS]
+    requires { ⌜ Of (now s) found × Prepared (now s) (now flags) (now numbers) ⌝ }
+    ensures { λ r. ⌜ BarredAt (now (s .entry)) d (now (flags .entry)) (now (numbers .entry)) r ⌝ }
+{
+    let l = found.layout;
+    let effects = l.effects;
+    let actions = l.actions;
+    let programs = l.programs;
+    let from = flags_from(d);
+    let to = from + sheet::MOST_FORMULAS;
+    state::barred(
+        &s[effects..actions],
+        &s[actions..programs],
+        &numbers[JUDGED..COUNTS],
+        &flags[from..to],
+    )
+}
+
 // Fills in how many transitions each record has in a state, in the tables for depth d.
 fn tally(numbers: &mut [u32], flags: &[bool], s: &[u8], found: Inspection, st: State, d: usize)
     requires { ⌜ Of (now s) found × Judged (now s) st d (now flags) (now numbers) ⌝ }
@@ -297,6 +336,7 @@ fn tally(numbers: &mut [u32], flags: &[bool], s: &[u8], found: Inspection, st: S
     let to = middle + leaves::RECORDS;
     let first = counts_from(d);
     let last = first + leaves::RECORDS;
+    let barred = barred_at(flags, numbers, s, found, d);
     leaves::tallies(
         &mut numbers[first..last],
         &s[programs..end],
@@ -304,6 +344,7 @@ fn tally(numbers: &mut [u32], flags: &[bool], s: &[u8], found: Inspection, st: S
         found.interrupts,
         &s[actions..programs],
         &flags[from..middle],
+        &barred,
         st.running,
         &flags[middle..to],
     );
@@ -320,7 +361,7 @@ fn total(flags: &[bool], numbers: &[u32], work: &[u32], d: usize, at: usize) -> 
     let last = first + leaves::RECORDS;
     ends::total_rest(
         &flags[from..to],
-        &numbers[leaves::SKIPS..COUNTS],
+        &numbers[leaves::SKIPS..JUDGED],
         &numbers[first..last],
         work,
         at,

@@ -1,3 +1,3 @@
 pub mod Truths
-pub mod Performed
 pub mod Conflicts
+pub mod Performed

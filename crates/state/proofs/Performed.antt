@@ -2,7 +2,7 @@
 -- are changed place by place; and what is asked of the formulas is no more than the conditions of the range. Assumes nothing.
 use Prim.Native.Nat.{ℕ, zero, suc, _+_, _-_, _≤_, _<_}
 use mathlib.Core.Path.{_≡_, refl, sym, ap, _∙_}
-use mathlib.Core.Bool.{Bool, true, false, _||_}
+use mathlib.Core.Bool.{Bool, true, false}
 use mathlib.Core.List.{List, [], _∷_}
 use native.Mathlib.Numerals.{add-one}
 use native.Mathlib.Omega.{arith}
@@ -16,9 +16,10 @@ use Rattle.records.specs.declared.Action.{Action}
 use Rattle.records.specs.Records.{effectAt, actionAt}
 use Rattle.records.proofs.Laid.{Laid}
 use Rattle.golog.specs.declared.State.{State}
-use Rattle.golog.specs.World.{start, special, possibleBy, changes, given, each, changed, performBy}
+use Rattle.golog.specs.World.{start, possibleBy, changes, given, each, changed, performBy}
 use Rattle.golog.proofs.Moves.{given-none, given-here, given-later, each-at}
 use Rattle.state.specs.Ranges.{Names, ConditionsBelow}
+use Rattle.state.proofs.Conflicts.{conflict-same}
 
 module _ (says : ℕ → Bool) (effects : List ℕ) (x old : ℕ) where
   -- the effects before number i change nothing
@@ -98,13 +99,22 @@ module _ (says : ℕ → Bool) (effects : List ℕ) (n : ℕ) where
           ap (λ (y : ℕ). getD new y 0) (omega arith) ∙ L .laid j q ∙ ap (λ (y : ℕ). from y (getD values j 0)) (omega arith)
       pick j (no q) b = L .above j (omega arith) ∙ sym (given-stays (0 + j) (getD values j 0) (r .count) (r .first) h (omega arith))
 
--- and of the conditions of a range, performing it leads to the same state
+-- where formulas say the same of the conditions of a range, and of its precondition, an action is as possible, and performing it leads to
+-- the same state
 module _ (effects actions : List ℕ) (says said : ℕ → Bool) (n : ℕ) (same : (q : ℕ) → q < n → says q ≡ said q) where
   given-same : (x old k i : ℕ) → ConditionsBelow effects n i k → given says (effectAt effects) x old i k ≡ given said (effectAt effects) x old i k
   unfolding given
   given-same x old zero i h = refl
   given-same x old (suc k) i h =
       rw (same (effectAt effects i .condition) (h i (omega arith) (omega arith)), given-same x old k (suc i) (λ j a b. h j (omega arith) (omega arith)))
+
+  pub possible-same :
+      (a : ℕ) → actionAt actions a .precondition < n → ConditionsBelow effects n (actionAt actions a .first) (actionAt actions a .count)
+      → possibleBy says (effectAt effects) (actionAt actions) a ≡ possibleBy said (effectAt effects) (actionAt actions) a
+  unfolding possibleBy
+  possible-same a l h =
+      let r = actionAt actions a in
+      rw (same (r .precondition) l, conflict-same (effectAt effects) says said (r .first) (r .count) (λ i (f, t). same _ (h i f t)))
 
   pub perform-same : (a : ℕ) (s : State) → (a < start → ConditionsBelow effects n (actionAt actions a .first) (actionAt actions a .count)) →
       performBy says (effectAt effects) (actionAt actions) a s ≡ performBy said (effectAt effects) (actionAt actions) a s
