@@ -10,6 +10,7 @@ use lib.Dec.{T, eqb}
 use lib.ListN.{length, getD}
 use borrow.Author.Tests.{ne-eqb}
 use Rattle.records.specs.declared.Program.{Program}
+use Rattle.records.proofs.Truth.{is-true}
 use Rattle.golog.specs.declared.State.{State}
 use Rattle.golog.specs.World.{World, after}
 use Rattle.golog.specs.Prog.{Prog, sequence, together, over}

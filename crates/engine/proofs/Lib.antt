@@ -1,6 +1,7 @@
 pub mod Codes
-pub mod Seen
 pub mod Actions
+pub mod Seen
+pub mod Barring
 pub mod Moves
 pub mod Copied
 pub mod Windows

@@ -50,10 +50,10 @@ module _ (s : List ℕ) (accepted : Accepts s) (st : State) (truths : List Bool)
   pub sees :
       {list : List ℕ} {barred : List Bool} → Judges s list → Barred (effectsIn s (layoutOf s)) (actionsIn s (layoutOf s)) list truths barred
       → Sees (worldOf s) st (extendedRecords s) (extendedSizeOf s) truths (allowedBy (actionsIn s (layoutOf s)) truths barred) (st .running)
-  sees J B = sees-by _ (λ a t. or-left (special a) _ (is-true (special a) t)) tells
+  sees {barred = barred} J B = sees-by _ (λ a t. or-left (special a) _ (is-true (special a) t)) tells
     where
       tells : (i : ℕ) → i < layoutOf s .p → T (acts (recordsOf s i .kind))
-          → allowedBy (actionsIn s (layoutOf s)) truths _ (recordsOf s i .a) ≡ possible (worldOf s) (recordsOf s i .a) st
+          → allowedBy (actionsIn s (layoutOf s)) truths barred (recordsOf s i .a) ≡ possible (worldOf s) (recordsOf s i .a) st
       tells i l t =
           let a = recordsOf s i .a in
           let known = action-below _ _ i (fieldA (recordsOf s i .kind)) (fields-of s accepted i l .a) t in

@@ -163,7 +163,12 @@ fn judged_of(s: &[u8], found: Inspection) -> [u32; state::LIST]
     let end = l.end;
     let performed = state::listed(&leaves::performed(&s[programs..end], l.p));
     let truths = [true; sheet::MOST_FORMULAS];
-    let marks = state::barred(&s[effects..actions], &s[actions..programs], &performed, &truths);
+    let marks = state::barred(
+        &s[effects..actions],
+        &s[actions..programs],
+        &performed,
+        &truths,
+    );
     state::listed(&marks)
 }
 
@@ -180,10 +185,11 @@ pub fn prepare(flags: &mut [bool], numbers: &mut [u32], s: &[u8], found: Inspect
     let endable = leaves::bounds(t, l.p, found.interrupts, true);
     let skips = leaves::skips(t, l.p, found.interrupts, &endable);
     let distances = leaves::distances(t, l.p, found.interrupts);
+    let judged = judged_of(s, found);
     copy_flags(&mut flags[..leaves::RECORDS], &endable);
     copy_numbers(&mut numbers[..leaves::SKIPS], &skips);
     copy_numbers(&mut numbers[leaves::SKIPS..JUDGED], &distances);
-    copy_numbers(&mut numbers[JUDGED..COUNTS], &judged_of(s, found));
+    copy_numbers(&mut numbers[JUDGED..COUNTS], &judged);
 }
 
 // Where the tables for depth d begin: among the flags what the formulas say, and behind it which records are final.
@@ -303,7 +309,13 @@ pub fn is_final(
 }
 
 // Which actions what the formulas say in the tables for depth d bars.
-fn barred_at(flags: &[bool], numbers: &[u32], s: &[u8], found: Inspection, d: usize) -> [bool; state::ACTIONS]
+fn barred_at(
+    flags: &[bool],
+    numbers: &[u32],
+    s: &[u8],
+    found: Inspection,
+    d: usize,
+) -> [bool; state::ACTIONS]
     requires { ⌜ Of (now s) found × Prepared (now s) (now flags) (now numbers) ⌝ }
     ensures { λ r. ⌜ BarredAt (now (s .entry)) d (now (flags .entry)) (now (numbers .entry)) r ⌝ }
 {

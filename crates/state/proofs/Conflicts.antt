@@ -203,12 +203,14 @@ module _ (marks : List Bool) where
 module _ (effects actions list : List ℕ) (truths : List Bool) where
   pub record Barring (marks : List Bool) (j : ℕ) : Type 0 where
     pub long : length marks ≡ 64
+    pub listed : (a : ℕ) → getD marks a false ≡ true → (i : ℕ) × (i < j) × (getD list i 0 ≡ a)
     pub sound : (a : ℕ) → getD marks a false ≡ true → bars effects truths (actionAt actions a) ≡ true
     pub whole : (i : ℕ) → i < j → bars effects truths (actionAt actions (getD list i 0)) ≡ true → getD marks (getD list i 0) false ≡ true
 
   pub barring-none : Barring (replicate 64 false) 0
   barring-none = record {
     long = length-replicate {A = Bool} 64 false;
+    listed = λ a e. absurd (false≢true (sym (getD-same false 64 a) ∙ e));
     sound = λ a e. absurd (false≢true (sym (getD-same false 64 a) ∙ e));
     whole = λ i l. absurd (omega arith);
   }
@@ -217,6 +219,8 @@ module _ (effects actions list : List ℕ) (truths : List Bool) where
     pub barring-more : {a : ℕ} {b : Bool} → a ≡ getD list j 0 → a < 64 → b ≡ bars effects truths (actionAt actions a) → Barring (set marks a b) (j + 1)
     barring-more {a} {b} e l f = record {
       long = length-set marks a b ∙ B .long;
+      listed = λ c. written (λ (t : Bool). t ≡ true → Before c) false marks a b inside c
+          (λ n t. let (i, h, z) = B .listed c t in (i, omega arith, z)) (λ z t. (j, omega arith, sym e ∙ sym z));
       sound = λ c. written (λ (t : Bool). t ≡ true → bars effects truths (actionAt actions c) ≡ true) false marks a b inside c (λ n. B .sound c)
           (λ z t. ap (λ (i : ℕ). bars effects truths (actionAt actions i)) z ∙ sym f ∙ t);
       whole = λ i h t. written (λ (t : Bool). t ≡ true) false marks a b inside (getD list i 0)
@@ -224,14 +228,18 @@ module _ (effects actions list : List ℕ) (truths : List Bool) where
           (λ z. f ∙ ap (λ (i : ℕ). bars effects truths (actionAt actions i)) (sym z) ∙ t);
     }
       where
+        Before : ℕ → Type 0
+        Before c = (i : ℕ) × (i < j + 1) × (getD list i 0 ≡ c)
+
         inside : a < length marks
         inside = omega (arith, B .long)
 
         apart : (i : ℕ) → ¬ (getD list i 0 ≡ a) → i ≡ j → ⊥
         apart i n z = n (ap (λ (k : ℕ). getD list k 0) z ∙ sym e)
 
-    pub barring-done : listedCount list ≤ j → Barred effects actions list truths marks
+    pub barring-done : j ≡ listedCount list → Barred effects actions list truths marks
     barring-done l = record {
+      listed = λ a t. let (i, h, z) = B .listed a t in (i, omega arith, z);
       sound = B .sound;
       whole = λ a (i, h, z) t.
           subst (λ (b : ℕ). getD marks b false ≡ true) z (B .whole i (omega arith) (ap (λ (b : ℕ). bars effects truths (actionAt actions b)) z ∙ t));

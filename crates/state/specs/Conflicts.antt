@@ -31,8 +31,9 @@ pub record Lists (marks : List Bool) (list : List ℕ) : Type 0 where
 abbrev pub bars : (effects : List ℕ) (truths : List Bool) → Action → Bool
 bars effects truths r = saidBy truths (r .precondition) && conflicting (saidBy truths) (effectAt effects) (r .first) (r .count)
 
--- only such actions are marked, and of those listed all such
+-- of those listed all such actions are marked, and no others
 pub record Barred (effects actions list : List ℕ) (truths barred : List Bool) : Type 0 where
+  pub listed : (a : ℕ) → getD barred a false ≡ true → Listed list a
   pub sound : (a : ℕ) → getD barred a false ≡ true → bars effects truths (actionAt actions a) ≡ true
   pub whole : (a : ℕ) → Listed list a → bars effects truths (actionAt actions a) ≡ true → getD barred a false ≡ true
 

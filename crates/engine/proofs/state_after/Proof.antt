@@ -12,7 +12,7 @@ use Rattle.demands.specs.Decoded.{worldOf}
 use Rattle.state.specs.Truths.{saidBy}
 use Rattle.state.proofs.Performed.{perform-same}
 use Rattle.engine.proofs.Codes.{is-test, is-move, action-of-code}
-use Rattle.engine.proofs.Actions.{performable, judged}
+use Rattle.engine.proofs.Actions.{performable, conditions-below}
 use Rattle.sheet.proofs.Parts.{in-order}
 use Rattle.sheet.proofs.Found.{in-sheet}
 use Rattle.engine.proofs.state_after.Statement.{statement}
@@ -67,8 +67,8 @@ returns-2 c =
     let l = layoutOf s in
     let truths = now (at-start .args .truths) in
     let by = c .perform .ensures ∙ ap (λ (l : Layout). performBy (saidBy truths) (effectAt (effectsIn s l)) (actionAt (actionsIn s l)) e st) (O .layout-is) in
-    let action = judged s (O .accepted) e (action-of-code (now (at-start .args .s)) (at-start .args .entry) _ (at-start .pre .1) refl (at-if1 .if1 .left)) in
-    let is = perform-same (effectsIn s l) (actionsIn s l) (saidBy truths) (saysIn (worldOf s) st) (l .q) (at-start .pre .0 .1) e st action in
+    let known = action-of-code (now (at-start .args .s)) (at-start .args .entry) _ (at-start .pre .1) refl (at-if1 .if1 .left) in
+    let is = perform-same (effectsIn s l) (actionsIn s l) (saidBy truths) (saysIn (worldOf s) st) (l .q) (at-start .pre .0 .1) e st (λ h. conditions-below s (O .accepted) e (known .1 h)) in
     by ∙ is ∙ sym (ap (λ (x : Option ℕ). after (worldOf s) x st) (is-move e (at-if1 .if1 .left)))
 
 pub state-after-spec : {M : Type 1} → statement M

@@ -39,19 +39,25 @@ loop-less c = search needs
 
 loop-again : tie.Need-loop-again Inv-loop μ-loop
 loop-again c =
-    let v = c .before .before .before .before .loop .inv in
+    let at-acts = c .before in
+    let at-loop = at-acts .before .before .before in
+    let v = at-loop .loop .inv in
     let e = c .before .before .program-at .ensures .0 in
-    let f = c .before .acts .ensures in (
+    let f = at-acts .acts .ensures in (
       omega arith,
       ⊎-elim (λ w. rw (w .1) (simp length-set (v .1))) (λ w. rw (w .1) (v .1)) (c .if1 .came),
       ⊎-elim
-          (λ w. rw (w .1) (performed-more _ (v .2) e (v .1) (rw (← f) (w .0 .taken)) (ltb-true _ 64 (and-right (c .before .acts .result) _ (w .0 .taken)))))
+          (λ w. rw (w .1) (performed-more _ (v .2) e (v .1) (rw (← f) (w .0 .taken)) (ltb-true _ 64 (and-right (at-acts .acts .result) _ (w .0 .taken)))))
           (λ w. rw (w .1) (performed-passed _ (v .2) e (rw (← f) (w .0 .left))))
           (c .if1 .came),
     )
 
 returns : tie.Need-returns Inv-loop μ-loop
-returns c = let z : c .before .loop .i ≡ c .before .before .before .args .n = omega arith in rw (← z) (c .before .loop .inv .2)
+returns c =
+    let at-loop = c .before in
+    let at-start = at-loop .before .before in
+    let z : at-loop .loop .i ≡ at-start .args .n = omega arith in
+    rw (← z) (at-loop .loop .inv .2)
 
 pub performed-spec : {M : Type 1} → statement M
 performed-spec =
