@@ -1,26 +1,30 @@
 -- What the truths of a state tell of an accepted sheet: every record that runs is seen as it is. Assumes nothing.
-use mathlib.Core.Path.{_≡_, refl, _∙_}
-use mathlib.Core.Bool.{Bool, true}
+use mathlib.Core.Path.{_≡_, refl, sym, _∙_}
+use mathlib.Core.Bool.{Bool, true, false, false≢true}
 use mathlib.Core.List.{List}
+use mathlib.Core.Logic.{⊎-elim}
 use Prim.Native.Nat.{ℕ, _<_}
 use lib.Dec.{T}
-use Rattle.records.proofs.Truth.{or-left, is-true}
+use Rattle.records.specs.Records.{actionAt}
+use Rattle.records.proofs.Truth.{and-right, or-left, is-true}
 use Rattle.kinds.specs.Programs.{fieldA, fieldC, acts}
 use Rattle.kinds.proofs.ProgramFields.{action-below, formula-below}
 use Rattle.sheet.specs.Layout.{layoutOf, effectsIn, actionsIn}
 use Rattle.sheet.specs.Check.{Accepts}
 use Rattle.sheet.proofs.Lower.{fields-of, action-of}
 use Rattle.golog.specs.declared.State.{State}
-use Rattle.golog.specs.World.{special, possibleBy, saysIn, possible}
+use Rattle.golog.specs.World.{special, conflicting, possibleBy, saysIn, possible}
 use Rattle.demands.specs.Decoded.{worldOf, recordsOf, interruptsIn}
 use Rattle.demands.specs.Compact.{extendedRecords}
 use Rattle.state.specs.Truths.{saidBy, AreTruths}
 use Rattle.state.specs.Conflicts.{Barred, allowedBy}
-use Rattle.state.proofs.Conflicts.{allowed-possible}
+use Rattle.state.specs.Ranges.{ConditionsBelow}
+use Rattle.state.proofs.Barring.{allowed-possible}
+use Rattle.state.proofs.Excluding.{apart-none}
 use Rattle.state.proofs.Performed.{possible-same}
 use Rattle.leaves.specs.Tallies.{SeesRecord, Sees}
 use Rattle.leaves.proofs.Seen.{table-seen}
-use Rattle.engine.specs.Tables.{extendedSizeOf, Judges}
+use Rattle.engine.specs.Tables.{extendedSizeOf, ApartIn, Judges}
 use Rattle.engine.proofs.Actions.{conditions-below}
 
 module _ (s : List ℕ) (accepted : Accepts s) (st : State) (truths : List Bool) (H : AreTruths (worldOf s) st (layoutOf s .q) truths) where
@@ -52,10 +56,16 @@ module _ (s : List ℕ) (accepted : Accepts s) (st : State) (truths : List Bool)
       → Sees (worldOf s) st (extendedRecords s) (extendedSizeOf s) truths (allowedBy (actionsIn s (layoutOf s)) truths barred) (st .running)
   sees {barred = barred} J B = sees-by _ (λ a t. or-left (special a) _ (is-true (special a) t)) tells
     where
+      none : (a : ℕ) → ConditionsBelow (effectsIn s (layoutOf s)) (layoutOf s .q) (actionAt (actionsIn s (layoutOf s)) a .first) (actionAt (actionsIn s (layoutOf s)) a .count)
+          → ApartIn s a → conflicting (saidBy truths) (worldOf s .effect) (worldOf s .action a .first) (worldOf s .action a .count) ≡ false
+      none a low A = apart-none _ _ _ _ A (worldOf s) st (layoutOf s .q) truths H (λ q. refl) low
+
       tells : (i : ℕ) → i < layoutOf s .p → T (acts (recordsOf s i .kind))
           → allowedBy (actionsIn s (layoutOf s)) truths barred (recordsOf s i .a) ≡ possible (worldOf s) (recordsOf s i .a) st
       tells i l t =
           let a = recordsOf s i .a in
           let known = action-below _ _ i (fieldA (recordsOf s i .kind)) (fields-of s accepted i l .a) t in
-          allowed-possible a B (J .all i l t truths)
-          ∙ possible-same _ _ (saidBy truths) (saysIn (worldOf s) st) _ H a (action-of s accepted a known .0) (conditions-below s accepted a known)
+          let low = conditions-below s accepted a known in
+          let r = actionAt (actionsIn s (layoutOf s)) a in
+          allowed-possible a B (λ e. ⊎-elim (λ k. k) (λ A. absurd (false≢true (sym (none a low A) ∙ and-right (saidBy truths (r .precondition)) _ e))) (J .all i l t))
+          ∙ possible-same _ _ (saidBy truths) (saysIn (worldOf s) st) _ H a (action-of s accepted a known .0) low

@@ -5,17 +5,19 @@ use Prim.Native.Nat.{ℕ, _+_, _*_, _%_, _≤_, _<_}
 use mathlib.Core.Path.{_≡_}
 use mathlib.Core.Bool.{Bool, true}
 use mathlib.Core.List.{List}
+use mathlib.Core.Logic.{_⊎_}
 use lib.Dec.{T}
 use lib.ListN.{length, getD, take, drop}
 use Rattle.records.specs.Records.{actionAt}
 use Rattle.records.specs.declared.Program.{Program}
 use Rattle.kinds.specs.Programs.{acts}
-use Rattle.sheet.specs.Layout.{layoutOf, effectsIn, actionsIn, programsIn}
+use Rattle.sheet.specs.Layout.{layoutOf, formulasIn, effectsIn, actionsIn, programsIn}
 use Rattle.golog.specs.declared.State.{State}
 use Rattle.demands.specs.Decoded.{worldOf, recordsOf, interruptsIn}
 use Rattle.demands.specs.Compact.{extendedRecords}
 use Rattle.state.specs.Truths.{AreTruths}
-use Rattle.state.specs.Conflicts.{Listed, bars, Barred, Judgeable}
+use Rattle.state.specs.Conflicts.{Listed, Barred, Judgeable}
+use Rattle.state.specs.Exclusion.{Apart}
 use Rattle.remaining.specs.Extended.{mostRecords}
 use Rattle.leaves.specs.Tallies.{extendedSize, finalsOf}
 use Rattle.leaves.specs.Endable.{Skips, FinalsKnown}
@@ -120,12 +122,17 @@ countsAt d numbers = window (countsFrom d) mostRecords numbers
 abbrev pub extendedSizeOf : List ℕ → ℕ
 extendedSizeOf s = extendedSize (interruptsIn s) (layoutOf s .p)
 
--- the list has every action that a record performs and some truths bar, and its actions can be judged
+-- effects of action a that give one fluent different values stand under conditions that exclude each other
+abbrev pub ApartIn : (s : List ℕ) (a : ℕ) → Type 0
+ApartIn s a =
+    let r = actionAt (actionsIn s (layoutOf s)) a in
+    Apart (formulasIn s (layoutOf s)) (effectsIn s (layoutOf s)) (r .first) (r .count)
+
+-- the actions listed can be judged; and of each action that a record performs: it is listed, or contradicts itself in no state
 pub record Judges (s : List ℕ) (list : List ℕ) : Type 0 where
   pub known : Judgeable (effectsIn s (layoutOf s)) (actionsIn s (layoutOf s)) list
   pub all :
-      (i : ℕ) → i < layoutOf s .p → T (acts (recordsOf s i .kind)) → (truths : List Bool)
-      → bars (effectsIn s (layoutOf s)) truths (actionAt (actionsIn s (layoutOf s)) (recordsOf s i .a)) ≡ true → Listed list (recordsOf s i .a)
+      (i : ℕ) → i < layoutOf s .p → T (acts (recordsOf s i .kind)) → Listed list (recordsOf s i .a) ⊎ ApartIn s (recordsOf s i .a)
 
 -- what is told once of a sheet stands in the tables, and behind the records nil
 pub record Prepared (s : List ℕ) (flags : List Bool) (numbers : List ℕ) : Type 0 where

@@ -47,7 +47,7 @@ pub const NUMBERS: usize = SURVEYS + 1;
 // Where among the numbers the actions judged in each state are listed, behind the skips and the distances, and where those of the sets begin.
 const JUDGED: usize = leaves::SKIPS + leaves::RECORDS;
 
-const COUNTS: usize = JUDGED + state::LIST;
+const COUNTS: usize = JUDGED + state::exclusion::LIST;
 
 // Where among them it is counted how many configurations were surveyed.
 const SURVEYS: usize = COUNTS + SETS * leaves::RECORDS;
@@ -151,25 +151,25 @@ fn copy_numbers(to: &mut [u32], from: &[u32])
     }
 }
 
-// The actions to be judged in each state: those that records perform and whose effects contradict each other if every condition holds.
-fn judged_of(s: &[u8], found: Inspection) -> [u32; state::LIST]
+// The actions to be judged in each state: those that records perform and whose effects may contradict each other.
+fn judged_of(s: &[u8], found: Inspection) -> [u32; state::exclusion::LIST]
     requires { ⌜ Of (now s) found ⌝ }
     ensures { λ r. ⌜ Judges (now (s .entry)) r ⌝ }
 {
     let l = found.layout;
+    let formulas = l.formulas;
     let effects = l.effects;
     let actions = l.actions;
     let programs = l.programs;
     let end = l.end;
-    let performed = state::listed(&leaves::performed(&s[programs..end], l.p));
-    let truths = [true; sheet::MOST_FORMULAS];
-    let marks = state::barred(
+    let performed = leaves::performed(&s[programs..end], l.p);
+    let risky = state::exclusion::risky(
+        &s[formulas..effects],
         &s[effects..actions],
         &s[actions..programs],
         &performed,
-        &truths,
     );
-    state::listed(&marks)
+    state::exclusion::listed(&risky)
 }
 
 // Fills in once what depends on the sheet alone: which records may be final in some state, which depend on it, how far each is from its
@@ -315,7 +315,7 @@ fn barred_at(
     s: &[u8],
     found: Inspection,
     d: usize,
-) -> [bool; state::ACTIONS]
+) -> [bool; state::conflicts::ACTIONS]
     requires { ⌜ Of (now s) found × Prepared (now s) (now flags) (now numbers) ⌝ }
     ensures { λ r. ⌜ BarredAt (now (s .entry)) d (now (flags .entry)) (now (numbers .entry)) r ⌝ }
 {
@@ -325,7 +325,7 @@ fn barred_at(
     let programs = l.programs;
     let from = flags_from(d);
     let to = from + sheet::MOST_FORMULAS;
-    state::barred(
+    state::conflicts::barred(
         &s[effects..actions],
         &s[actions..programs],
         &numbers[JUDGED..COUNTS],

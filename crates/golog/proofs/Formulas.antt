@@ -54,3 +54,8 @@ formula-says W q s (low-a, low-b) =
     rw (holds-is W s q)
     (truth-says W s (truths W (s .values) q) (r .x) (r .a) (r .b) (r .kind) (λ h. holds-at W s q (r .a) (low-a h))
     (λ h. holds-at W s q (r .b) (low-b h)))
+
+-- of a formula that a fluent has a value: where it holds, the fluent has it
+pub value-said : (W : World) (q : ℕ) (s : State) → W .formula q .kind ≡ 2 → T (holds W q s) → valueOf s (W .formula q .x) ≡ W .formula q .a
+unfolding Says fieldA fieldB
+value-said W q s e t = rw e at (formula-says W q s (λ h. absurd (rw e at h), λ h. absurd (rw e at h)) .0 t)

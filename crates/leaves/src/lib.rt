@@ -94,16 +94,16 @@ fn capped(n: u64, most: u32) -> u32
 }
 
 // Which actions the first n records perform.
-pub fn performed(programs: &[u8], n: usize) -> [bool; state::ACTIONS]
+pub fn performed(programs: &[u8], n: usize) -> [bool; state::conflicts::ACTIONS]
     requires { ⌜ ProgramTable (now programs) n ⌝ }
     ensures { λ r. ⌜ Performed (programAt (now (programs .entry))) n r ⌝ }
 {
-    let mut marks = [false; state::ACTIONS];
+    let mut marks = [false; state::conflicts::ACTIONS];
     let mut i = 0;
     while i < n {
         let r = records::program_at(programs, i);
         let a = r.a;
-        if kinds::programs::acts(r.kind) & (a < state::ACTIONS) {
+        if kinds::programs::acts(r.kind) & (a < state::conflicts::ACTIONS) {
             marks[a] = true;
         }
         i += 1;

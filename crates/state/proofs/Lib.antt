@@ -1,3 +1,4 @@
 pub mod Truths
-pub mod Conflicts
+pub mod Barring
+pub mod Excluding
 pub mod Performed

@@ -19,7 +19,7 @@ use Rattle.golog.specs.declared.State.{State}
 use Rattle.golog.specs.World.{start, possibleBy, changes, given, each, changed, performBy}
 use Rattle.golog.proofs.Moves.{given-none, given-here, given-later, each-at}
 use Rattle.state.specs.Ranges.{Names, ConditionsBelow}
-use Rattle.state.proofs.Conflicts.{conflict-same}
+use Rattle.state.proofs.Barring.{conflict-same}
 
 module _ (says : ℕ → Bool) (effects : List ℕ) (x old : ℕ) where
   -- the effects before number i change nothing

@@ -1,3 +1,4 @@
 pub mod Truths
 pub mod Ranges
 pub mod Conflicts
+pub mod Exclusion

@@ -1,26 +1,21 @@
 // One state: what all formulas say of it, and the state after an action.
 ghost use mathlib.Core.Path.{_≡_};
-ghost use mathlib.Core.Bool.{not, _&&_};
 ghost use Prim.Native.Nat.{_+_, _*_, _≤_};
-ghost use lib.Dec.{eqb};
 ghost use lib.ListN.{length};
 ghost use Rattle.records.specs.Records.{formulaAt, effectAt, actionAt};
 ghost use Rattle.kinds.specs.Truth.{truthOf};
 ghost use Rattle.kinds.specs.Formulas.{LowerFormulas};
 ghost use Rattle.golog.specs.declared.State.{State};
-ghost use Rattle.golog.specs.World.{conflicting, changes, given, changed, performBy};
+ghost use Rattle.golog.specs.World.{changes, given, changed, performBy};
 ghost use Rattle.state.specs.Truths.{truthsOf, saidBy};
 ghost use Rattle.state.specs.Ranges.{Names, InActions, Performable};
-ghost use Rattle.state.specs.Conflicts.{mostActions, Lists, bars, Barred, Judgeable, allowedBy};
+ghost use Rattle.state.specs.Conflicts.{allowedBy};
 use golog::State;
 use records::Action;
 use records::Effect;
 
-// How many actions a sheet may have.
-pub const ACTIONS: usize = 64;
-
-// The places of a list of actions: one for each, and one for how many there are.
-pub const LIST: usize = 65;
+pub mod conflicts;
+pub mod exclusion;
 
 // What formula i says, where `lower` has what the formulas before it say.
 fn truth_at(formulas: &[u8], i: usize, values: &[u8], lower: &[bool]) -> bool
@@ -46,82 +41,6 @@ pub fn fill_truths(formulas: &[u8], n: usize, s: State, truths: &mut [bool])
     }
 }
 
-// Whether a value was noted and it is another: `noted` is 0 or, as `given`, one more than a value.
-fn differs(noted: u16, given: u16) -> bool
-    ensures { λ r. ⌜ r ≡ (not (eqb noted 0) && not (eqb noted given)) ⌝ }
-{
-    (noted != 0) & (noted != given)
-}
-
-// Whether effects of a range that hold give one fluent different values: one pass, which notes what value each fluent was given.
-fn conflict(effects: &[u8], first: usize, count: usize, truths: &[bool]) -> bool
-    requires { ⌜ (4 * (first + count) ≤ length (now effects)) × Names (now effects) 32 first count ⌝ }
-    ensures { λ r. ⌜ r ≡ conflicting (saidBy (now (truths .entry))) (effectAt (now (effects .entry))) first count ⌝ }
-{
-    let end = first + count;
-    let mut noted = [0u16; 32];
-    let mut i = first;
-    while i < end {
-        let e = records::effect_at(effects, i);
-        if records::flag_in(truths, e.condition, false) {
-            let x = e.fluent;
-            let given = e.value as u16 + 1;
-            if differs(noted[x], given) {
-                return true;
-            }
-            noted[x] = given;
-        }
-        i += 1;
-    }
-    false
-}
-
-// Whether an action cannot go although its precondition holds.
-fn is_barred(effects: &[u8], r: Action, truths: &[bool]) -> bool
-    requires { ⌜ (4 * (r .first + r .count) ≤ length (now effects)) × Names (now effects) 32 (r .first) (r .count) ⌝ }
-    ensures { λ b. ⌜ b ≡ bars (now (effects .entry)) (now (truths .entry)) r ⌝ }
-{
-    if records::flag_in(truths, r.precondition, false) {
-        return conflict(effects, r.first, r.count, truths);
-    }
-    false
-}
-
-// Which of the listed actions cannot go although their precondition holds, where `truths` has what the formulas say.
-pub fn barred(effects: &[u8], actions: &[u8], list: &[u32], truths: &[bool]) -> [bool; ACTIONS]
-    requires { ⌜ Judgeable (now effects) (now actions) (now list) ⌝ }
-    ensures { λ r. ⌜ Barred (now (effects .entry)) (now (actions .entry)) (now (list .entry)) (now (truths .entry)) r ⌝ }
-{
-    let n = records::wide32(records::number_in(list, ACTIONS, 0));
-    let mut marks = [false; ACTIONS];
-    let mut j = 0;
-    while j < n {
-        let a = records::wide32(records::number_in(list, j, 0));
-        marks[a] = is_barred(effects, records::action_at(actions, a), truths);
-        j += 1;
-    }
-    marks
-}
-
-// The marked actions as a list, and behind its places how many they are.
-pub fn listed(marks: &[bool]) -> [u32; LIST]
-    requires { ⌜ length (now marks) ≡ mostActions ⌝ }
-    ensures { λ r. ⌜ Lists (now (marks .entry)) r ⌝ }
-{
-    let mut list = [0u32; LIST];
-    let mut n = 0;
-    let mut a = 0;
-    while a < ACTIONS {
-        if marks[a] {
-            list[n] = a as u32;
-            n += 1;
-        }
-        a += 1;
-    }
-    list[ACTIONS] = n as u32;
-    list
-}
-
 // Whether action a is possible, where `truths` has what the formulas say and `barred` which actions they bar.
 pub fn possible(actions: &[u8], truths: &[bool], barred: &[bool], a: usize) -> bool
     requires { ⌜ InActions (now actions) a ⌝ }
@@ -131,10 +50,7 @@ pub fn possible(actions: &[u8], truths: &[bool], barred: &[bool], a: usize) -> b
         return true;
     }
     let r = records::action_at(actions, a);
-    if records::flag_in(truths, r.precondition, false) {
-        return !records::flag_in(barred, a, false);
-    }
-    false
+    records::flag_in(truths, r.precondition, false) & !records::flag_in(barred, a, false)
 }
 
 // Whether an effect names fluent x and its condition holds.

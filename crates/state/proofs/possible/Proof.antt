@@ -1,6 +1,5 @@
--- Start and stop stand above every number of an action; any other action is read in the table, and in that of the barred ones where its
--- precondition holds. Assumes nothing.
-use mathlib.Core.Path.{sym, _∙_}
+-- Start and stop stand above every number of an action; any other action is read in the table, and in that of the barred ones. Assumes
+-- nothing.
 use native.Mathlib.Omega.{arith}
 use borrow.Author.Tests.{lt-ltb, le-ltb}
 use borrow.Author.Needs.{needs}
@@ -21,24 +20,9 @@ flag-in-requires-2 c κs = search needs
 
 returns-2 : tie.Need-returns-2
 returns-2 c =
-    let at-action-at = c .before .before .before in
-    let at-if1 = at-action-at .before in
-    let at-start = at-if1 .before .before .before .before in
-    rw (
-      le-ltb 65533 (at-start .args .a) (omega (arith, at-if1 .if1 .left)),
-      ← at-action-at .action-at .ensures .0,
-      ← c .before .before .flag-in .ensures,
-      c .before .if2 .taken,
-      c .flag-in2 .ensures,
-    )
-
-returns-3 : tie.Need-returns-3
-returns-3 c =
     let at-if1 = c .before .before .before in
     let at-start = at-if1 .before .before .before .before in
-    rw (le-ltb 65533 (at-start .args .a) (omega (arith, at-if1 .if1 .left)), ← c .before .before .action-at .ensures .0, ← c .before .flag-in .ensures, c .if2 .left)
+    rw (le-ltb 65533 (at-start .args .a) (omega (arith, at-if1 .if1 .left)), ← c .before .before .action-at .ensures .0, c .before .flag-in .ensures, c .flag-in2 .ensures)
 
 pub possible-spec : {M : Type 1} → statement M
-possible-spec =
-    tie.close
-    (tie.spec returns action-at-requires flag-in-requires flag-in-requires-2 returns-2 returns-3)
+possible-spec = tie.close (tie.spec returns action-at-requires flag-in-requires flag-in-requires-2 returns-2)

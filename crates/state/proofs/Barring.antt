@@ -1,5 +1,5 @@
--- The laws of judging actions: a pass that notes what each fluent was given finds a conflict exactly where there is one; a list has the marked
--- numbers; marks are those of the listed actions; and whoever can go by them is possible. Assumes nothing.
+-- The laws of judging actions in a state: a pass that notes what each fluent was given finds a conflict exactly where there is one; marks are
+-- those of the listed actions; and whoever can go by them is possible. Assumes nothing.
 use Prim.Native.Nat.{ℕ, zero, suc, _+_, _-_, _≤_, _<_}
 use mathlib.Core.Path.{_≡_, refl, sym, _∙_, ap, subst}
 use mathlib.Core.Bool.{Bool, true, false, not, _&&_, _||_, false≢true}
@@ -21,7 +21,7 @@ use Rattle.golog.specs.World.{special, someFrom, conflicting, possibleBy}
 use Rattle.golog.specs.Possible.{InRange, Conflict}
 use Rattle.golog.proofs.Possible.{conflicting-exactly}
 use Rattle.state.specs.Truths.{saidBy}
-use Rattle.state.specs.Conflicts.{listedCount, Listed, Lists, bars, Barred, allowedBy}
+use Rattle.state.specs.Conflicts.{listedCount, Listed, bars, Barred, allowedBy}
 
 -- what is noted is another value, or it is none or the same
 pub differ-true : (n w : ℕ) → (not (eqb n 0) && not (eqb n w)) ≡ true → (¬ (n ≡ 0)) × (¬ (n ≡ w))
@@ -37,6 +37,15 @@ differ-false n w e = go (ℕ-discrete n 0) (ℕ-discrete n w)
     go (yes z) d = inl z
     go (no z) (yes d) = inr d
     go (no z) (no d) = absurd (false≢true (sym e ∙ and-both _ _ (ap not (ne-eqb n 0 z)) (ap not (ne-eqb n w d))))
+
+-- what is noted stays noted, where no other value is written over it
+pub still-noted :
+    (noted : List ℕ) (x w : ℕ) → x < length noted → (not (eqb (getD noted x 0) 0) && not (eqb (getD noted x 0) w)) ≡ false
+    → (y v : ℕ) → getD noted y 0 ≡ suc v → getD (set noted x w) y 0 ≡ suc v
+still-noted noted x w inside same y v old =
+    written (λ (n : ℕ). n ≡ suc v) 0 noted x w inside y (λ n. old)
+    (λ e. let here = ap (λ (z : ℕ). getD noted z 0) (sym e) ∙ old in
+    ⊎-elim (λ (n : getD noted x 0 ≡ 0). absurd (omega arith)) (λ n. sym n ∙ here) (differ-false (getD noted x 0) w same))
 
 module _ (says : ℕ → Bool) (effects : List ℕ) (first : ℕ) where
   -- effect a stands before number i and holds
@@ -91,8 +100,7 @@ module _ (says : ℕ → Bool) (effects : List ℕ) (first : ℕ) where
         pub noted-more : x < 32 → (not (eqb (getD noted x 0) 0) && not (eqb (getD noted x 0) w)) ≡ false → Noted (set noted x w) (i + 1)
         noted-more l same = record {
           long = length-set noted x w ∙ N .long;
-          each = λ a h. written (λ (n : ℕ). n ≡ suc (effectAt effects a .value)) 0 noted x w inside (effectAt effects a .fluent)
-              (λ n. N .each a (before h (λ z. n (ap (λ (b : ℕ). effectAt effects b .fluent) z ∙ sym fluent)))) (λ g. here a h g (ℕ-discrete a i));
+          each = λ a h. here a h (ℕ-discrete a i);
           source = λ y v. written (λ (n : ℕ). n ≡ suc v → Source y v) 0 noted x w inside y
               (λ n d. let (a, ((k, m), h), g, u) = N .source y v d in (a, ((k, omega arith), h), g, u))
               (λ g d. (i, ((from, omega arith), holds), sym fluent ∙ sym g, omega (arith, value)));
@@ -104,11 +112,11 @@ module _ (says : ℕ → Bool) (effects : List ℕ) (first : ℕ) where
             Source : (y v : ℕ) → Type 0
             Source y v = (a : ℕ) × HeldBefore (i + 1) a × (effectAt effects a .fluent ≡ y) × (effectAt effects a .value ≡ v)
 
-            here : (a : ℕ) → HeldBefore (i + 1) a → effectAt effects a .fluent ≡ x → Dec (a ≡ i) → w ≡ suc (effectAt effects a .value)
-            here a h g (yes z) = value ∙ ap (λ (b : ℕ). suc (effectAt effects b .value)) (sym z)
-            here a h g (no z) =
-                let old = ap (λ (y : ℕ). getD noted y 0) (sym g) ∙ N .each a (before h z) in
-                ⊎-elim (λ (n : getD noted x 0 ≡ 0). absurd (omega arith)) (λ n. sym n ∙ old) (differ-false (getD noted x 0) w same)
+            here : (a : ℕ) → HeldBefore (i + 1) a → Dec (a ≡ i) → getD (set noted x w) (effectAt effects a .fluent) 0 ≡ suc (effectAt effects a .value)
+            here a h (no z) = still-noted noted x w inside same _ (effectAt effects a .value) (N .each a (before h z))
+            here a h (yes z) =
+                ap (λ (y : ℕ). getD (set noted x w) y 0) (ap (λ (b : ℕ). effectAt effects b .fluent) z ∙ sym fluent) ∙ getD-set-same noted x w 0 inside ∙ value
+                ∙ ap (λ (b : ℕ). suc (effectAt effects b .value)) (sym z)
 
         pub noted-other :
             (count : ℕ) → i < first + count → (not (eqb (getD noted x 0) 0) && not (eqb (getD noted x 0) w)) ≡ true
@@ -129,75 +137,6 @@ module _ (says : ℕ → Bool) (effects : List ℕ) (first : ℕ) where
             let other = N .each b ((g, omega arith), k) in
             let same = ap (λ (x : ℕ). getD noted x 0) e in
             differ (omega arith)
-
-module _ (marks : List Bool) where
-  -- the first n places of the list are the marked numbers below a
-  pub record Listing (list : List ℕ) (n a : ℕ) : Type 0 where
-    pub long : length list ≡ 65
-    pub few : n ≤ a
-    pub marked : (j : ℕ) → j < n → (getD list j 0 < a) × (getD marks (getD list j 0) false ≡ true)
-    pub all : (b : ℕ) → b < a → getD marks b false ≡ true → (j : ℕ) × (j < n) × (getD list j 0 ≡ b)
-
-  pub listing-none : Listing (replicate 65 0) 0 0
-  listing-none = record {
-    long = length-replicate {A = ℕ} 65 0;
-    few = omega arith;
-    marked = λ j l. absurd (omega arith);
-    all = λ b l. absurd (omega arith);
-  }
-
-  module _ {list : List ℕ} {n a : ℕ} (L : Listing list n a) where
-    pub listing-passed : getD marks a false ≡ false → Listing list n (a + 1)
-    listing-passed e = record {
-      long = L .long;
-      few = omega (arith, L .few);
-      marked = λ j l. (omega (arith, L .marked j l .0), L .marked j l .1);
-      all = λ b l m. L .all b (omega (arith, apart b m)) m;
-    }
-      where
-        apart : (b : ℕ) → getD marks b false ≡ true → b ≡ a → ⊥
-        apart b m z = false≢true (sym e ∙ ap (λ (i : ℕ). getD marks i false) (sym z) ∙ m)
-
-    pub listing-more : getD marks a false ≡ true → a < 64 → Listing (set list n a) (n + 1) (a + 1)
-    listing-more e small = record {
-      long = length-set list n a ∙ L .long;
-      few = omega (arith, L .few);
-      marked = λ j l. written (λ (v : ℕ). (v < a + 1) × (getD marks v false ≡ true)) 0 list n a inside j
-          (λ z. let m = L .marked j (omega (arith, z)) in (omega (arith, m .0), m .1)) (λ z. (omega arith, e));
-      all = λ b l m. pick b l m (decLt b a);
-    }
-      where
-        inside : n < length list
-        inside = omega (arith, L .long, L .few)
-
-        pick : (b : ℕ) → b < a + 1 → getD marks b false ≡ true → Dec (b < a) → (j : ℕ) × (j < n + 1) × (getD (set list n a) j 0 ≡ b)
-        pick b l m (yes k) = let (j, h, z) = L .all b k m in (j, omega arith, getD-set-other list n j a 0 (λ y. omega arith) ∙ z)
-        pick b l m (no k) = (n, omega arith, getD-set-same list n a 0 inside ∙ omega arith)
-
-    -- and how many there are is written behind all places
-    pub listing-done : 64 ≤ a → a ≤ 64 → length marks ≡ 64 → Lists marks (set list 64 n)
-    listing-done l h long = record {
-      marked = λ b (j, k, z). let m = L .marked j (few j k) in subst (λ (i : ℕ). getD marks i false ≡ true) (sym (kept j k) ∙ z) (m .1);
-      all = λ b m.
-          let (j, k, z) = L .all b (inside b m) m in
-          (j, subst (λ (v : ℕ). j < v) (sym count) k, getD-set-other list 64 j n 0 (λ y. omega (arith, L .few)) ∙ z);
-    }
-      where
-        count : listedCount (set list 64 n) ≡ n
-        count = getD-set-same list 64 n 0 (omega (arith, L .long))
-
-        few : (j : ℕ) → j < listedCount (set list 64 n) → j < n
-        few j k = omega (arith, count)
-
-        kept : (j : ℕ) → j < listedCount (set list 64 n) → getD (set list 64 n) j 0 ≡ getD list j 0
-        kept j k = getD-set-other list 64 j n 0 (λ y. omega (arith, L .few, few j k))
-
-        inside : (b : ℕ) → getD marks b false ≡ true → b < a
-        inside b m = go (decLt b a)
-          where
-            go : Dec (b < a) → b < a
-            go (yes k) = k
-            go (no k) = absurd (false≢true (sym (List·getD-eq-default marks false (omega arith)) ∙ m))
 
 -- the marks of the first j actions listed
 module _ (effects actions list : List ℕ) (truths : List Bool) where
@@ -255,14 +194,6 @@ module _ (effect : ℕ → Effect) (says said : ℕ → Bool) (i k : ℕ) where
   pub conflict-same : ((a : ℕ) → InRange i k a → says (effect a .condition) ≡ said (effect a .condition)) → conflicting says effect i k ≡ conflicting said effect i k
   unfolding conflicting
   conflict-same same = some-same _ _ k i (λ a l. some-same _ _ k i (λ b m. rw (same a l, same b m)))
-
-  -- and where those that hold still hold, it still conflicts
-  pub conflict-more :
-      ((a : ℕ) → InRange i k a → T (says (effect a .condition)) → T (said (effect a .condition)))
-      → conflicting says effect i k ≡ true → conflicting said effect i k ≡ true
-  conflict-more more e =
-      let (a, l, (b, m, ((h, g), differ))) = conflicting-exactly says effect i k .0 (subst T (sym e) tt) in
-      is-true _ (conflicting-exactly said effect i k .1 (a, l, (b, m, ((more a l h, more b m g), differ))))
 
 -- a flag that is set exactly where both tests pass stands for the second
 both-same : (p b c : Bool) → ((p && c) ≡ true → b ≡ true) → (b ≡ true → (p && c) ≡ true) → (p && not b) ≡ (p && not c)

@@ -2,10 +2,10 @@
 use Prim.Native.Nat.{_-_, _≤_}
 use mathlib.Core.Logic.{⊎-elim}
 use native.Mathlib.Omega.{arith}
-use Rattle.state.proofs.Conflicts.{Listing, listing-none, listing-passed, listing-more, listing-done}
+use Rattle.state.proofs.Excluding.{Listing, listing-none, listing-passed, listing-more, listing-done}
 use borrow.Author.Needs.{needs}
-use Rattle.state.proofs.listed.Statement.{statement}
-use Rattle.state.proofs.listed.Tie as tie
+use Rattle.state.proofs.exclusion.listed.Statement.{statement}
+use Rattle.state.proofs.exclusion.listed.Tie as tie
 
 abbrev Inv-loop : tie.InvT-loop
 Inv-loop marks list₀ n₀ a₀ list n a = (a ≤ 64) × Listing marks list n a

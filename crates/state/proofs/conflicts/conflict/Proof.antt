@@ -5,10 +5,10 @@ use mathlib.Core.Path.{_≡_, refl, sym, _∙_}
 use mathlib.Core.Logic.{⊎-elim}
 use native.Mathlib.Omega.{arith}
 use Rattle.state.specs.Truths.{saidBy}
-use Rattle.state.proofs.Conflicts.{Noted, noted-none, noted-passed, noted-more, noted-other, noted-all}
+use Rattle.state.proofs.Barring.{Noted, noted-none, noted-passed, noted-more, noted-other, noted-all}
 use borrow.Author.Needs.{needs}
-use Rattle.state.proofs.conflict.Statement.{statement}
-use Rattle.state.proofs.conflict.Tie as tie
+use Rattle.state.proofs.conflicts.conflict.Statement.{statement}
+use Rattle.state.proofs.conflicts.conflict.Tie as tie
 
 abbrev Inv-loop : tie.InvT-loop
 Inv-loop effects first count truths end noted₀ i₀ noted i =

@@ -4,10 +4,10 @@ use mathlib.Core.Path.{_≡_, sym, _∙_}
 use native.Mathlib.Omega.{arith}
 use lib.ListN.{getD}
 use Rattle.state.specs.Conflicts.{listedCount, Listed}
-use Rattle.state.proofs.Conflicts.{Barring, barring-none, barring-more, barring-done}
+use Rattle.state.proofs.Barring.{Barring, barring-none, barring-more, barring-done}
 use borrow.Author.Needs.{needs}
-use Rattle.state.proofs.barred.Statement.{statement}
-use Rattle.state.proofs.barred.Tie as tie
+use Rattle.state.proofs.conflicts.barred.Statement.{statement}
+use Rattle.state.proofs.conflicts.barred.Tie as tie
 
 abbrev Inv-loop : tie.InvT-loop
 Inv-loop effects actions list truths n marks₀ j₀ marks j =

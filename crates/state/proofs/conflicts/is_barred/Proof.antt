@@ -1,8 +1,8 @@
 -- Only where the precondition holds are effects looked at. Assumes nothing.
 use mathlib.Core.Path.{sym, _∙_}
 use borrow.Author.Needs.{needs}
-use Rattle.state.proofs.is_barred.Statement.{statement}
-use Rattle.state.proofs.is_barred.Tie as tie
+use Rattle.state.proofs.conflicts.is_barred.Statement.{statement}
+use Rattle.state.proofs.conflicts.is_barred.Tie as tie
 
 flag-in-requires : tie.Need-flag-in-requires
 flag-in-requires c κs = search needs

@@ -1,0 +1,268 @@
+-- The laws of what is told once of a sheet: a pass that notes what stands under which condition tells ranges whose effects contradict each
+-- other in no state; and a list has the marked numbers. Assumes nothing.
+use Prim.Native.Nat.{ℕ, suc, _+_, _-_, _*_, _≤_, _<_}
+use mathlib.Core.Path.{_≡_, refl, sym, _∙_, ap, subst}
+use mathlib.Core.Bool.{Bool, true, false, not, _&&_, false≢true}
+use mathlib.Core.List.{List}
+use native.Mathlib.Numerals.{add-one}
+use native.Mathlib.Decide.{ℕ-discrete, decLt}
+use native.Mathlib.Omega.{arith}
+use borrow.Author.Tests.{eqb-true}
+use lib.Dec.{T, eqb, ltb}
+use lib.ListN.{length, getD, set, replicate, length-set, length-replicate, List·getD-eq-default, getD-replicate}
+use lib.Seq.{getD-set-same, getD-set-other}
+use Rattle.records.specs.declared.Formula.{Formula}
+use Rattle.records.specs.declared.Effect.{Effect}
+use Rattle.records.specs.Records.{formulaAt, effectAt, actionAt}
+use Rattle.records.proofs.Fills.{getD-same}
+use Rattle.records.proofs.Truth.{and-left, is-true, is-false}
+use Rattle.records.proofs.Written.{written}
+use Rattle.golog.specs.declared.State.{State}
+use Rattle.golog.specs.World.{World, conflicting}
+use Rattle.golog.specs.Possible.{InRange, Conflict}
+use Rattle.golog.proofs.Possible.{conflicting-exactly}
+use Rattle.golog.proofs.Formulas.{value-said}
+use Rattle.state.specs.Truths.{saidBy, AreTruths}
+use Rattle.state.specs.Ranges.{ConditionsBelow}
+use Rattle.state.specs.Conflicts.{listedCount, Lists}
+use Rattle.state.specs.Exclusion.{isGuard, guardOf, guardValue, Excluded, Apart, Readable, Risky}
+use Rattle.state.proofs.Barring.{still-noted}
+
+-- conditions on one fluent, or on none, that ask for different values
+excluded : (c d : Formula) → guardOf c ≡ guardOf d → ¬ (guardValue c ≡ guardValue d) → Excluded c d
+excluded c d = go (isGuard c) refl (isGuard d) refl
+  where
+    kind : (r : Formula) → isGuard r ≡ true → r .kind ≡ 2
+    kind r e = eqb-true (r .kind) 2 (and-left (eqb (r .kind) 2) _ e)
+
+    go : (p : Bool) → isGuard c ≡ p → (q : Bool) → isGuard d ≡ q → guardOf c ≡ guardOf d → ¬ (guardValue c ≡ guardValue d) → Excluded c d
+    go true e true f = rw (e, f) (λ same differ. record { one-kind = kind c e; other-kind = kind d f; fluent = omega arith; values = differ })
+    go true e false f = rw (e, f) (λ same differ. absurd (omega arith))
+    go false e true f = rw (e, f) (λ same differ. absurd (omega arith))
+    go false e false f = rw (e, f) (λ same differ. absurd (differ refl))
+
+-- what a condition asks for is noted by no 0
+guard-some : (c : Formula) → guardOf c ≡ suc (guardOf c - 1)
+guard-some c = go (isGuard c) refl
+  where
+    go : (p : Bool) → isGuard c ≡ p → guardOf c ≡ suc (guardOf c - 1)
+    go true e = rw e (omega arith)
+    go false e = rw e refl
+
+module _ (formulas effects : List ℕ) (first : ℕ) where
+  -- the condition of effect a, and the place in which its value is noted
+  abbrev condition : ℕ → Formula
+  condition a = formulaAt formulas (effectAt effects a .condition)
+
+  abbrev place : ℕ → ℕ
+  place a = 16 * effectAt effects a .fluent + guardValue (condition a)
+
+  -- of each effect before number i it is noted what its condition asks for, and under that its value
+  pub record Guarded (guards noted : List ℕ) (i : ℕ) : Type 0 where
+    pub guards-long : length guards ≡ 32
+    pub noted-long : length noted ≡ 512
+    pub guard : (a : ℕ) → first ≤ a → a < i → getD guards (effectAt effects a .fluent) 0 ≡ guardOf (condition a)
+    pub value : (a : ℕ) → first ≤ a → a < i → getD noted (place a) 0 ≡ suc (effectAt effects a .value)
+
+  pub guarded-none : Guarded (replicate 32 0) (replicate 512 0) first
+  guarded-none = record {
+    guards-long = length-replicate {A = ℕ} 32 0;
+    noted-long = length-replicate {A = ℕ} 512 0;
+    guard = λ a l m. absurd (omega arith);
+    value = λ a l m. absurd (omega arith);
+  }
+
+  module _ {guards noted : List ℕ} {i : ℕ} (G : Guarded guards noted i) where
+    -- effect i is e, under a condition that asks for `asked`, and `at` is its place
+    module _
+        {e : Effect} (r : e ≡ effectAt effects i) {asked at given : ℕ} (ga : asked ≡ guardOf (formulaAt formulas (e .condition)))
+        (pa : at ≡ 16 * e .fluent + guardValue (formulaAt formulas (e .condition))) (gv : given ≡ e .value + 1) where
+      pub guarded-more :
+          e .fluent < 32 → at < 512
+          → (not (eqb (getD guards (e .fluent) 0) 0) && not (eqb (getD guards (e .fluent) 0) asked)) ≡ false
+          → (not (eqb (getD noted at 0) 0) && not (eqb (getD noted at 0) given)) ≡ false
+          → Guarded (set guards (e .fluent) asked) (set noted at given) (i + 1)
+      guarded-more l m one other = record {
+        guards-long = length-set guards (e .fluent) asked ∙ G .guards-long;
+        noted-long = length-set noted at given ∙ G .noted-long;
+        guard = λ a f t. guard-of a f t (ℕ-discrete a i);
+        value = λ a f t. value-of a f t (ℕ-discrete a i);
+      }
+        where
+          known : {X : Type 0} (f : Effect → X) → f e ≡ f (effectAt effects i)
+          known f = ap f r
+
+          guard-of : (a : ℕ) → first ≤ a → a < i + 1 → Dec (a ≡ i) → getD (set guards (e .fluent) asked) (effectAt effects a .fluent) 0 ≡ guardOf (condition a)
+          guard-of a f t (yes z) =
+              subst (λ (b : ℕ). getD (set guards (e .fluent) asked) (effectAt effects b .fluent) 0 ≡ guardOf (condition b)) (sym z)
+              (ap (λ (x : ℕ). getD (set guards (e .fluent) asked) x 0) (sym (known (λ (d : Effect). d .fluent)))
+              ∙ getD-set-same guards (e .fluent) asked 0 (omega (arith, G .guards-long)) ∙ ga ∙ known (λ (d : Effect). guardOf (formulaAt formulas (d .condition))))
+          guard-of a f t (no z) =
+              still-noted guards (e .fluent) asked (omega (arith, G .guards-long)) one _ _ (G .guard a f (omega (arith, z)) ∙ guard-some (condition a))
+              ∙ sym (guard-some (condition a))
+
+          value-of : (a : ℕ) → first ≤ a → a < i + 1 → Dec (a ≡ i) → getD (set noted at given) (place a) 0 ≡ suc (effectAt effects a .value)
+          value-of a f t (yes z) =
+              subst (λ (b : ℕ). getD (set noted at given) (place b) 0 ≡ suc (effectAt effects b .value)) (sym z)
+              (ap (λ (x : ℕ). getD (set noted at given) x 0) (sym (pa ∙ known (λ (d : Effect). 16 * d .fluent + guardValue (formulaAt formulas (d .condition)))))
+              ∙ getD-set-same noted at given 0 (omega (arith, G .noted-long)) ∙ gv ∙ add-one (e .value) ∙ known (λ (d : Effect). suc (d .value)))
+          value-of a f t (no z) = still-noted noted at given (omega (arith, G .noted-long)) other _ _ (G .value a f (omega (arith, z)))
+
+    -- behind the last effect
+    pub guarded-all : (count : ℕ) → first + count ≤ i → Apart formulas effects first count
+    guarded-all count l a b (f, t) (g, u) same differ =
+        let one = G .guard a f (omega arith) in
+        let other = G .guard b g (omega arith) in
+        excluded (condition a) (condition b) (sym one ∙ ap (λ (x : ℕ). getD guards x 0) same ∙ other) (λ z. differ (equal z))
+      where
+        equal : guardValue (condition a) ≡ guardValue (condition b) → effectAt effects a .value ≡ effectAt effects b .value
+        equal z =
+            let p : place a ≡ place b = omega arith in
+            let e = sym (G .value a f (omega arith)) ∙ ap (λ (x : ℕ). getD noted x 0) p ∙ G .value b g (omega arith) in
+            omega arith
+
+-- where no effects contradict each other although every formula holds, none give one fluent different values
+pub held-apart :
+    (formulas effects : List ℕ) (i k : ℕ) → ConditionsBelow effects 512 i k → conflicting (saidBy (replicate 512 true)) (effectAt effects) i k ≡ false
+    → Apart formulas effects i k
+held-apart formulas effects i k low none a b l m same differ =
+    let hold : (c : ℕ) → InRange i k c → T (saidBy (replicate 512 true) (effectAt effects c .condition)) =
+    λ c (f, t). subst T (sym (getD-replicate 512 (effectAt effects c .condition) true false (low c f t))) tt in
+    let t = conflicting-exactly (saidBy (replicate 512 true)) (effectAt effects) i k .1 (a, l, (b, m, ((hold a l, hold b m), (same, differ)))) in
+    absurd (subst T none t)
+
+-- effects apart contradict each other in no state
+pub apart-none :
+    (formulas effects : List ℕ) (i k : ℕ) → Apart formulas effects i k → (W : World) (s : State) (n : ℕ) (truths : List Bool) → AreTruths W s n truths
+    → ((q : ℕ) → W .formula q ≡ formulaAt formulas q) → ConditionsBelow effects n i k → conflicting (saidBy truths) (effectAt effects) i k ≡ false
+apart-none formulas effects i k A W s n truths H F low =
+    is-false _ (λ e. none (conflicting-exactly (saidBy truths) (effectAt effects) i k .0 (subst T (sym e) tt)))
+  where
+    -- the value that a condition of kind 2 asks for, where it holds
+    asked : (q : ℕ) → q < n → T (saidBy truths q) → formulaAt formulas q .kind ≡ 2 → getD (s .values) (formulaAt formulas q .x) 0 ≡ formulaAt formulas q .a
+    asked q l t e =
+        subst (λ (r : Formula). getD (s .values) (r .x) 0 ≡ r .a) (F q)
+        (value-said W q s (ap (λ (r : Formula). r .kind) (F q) ∙ e) (subst T (H q l) t))
+
+    none : ¬ Conflict (saidBy truths) (effectAt effects) i k
+    none (a, (f, t), (b, (g, u), ((h, j), (same, differ)))) =
+        let E = A a b (f, t) (g, u) same differ in
+        let one = asked _ (low a f t) h (E .one-kind) in
+        let other = asked _ (low b g u) j (E .other-kind) in
+        E .values (sym one ∙ ap (λ (x : ℕ). getD (s .values) x 0) (E .fluent) ∙ other)
+
+-- of the marked actions below a those are risky that may contradict themselves
+module _ (formulas effects actions : List ℕ) (marks : List Bool) where
+  pub record Risking (risky : List Bool) (a : ℕ) : Type 0 where
+    pub long : length risky ≡ 64
+    pub within : (b : ℕ) → getD risky b false ≡ true → (b < a) × (getD marks b false ≡ true)
+    pub rest : (b : ℕ) → b < a → getD marks b false ≡ true → getD risky b false ≡ false → Apart formulas effects (actionAt actions b .first) (actionAt actions b .count)
+
+  pub risking-none : Risking (replicate 64 false) 0
+  risking-none = record {
+    long = length-replicate {A = Bool} 64 false;
+    within = λ b e. absurd (false≢true (sym (getD-same false 64 b) ∙ e));
+    rest = λ b l. absurd (omega arith);
+  }
+
+  module _ {risky : List Bool} {a : ℕ} (R : Risking risky a) where
+    pub risking-passed : getD marks a false ≡ false → Risking risky (a + 1)
+    risking-passed e = record {
+      long = R .long;
+      within = λ b t. let (l, m) = R .within b t in (omega arith, m);
+      rest = λ b l m. R .rest b (omega (arith, apart b m)) m;
+    }
+      where
+        apart : (b : ℕ) → getD marks b false ≡ true → b ≡ a → ⊥
+        apart b m z = false≢true (sym e ∙ ap (λ (i : ℕ). getD marks i false) (sym z) ∙ m)
+
+    pub risking-more :
+        {t : Bool} → getD marks a false ≡ true → a < 64 → (t ≡ false → Apart formulas effects (actionAt actions a .first) (actionAt actions a .count))
+        → Risking (set risky a t) (a + 1)
+    risking-more {t} m l A = record {
+      long = length-set risky a t ∙ R .long;
+      within = λ b. written (λ (x : Bool). x ≡ true → (b < a + 1) × (getD marks b false ≡ true)) false risky a t inside b
+          (λ n x. let (k, h) = R .within b x in (omega arith, h)) (λ z x. (omega arith, ap (λ (i : ℕ). getD marks i false) z ∙ m));
+      rest = λ b k h. written (λ (x : Bool). x ≡ false → Apart formulas effects (actionAt actions b .first) (actionAt actions b .count)) false risky a t inside b
+          (λ n. R .rest b (omega (arith, n)) h)
+          (λ z x. subst (λ (i : ℕ). Apart formulas effects (actionAt actions i .first) (actionAt actions i .count)) (sym z) (A x));
+    }
+      where
+        inside : a < length risky
+        inside = omega (arith, R .long)
+
+    pub risking-done : length marks ≡ 64 → 64 ≤ a → Risky formulas effects actions marks risky
+    risking-done long l = record { within = λ b t. R .within b t .1; rest = λ b m. R .rest b (inside b m (decLt b a)) m }
+      where
+        inside : (b : ℕ) → getD marks b false ≡ true → Dec (b < a) → b < a
+        inside b m (yes k) = k
+        inside b m (no k) = absurd (false≢true (sym (List·getD-eq-default marks false (omega arith)) ∙ m))
+
+module _ (marks : List Bool) where
+  -- the first n places of the list are the marked numbers below a
+  pub record Listing (list : List ℕ) (n a : ℕ) : Type 0 where
+    pub long : length list ≡ 65
+    pub few : n ≤ a
+    pub marked : (j : ℕ) → j < n → (getD list j 0 < a) × (getD marks (getD list j 0) false ≡ true)
+    pub all : (b : ℕ) → b < a → getD marks b false ≡ true → (j : ℕ) × (j < n) × (getD list j 0 ≡ b)
+
+  pub listing-none : Listing (replicate 65 0) 0 0
+  listing-none = record {
+    long = length-replicate {A = ℕ} 65 0;
+    few = omega arith;
+    marked = λ j l. absurd (omega arith);
+    all = λ b l. absurd (omega arith);
+  }
+
+  module _ {list : List ℕ} {n a : ℕ} (L : Listing list n a) where
+    pub listing-passed : getD marks a false ≡ false → Listing list n (a + 1)
+    listing-passed e = record {
+      long = L .long;
+      few = omega (arith, L .few);
+      marked = λ j l. (omega (arith, L .marked j l .0), L .marked j l .1);
+      all = λ b l m. L .all b (omega (arith, apart b m)) m;
+    }
+      where
+        apart : (b : ℕ) → getD marks b false ≡ true → b ≡ a → ⊥
+        apart b m z = false≢true (sym e ∙ ap (λ (i : ℕ). getD marks i false) (sym z) ∙ m)
+
+    pub listing-more : getD marks a false ≡ true → a < 64 → Listing (set list n a) (n + 1) (a + 1)
+    listing-more e small = record {
+      long = length-set list n a ∙ L .long;
+      few = omega (arith, L .few);
+      marked = λ j l. written (λ (v : ℕ). (v < a + 1) × (getD marks v false ≡ true)) 0 list n a inside j
+          (λ z. let m = L .marked j (omega (arith, z)) in (omega (arith, m .0), m .1)) (λ z. (omega arith, e));
+      all = λ b l m. pick b l m (decLt b a);
+    }
+      where
+        inside : n < length list
+        inside = omega (arith, L .long, L .few)
+
+        pick : (b : ℕ) → b < a + 1 → getD marks b false ≡ true → Dec (b < a) → (j : ℕ) × (j < n + 1) × (getD (set list n a) j 0 ≡ b)
+        pick b l m (yes k) = let (j, h, z) = L .all b k m in (j, omega arith, getD-set-other list n j a 0 (λ y. omega arith) ∙ z)
+        pick b l m (no k) = (n, omega arith, getD-set-same list n a 0 inside ∙ omega arith)
+
+    -- and how many there are is written behind all places
+    pub listing-done : 64 ≤ a → a ≤ 64 → length marks ≡ 64 → Lists marks (set list 64 n)
+    listing-done l h long = record {
+      marked = λ b (j, k, z). let m = L .marked j (few j k) in subst (λ (i : ℕ). getD marks i false ≡ true) (sym (kept j k) ∙ z) (m .1);
+      all = λ b m.
+          let (j, k, z) = L .all b (inside b m) m in
+          (j, subst (λ (v : ℕ). j < v) (sym count) k, getD-set-other list 64 j n 0 (λ y. omega (arith, L .few)) ∙ z);
+    }
+      where
+        count : listedCount (set list 64 n) ≡ n
+        count = getD-set-same list 64 n 0 (omega (arith, L .long))
+
+        few : (j : ℕ) → j < listedCount (set list 64 n) → j < n
+        few j k = omega (arith, count)
+
+        kept : (j : ℕ) → j < listedCount (set list 64 n) → getD (set list 64 n) j 0 ≡ getD list j 0
+        kept j k = getD-set-other list 64 j n 0 (λ y. omega (arith, L .few, few j k))
+
+        inside : (b : ℕ) → getD marks b false ≡ true → b < a
+        inside b m = go (decLt b a)
+          where
+            go : Dec (b < a) → b < a
+            go (yes k) = k
+            go (no k) = absurd (false≢true (sym (List·getD-eq-default marks false (omega arith)) ∙ m))
