@@ -8,7 +8,7 @@ use Prim.Native.Nat.{ℕ}
 use lib.Dec.{T}
 use lib.ListN.{getD}
 use Rattle.kinds.specs.Truth.{truthOf}
-use Rattle.kinds.specs.Formulas.{fieldA, fieldB, hasA, hasB, PartsLower}
+use Rattle.kinds.specs.Formulas.{fieldA, fieldB, asksValue, hasA, hasB, PartsLower}
 use Rattle.kinds.proofs.FormulaKinds.{by-kind, formulaOf}
 use Rattle.runs.proofs.Tests.{and-iff, or-iff, eqb-iff, ltb-iff}
 use Rattle.golog.specs.declared.State.{State}
@@ -55,7 +55,19 @@ formula-says W q s (low-a, low-b) =
     (truth-says W s (truths W (s .values) q) (r .x) (r .a) (r .b) (r .kind) (λ h. holds-at W s q (r .a) (low-a h))
     (λ h. holds-at W s q (r .b) (low-b h)))
 
--- of a formula that a fluent has a value: where it holds, the fluent has it
-pub value-said : (W : World) (q : ℕ) (s : State) → W .formula q .kind ≡ 2 → T (holds W q s) → valueOf s (W .formula q .x) ≡ W .formula q .a
-unfolding Says fieldA fieldB
-value-said W q s e t = rw e at (formula-says W q s (λ h. absurd (rw e at h), λ h. absurd (rw e at h)) .0 t)
+-- a formula that asks that a fluent has a value names no formula
+asks-alone : (kind : ℕ) → T (asksValue kind) → (¬ T (hasA kind)) × (¬ T (hasB kind))
+unfolding fieldA fieldB
+asks-alone =
+    by-kind (λ (kind : ℕ). T (asksValue kind) → (¬ T (hasA kind)) × (¬ T (hasB kind)))
+    (λ t. absurd t) (λ t. absurd t) (λ t. (λ h. h, λ h. h)) (λ t. absurd t) (λ t. absurd t) (λ t. absurd t) (λ t. absurd t) (λ t. absurd t) (λ k t. absurd t)
+
+-- and where it holds, the fluent has it
+pub value-said : (W : World) (q : ℕ) (s : State) → T (asksValue (W .formula q .kind)) → T (holds W q s) → valueOf s (W .formula q .x) ≡ W .formula q .a
+unfolding Says fieldA
+value-said W q s t h =
+    let r = W .formula q in
+    let alone = asks-alone (r .kind) t in
+    by-kind (λ (kind : ℕ). T (asksValue kind) → Says W s (formulaOf kind (r .x) (r .a) (r .b)) → valueOf s (r .x) ≡ r .a)
+    (λ t. absurd t) (λ t. absurd t) (λ t e. e) (λ t. absurd t) (λ t. absurd t) (λ t. absurd t) (λ t. absurd t) (λ t. absurd t) (λ k t. absurd t)
+    (r .kind) t (formula-says W q s (λ x. absurd (alone .0 x), λ x. absurd (alone .1 x)) .0 h)

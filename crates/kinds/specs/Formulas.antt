@@ -44,6 +44,17 @@ isLower Value = false
 isLower Limit = false
 isLower Lower = true
 
+abbrev pub isValue : Field → Bool
+isValue Unused = false
+isValue Fluent = false
+isValue Value = true
+isValue Limit = false
+isValue Lower = false
+
+-- it asks that fluent x has the value a
+abbrev pub asksValue : ℕ → Bool
+asksValue kind = isValue (fieldA kind)
+
 -- its part a, its part b is a formula
 abbrev pub hasA : ℕ → Bool
 hasA kind = isLower (fieldA kind)

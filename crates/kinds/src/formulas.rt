@@ -1,7 +1,7 @@
 // What each kind of formula is (specs/Formulas.antt) and says (specs/Truth.antt): a function for each column that is asked for.
 ghost use mathlib.Core.Path.{_≡_};
 ghost use Rattle.kinds.specs.Truth.{truthOf};
-ghost use Rattle.kinds.specs.Formulas.{fieldX, fieldA, fieldB, fieldOk, formulaOk};
+ghost use Rattle.kinds.specs.Formulas.{fieldX, fieldA, fieldB, fieldOk, formulaOk, asksValue};
 use records::Formula;
 
 // The last kind of formula.
@@ -14,6 +14,16 @@ pub enum Field {
     Value,
     Limit,
     Lower,
+}
+
+// Whether it asks that a fluent has a value.
+pub fn asks_value(kind: usize) -> bool
+    ensures { λ r. ⌜ r ≡ asksValue kind ⌝ }
+{
+    match kind {
+        2 => true,
+        _ => false,
+    }
 }
 
 fn field_x(kind: usize) -> Field

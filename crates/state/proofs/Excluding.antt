@@ -7,7 +7,6 @@ use mathlib.Core.List.{List}
 use native.Mathlib.Numerals.{add-one}
 use native.Mathlib.Decide.{ℕ-discrete, decLt}
 use native.Mathlib.Omega.{arith}
-use borrow.Author.Tests.{eqb-true}
 use lib.Dec.{T, eqb, ltb}
 use lib.ListN.{length, getD, set, replicate, length-set, length-replicate, List·getD-eq-default, getD-replicate}
 use lib.Seq.{getD-set-same, getD-set-other}
@@ -17,6 +16,7 @@ use Rattle.records.specs.Records.{formulaAt, effectAt, actionAt}
 use Rattle.records.proofs.Fills.{getD-same}
 use Rattle.records.proofs.Truth.{and-left, is-true, is-false}
 use Rattle.records.proofs.Written.{written}
+use Rattle.kinds.specs.Formulas.{asksValue}
 use Rattle.golog.specs.declared.State.{State}
 use Rattle.golog.specs.World.{World, conflicting}
 use Rattle.golog.specs.Possible.{InRange, Conflict}
@@ -32,11 +32,11 @@ use Rattle.state.proofs.Barring.{still-noted}
 excluded : (c d : Formula) → guardOf c ≡ guardOf d → ¬ (guardValue c ≡ guardValue d) → Excluded c d
 excluded c d = go (isGuard c) refl (isGuard d) refl
   where
-    kind : (r : Formula) → isGuard r ≡ true → r .kind ≡ 2
-    kind r e = eqb-true (r .kind) 2 (and-left (eqb (r .kind) 2) _ e)
+    asks : (r : Formula) → isGuard r ≡ true → T (asksValue (r .kind))
+    asks r e = subst T (sym (and-left (asksValue (r .kind)) (ltb (r .a) 16) e)) tt
 
     go : (p : Bool) → isGuard c ≡ p → (q : Bool) → isGuard d ≡ q → guardOf c ≡ guardOf d → ¬ (guardValue c ≡ guardValue d) → Excluded c d
-    go true e true f = rw (e, f) (λ same differ. record { one-kind = kind c e; other-kind = kind d f; fluent = omega arith; values = differ })
+    go true e true f = rw (e, f) (λ same differ. record { one = asks c e; other = asks d f; fluent = omega arith; values = differ })
     go true e false f = rw (e, f) (λ same differ. absurd (omega arith))
     go false e true f = rw (e, f) (λ same differ. absurd (omega arith))
     go false e false f = rw (e, f) (λ same differ. absurd (differ refl))
@@ -138,17 +138,17 @@ pub apart-none :
 apart-none formulas effects i k A W s n truths H F low =
     is-false _ (λ e. none (conflicting-exactly (saidBy truths) (effectAt effects) i k .0 (subst T (sym e) tt)))
   where
-    -- the value that a condition of kind 2 asks for, where it holds
-    asked : (q : ℕ) → q < n → T (saidBy truths q) → formulaAt formulas q .kind ≡ 2 → getD (s .values) (formulaAt formulas q .x) 0 ≡ formulaAt formulas q .a
+    -- a fluent has the value that a condition asks for, where it holds
+    asked : (q : ℕ) → q < n → T (saidBy truths q) → T (asksValue (formulaAt formulas q .kind)) → getD (s .values) (formulaAt formulas q .x) 0 ≡ formulaAt formulas q .a
     asked q l t e =
         subst (λ (r : Formula). getD (s .values) (r .x) 0 ≡ r .a) (F q)
-        (value-said W q s (ap (λ (r : Formula). r .kind) (F q) ∙ e) (subst T (H q l) t))
+        (value-said W q s (subst (λ (r : Formula). T (asksValue (r .kind))) (sym (F q)) e) (subst T (H q l) t))
 
     none : ¬ Conflict (saidBy truths) (effectAt effects) i k
     none (a, (f, t), (b, (g, u), ((h, j), (same, differ)))) =
         let E = A a b (f, t) (g, u) same differ in
-        let one = asked _ (low a f t) h (E .one-kind) in
-        let other = asked _ (low b g u) j (E .other-kind) in
+        let one = asked _ (low a f t) h (E .one) in
+        let other = asked _ (low b g u) j (E .other) in
         E .values (sym one ∙ ap (λ (x : ℕ). getD (s .values) x 0) (E .fluent) ∙ other)
 
 -- of the marked actions below a those are risky that may contradict themselves

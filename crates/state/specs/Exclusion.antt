@@ -3,16 +3,17 @@ use Prim.Native.Nat.{ℕ, _+_, _*_, _≤_, _<_}
 use mathlib.Core.Path.{_≡_}
 use mathlib.Core.Bool.{Bool, true, false, cond, _&&_}
 use mathlib.Core.List.{List}
-use lib.Dec.{eqb, ltb}
+use lib.Dec.{T, ltb}
 use lib.ListN.{length, getD}
 use Rattle.records.specs.declared.Formula.{Formula}
 use Rattle.records.specs.Records.{formulaAt, effectAt, actionAt}
+use Rattle.kinds.specs.Formulas.{asksValue}
 use Rattle.golog.specs.Possible.{InRange}
 use Rattle.state.specs.Ranges.{Names, ConditionsBelow}
 
 -- a condition that a fluent has a value: 2 more than the fluent, and the value; of any other condition 1 and 0
 abbrev pub isGuard : Formula → Bool
-isGuard r = eqb (r .kind) 2 && ltb (r .a) 16
+isGuard r = asksValue (r .kind) && ltb (r .a) 16
 
 abbrev pub guardOf : Formula → ℕ
 guardOf r = cond (isGuard r) (r .x + 2) 1
@@ -22,8 +23,8 @@ guardValue r = cond (isGuard r) (r .a) 0
 
 -- two conditions exclude each other: that one fluent has two values
 pub record Excluded (c d : Formula) : Type 0 where
-  pub one-kind : c .kind ≡ 2
-  pub other-kind : d .kind ≡ 2
+  pub one : T (asksValue (c .kind))
+  pub other : T (asksValue (d .kind))
   pub fluent : c .x ≡ d .x
   pub values : ¬ (c .a ≡ d .a)
 

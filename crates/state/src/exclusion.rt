@@ -31,7 +31,7 @@ fn guard_at(formulas: &[u8], q: usize) -> Guard
     ensures small { λ r. ⌜ r .value < 16 ⌝ }
 {
     let r = records::formula_at(formulas, q);
-    if (r.kind == 2) & (r.a < VALUES) {
+    if kinds::formulas::asks_value(r.kind) & (r.a < VALUES) {
         return Guard {
             of: r.x as u16 + 2,
             value: r.a,

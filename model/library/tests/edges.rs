@@ -1,8 +1,10 @@
 //! Document 01's edges of the lent areas, on case 3: "272 words give 11, trace of 1 gives 10, both give 10". That its
-//! plan stays under a higher bound. What is told of a sheet's sizes and notes. What a refusal says in words.
+//! plan stays under a higher bound. Case 13 by F-2. What is told of a sheet's sizes and notes. What a refusal says in
+//! words.
 
 use library::{check, notes, plan, replay, sizes, Answer, Refusal};
-use sheets::cases::{three_sections, CASE_3};
+use model::sheet::Program::Act;
+use sheets::cases::{case_13, three_sections, with_action_2, CASE_3, EQUAL};
 use sheets::write::Records;
 
 fn case_3() -> Vec<u8> {
@@ -64,6 +66,19 @@ fn replay_needs_the_same_words() {
     let mut work = vec![1; 274];
     assert_eq!(replay(&case_3(), &[0, 1], &mut work), Answer { number: 0, place: 0, results: [1] });
     assert!(work[..273].iter().all(|&word| word == 0) && work[273] == 1);
+}
+
+/// Document 02, F-2: "Case 13 becomes: no step. Histories are legal by this reading"; "equal values are fine".
+#[test]
+fn case_13_is_not_replayed() {
+    let equal = with_action_2(&EQUAL, &[Act(2)], 1);
+    for (records, number, yes) in [(case_13(), 13, 0), (equal, 0, 1)] {
+        let sheet = records.bytes();
+        let [words] = check(&sheet).into_result().expect("the sheet is accepted");
+        let (mut work, mut trace) = (vec![1; words], vec![1; 1]);
+        assert_eq!(plan(&sheet, &mut work, &mut trace).number, number);
+        assert_eq!(replay(&sheet, &[2], &mut work), Answer { number: 0, place: 0, results: [yes] });
+    }
 }
 
 #[test]

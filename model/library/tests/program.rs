@@ -1,10 +1,11 @@
-//! What the program `plan` prints: document 01's cases and edges, the examples, and random sheets, for which the model
-//! says what must be printed. It is target/bin/plan of the repository, or the file that PLANNER_PROGRAM names.
+//! What the program `plan` prints: document 01's cases and edges, those of F-2, the examples, and random sheets, for
+//! which the model says what must be printed. It is target/bin/plan of the repository, or the file that PLANNER_PROGRAM
+//! names.
 
 #![forbid(unsafe_code)]
 
 use model::program::printed;
-use sheets::cases::{cases, edges, Case};
+use sheets::cases::{cases, conflicts, edges, Case};
 use sheets::examples::examples;
 use sheets::random::{damaged, searchable, Random};
 use std::io::{self, Write};
@@ -52,7 +53,7 @@ fn main() -> ExitCode {
         return ExitCode::FAILURE;
     }
     let (mut passed, mut failed) = (0, 0);
-    for Case { name, sheet, printed } in [cases(), edges(), examples(), random_cases(100)].concat() {
+    for Case { name, sheet, printed } in [cases(), conflicts(), edges(), examples(), random_cases(100)].concat() {
         let got = run(&program, sheet).unwrap_or_else(|error| error.to_string());
         if got == printed {
             passed += 1;

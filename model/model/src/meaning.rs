@@ -1,6 +1,6 @@
-//! "Moves" and "Steps and endings (000, sections 4 and 5)".
+//! "Moves" and "Steps and endings (000, sections 4 and 5)"; when an action is possible: document 02, F-2.
 
-use crate::sheet::{Formula, Program, Sheet};
+use crate::sheet::{Effect, Formula, Program, Sheet};
 use std::ops::ControlFlow::{self, Break, Continue};
 use std::rc::Rc;
 
@@ -143,9 +143,18 @@ impl<'a> Moment<'a> {
         self.truths[formula]
     }
 
-    /// An action is possible when its precondition holds.
+    /// An action is possible when its precondition holds and its effects agree.
     pub fn possible(&self, action: usize) -> bool {
-        self.holds(self.sheet.actions[action].precondition)
+        self.holds(self.sheet.actions[action].precondition) && self.effects_agree(action)
+    }
+
+    /// Document 02, F-2: "An action with two holding effects that give one fluent different values is now impossible,
+    /// like one whose precondition fails; equal values are fine." Conditions hold or not in the old values.
+    fn effects_agree(&self, action: usize) -> bool {
+        let effects = self.sheet.effects[self.sheet.actions[action].effects.clone()].iter();
+        let holding: Vec<&Effect> = effects.filter(|effect| self.holds(effect.condition)).collect();
+        let differ = |one: &Effect, other: &Effect| one.fluent == other.fluent && one.value != other.value;
+        !holding.iter().any(|one| holding.iter().any(|other| differ(one, other)))
     }
 
     /// For each fluent, the first effect in the action's range that names it and whose condition holds in the old

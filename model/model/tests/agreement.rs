@@ -158,3 +158,41 @@ fn interrupts_are_the_loops_of_the_paper() {
         assert_eq!(plan(&sheet), by_loops);
     }
 }
+
+/// F-2 said by preconditions: of effects that would conflict no two hold. And an effect holds only where no earlier one
+/// on its fluent does, so that none conflict.
+fn without_conflicts(sheet: &Sheet) -> Sheet {
+    let mut said = Sheet { effects: vec![], ..sheet.clone() };
+    let mut formula = |formula| {
+        said.formulas.push(formula);
+        said.formulas.len() - 1
+    };
+    for action in &mut said.actions {
+        let effects = &sheet.effects[action.effects.clone()];
+        let first = said.effects.len();
+        for (number, effect) in effects.iter().enumerate() {
+            let mut condition = effect.condition;
+            for earlier in effects[..number].iter().filter(|earlier| earlier.fluent == effect.fluent) {
+                if earlier.value != effect.value {
+                    let both = formula(Formula::And(earlier.condition, effect.condition));
+                    let not_both = formula(Formula::Not(both));
+                    action.precondition = formula(Formula::And(action.precondition, not_both));
+                }
+                let not_earlier = formula(Formula::Not(earlier.condition));
+                condition = formula(Formula::And(condition, not_earlier));
+            }
+            said.effects.push(Effect { condition, ..*effect });
+        }
+        action.effects = first..said.effects.len();
+    }
+    said
+}
+
+#[test]
+fn a_conflict_is_like_a_precondition_that_fails() {
+    let mut random = Random::new(15);
+    for _ in 0..3000 {
+        let (_, sheet) = searchable(&mut random, 3000);
+        assert_eq!(plan(&sheet), plan(&without_conflicts(&sheet)));
+    }
+}

@@ -1,12 +1,14 @@
-//! "A quay of three sections": the thirteen cases, case 3's bytes and figure, and the edges that it names.
+//! "A quay of three sections": the thirteen cases, case 13 by F-2 of document 02 with those beside it, case 3's bytes
+//! and figure, and the edges that it names.
 
-use model::meaning::{Moment, State};
+use model::meaning::{Configuration, Moment, State, START, STOP};
 use model::planner::{judge, lengths, lent, plan, replay, verdict, Plan};
 use model::program::printed;
 use model::refusal::Refusal;
 use model::sheet::Program::*;
-use model::sheet::{check, Sheet};
-use sheets::cases::{case_13, cases, edges, three_sections, CASE_3};
+use model::sheet::{check, Program, Sheet};
+use sheets::cases::{case_13, cases, conflicts, edges, three_sections, with_action_2, Effect};
+use sheets::cases::{CASE_3, DIFFERENT, DIFFERENT_AFTERWARDS, EQUAL, STAR_OVER};
 use sheets::write::Records;
 
 fn sheet(records: &Records) -> Sheet {
@@ -15,14 +17,14 @@ fn sheet(records: &Records) -> Sheet {
 
 #[test]
 fn every_case_and_edge_is_printed_as_it_should() {
-    for case in cases().into_iter().chain(edges()) {
+    for case in [cases(), conflicts(), edges()].concat() {
         assert_eq!(printed(&case.sheet), case.printed, "{}", case.name);
     }
 }
 
 #[test]
 fn plan_verdict_and_replay_agree_on_every_case() {
-    for case in cases() {
+    for case in [cases(), conflicts()].concat() {
         let sheet = check(&case.sheet).expect(&case.name);
         match plan(&sheet) {
             Ok(Plan { history, transitions }) => {
@@ -49,21 +51,43 @@ fn case_7_replayed() {
 }
 
 #[test]
-fn case_13_first_holding_effect() {
+fn case_13_no_step() {
     let sheet = sheet(&case_13());
+    assert_eq!(Configuration::first(&sheet).transitions(&sheet), []);
+    assert_eq!(plan(&sheet), Err(Refusal::number(13)));
+    assert!(!replay(&sheet, &[2]));
+}
+
+/// "Histories are legal by this reading."
+#[test]
+fn conflicts_replayed() {
+    let quay = |effects: &[Effect], programs: &[Program], bound| sheet(&with_action_2(effects, programs, bound));
+    let twice = [Act(2), Sequence(0, 0)];
+    assert!(replay(&quay(&EQUAL, &twice, 2), &[2, 2]));
+    assert!(!replay(&quay(&DIFFERENT_AFTERWARDS, &twice, 2), &[2, 2]));
+    // star(act 2), act 2 once and no more.
+    let star = quay(&DIFFERENT_AFTERWARDS, &[Act(2), Star(0)], 2);
+    assert_eq!([&[][..], &[2], &[2, 2]].map(|history| replay(&star, history)), [true, true, false]);
+    // star(act 2) over act 0
+    assert!(replay(&quay(&DIFFERENT, &STAR_OVER, 2), &[0]));
+    assert!(!replay(&quay(&EQUAL, &STAR_OVER, 2), &[0]));
+    // Act 0 makes fluent 0 the 0 that it was, so that act 2 goes again.
+    let between = quay(&DIFFERENT_AFTERWARDS, &[Act(2), Act(0), Sequence(0, 1), Sequence(2, 0)], 3);
+    assert!(replay(&between, &[2, 0, 2]));
+    assert!(!replay(&quay(&DIFFERENT, &[Act(2), Interrupt(3, 0)], 3), &[START, 2, STOP]));
+}
+
+#[test]
+fn the_first_holding_effect_gives_the_value() {
+    let sheet = sheet(&with_action_2(&[(4, 0, 2), (3, 0, 1), (1, 0, 1)], &[Act(2)], 1));
     let next = Moment::new(&sheet, State::initial(&sheet)).perform(2);
     assert_eq!(next.values[..2], [1, 0]);
 }
 
 #[test]
 fn conditions_are_read_from_the_old_values() {
-    // Effect 2 changes fluent 0, effect 3 asks for its old value.
-    let mut records = three_sections(&[Act(2)], 1);
-    records.fluents[0] = [3, 0];
-    records.effect(3, 0, 1);
-    records.effect(1, 1, 2);
-    records.action(3, 2, 2);
-    let sheet = sheet(&records);
+    // The first effect changes fluent 0, the second asks for its old value.
+    let sheet = sheet(&with_action_2(&[(3, 0, 1), (1, 1, 2)], &[Act(2)], 1));
     let next = Moment::new(&sheet, State::initial(&sheet)).perform(2);
     assert_eq!(next.values[..2], [1, 2]);
 }

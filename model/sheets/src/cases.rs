@@ -1,4 +1,5 @@
-//! Document 01, "A quay of three sections": its cases and edges, each with what the program prints.
+//! Document 01, "A quay of three sections": its cases and edges, each with what the program prints; case 13 by F-2 of
+//! document 02, with more cases beside it.
 
 use crate::write::Records;
 use model::sheet::Formula;
@@ -58,7 +59,7 @@ pub fn cases() -> Vec<Case> {
         case("case 10", &[Nil, Interrupt(3, 0)], 2, "found 2 2\n65534\n65535\n"),
         case("case 11", &[Act(0), Interrupt(3, 0)], 4, "refused 14 0\n"),
         case("case 12", &[Nil, While(0, 0)], 0, "found 0 0\n"),
-        Case::new("case 13", case_13().bytes(), "found 1 2\n2\n"),
+        Case::new("case 13", case_13().bytes(), "refused 13 0\n"),
     ]
 }
 
@@ -69,15 +70,56 @@ fn case_9() -> Records {
     records
 }
 
-/// Action 2 has two holding effects on fluent 0, which starts 0, values 1 then 2; a test that it is 1 follows.
-pub fn case_13() -> Records {
-    let mut records = three_sections(&[Act(2), Test(4), Sequence(0, 1)], 2);
+/// An effect: condition, fluent, value.
+pub type Effect = (usize, usize, u8);
+
+/// The quay where fluent 0 starts 0, with formula 4, "not formula 1", and action 2, precondition 3, which has these
+/// effects.
+pub fn with_action_2(effects: &[Effect], programs: &[Program], bound: u16) -> Records {
+    let mut records = three_sections(programs, bound);
     records.fluents[0] = [3, 0];
-    records.formula(Formula::Is(0, 1));
-    records.effect(3, 0, 1);
-    records.effect(3, 0, 2);
-    records.action(3, 2, 2);
+    records.formula(Formula::Not(1));
+    for (condition, fluent, value) in effects {
+        records.effect(*condition, *fluent, *value);
+    }
+    records.action(3, 2, effects.len());
     records
+}
+
+/// Two holding effects on fluent 0, values 1 then 2, neither of which it has yet.
+pub const DIFFERENT: [Effect; 2] = [(3, 0, 1), (3, 0, 2)];
+/// The same value twice.
+pub const EQUAL: [Effect; 2] = [(3, 0, 1), (3, 0, 1)];
+/// The second holds where fluent 0 is not 0: not at first, but once the action was performed.
+pub const DIFFERENT_AFTERWARDS: [Effect; 2] = [(3, 0, 1), (4, 0, 2)];
+
+/// The root is act 2.
+pub fn case_13() -> Records {
+    with_action_2(&DIFFERENT, &[Act(2)], 1)
+}
+
+/// star(act 2) over act 0.
+pub const STAR_OVER: [Program; 4] = [Act(2), Star(0), Act(0), Over(1, 2)];
+
+/// Document 02, F-2, beside case 13: where action 2 is possible and where not, and what goes in its place.
+pub fn conflicts() -> Vec<Case> {
+    let case = |name, effects: &[Effect], programs: &[Program], bound, printed| {
+        Case::new(format!("F-2, {name}"), with_action_2(effects, programs, bound).bytes(), printed)
+    };
+    let (act, found) = (&[Act(2)], "found 1 1\n2\n");
+    let (twice, interrupt) = (&[Act(2), Sequence(0, 0)], &[Act(2), Interrupt(3, 0)]);
+    vec![
+        case("equal values", &EQUAL, act, 1, found),
+        case("equal values, twice", &EQUAL, twice, 2, "found 2 2\n2\n2\n"),
+        case("a condition that fails", &DIFFERENT_AFTERWARDS, act, 1, found),
+        case("a condition that fails, then holds", &DIFFERENT_AFTERWARDS, twice, 2, "refused 13 0\n"),
+        case("conflict on another fluent than the first", &[(3, 0, 1), (3, 1, 1), (3, 1, 2)], act, 1, "refused 13 0\n"),
+        case("conflict of the first and third effect", &[(3, 0, 1), (3, 1, 1), (3, 0, 2)], act, 1, "refused 13 0\n"),
+        case("star over, conflict", &DIFFERENT, &STAR_OVER, 1, "found 1 1\n0\n"),
+        case("star over, equal values", &EQUAL, &STAR_OVER, 1, "refused 14 0\n"),
+        case("interrupt, conflict", &DIFFERENT, interrupt, 2, "found 2 2\n65534\n65535\n"),
+        case("interrupt, equal values", &EQUAL, interrupt, 2, "refused 14 0\n"),
+    ]
 }
 
 /// The edges of a sheet and of the program's input, on case 3 or on nil.

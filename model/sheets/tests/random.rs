@@ -1,11 +1,11 @@
 //! What the generators make.
 
-use model::meaning::Configuration;
+use model::meaning::{Configuration, Moment};
 use model::planner::{depth_first, plan, replay, Plan};
-use model::sheet::{check, Program, Sheet};
+use model::sheet::{check, Action, Program, Sheet};
 use sheets::random::{accepted, damaged, near_miss, run, searchable, unknown, Random};
 use std::collections::{BTreeSet, HashMap, HashSet};
-use std::mem::discriminant;
+use std::mem::{self, discriminant};
 
 /// The program records that the root reaches.
 fn reached(sheet: &Sheet) -> BTreeSet<usize> {
@@ -87,6 +87,67 @@ fn plans_have_rivals_of_every_sort() {
     println!("shorter one {shorter}, with one that goes on {beginnings}; one that is listed before {listed_before}");
     assert!(rivals * 20 > count && longer * 40 > count && listed_before * 40 > count);
     assert!(shorter * 80 > count && beginnings * 80 > count);
+}
+
+/// The configurations that runs of at most D transitions reach.
+fn configurations(sheet: &Sheet) -> HashSet<Configuration> {
+    let mut all = HashSet::new();
+    let mut layer = HashSet::from([Configuration::first(sheet)]);
+    for _ in 0..=sheet.bound {
+        let next = layer.iter().flat_map(|from| from.transitions(sheet)).map(|step| step.to).collect();
+        all.extend(mem::replace(&mut layer, next));
+    }
+    all
+}
+
+/// Of the actions that the root's records perform those whose precondition holds: with effects that conflict, and
+/// possible ones.
+fn judged(sheet: &Sheet, moment: &Moment) -> [BTreeSet<usize>; 2] {
+    let acts = reached(sheet).into_iter().filter_map(|number| match sheet.programs[number] {
+        Program::Act(action) => Some(action),
+        _ => None,
+    });
+    let (possible, conflicting) = acts
+        .filter(|&action| moment.holds(sheet.actions[action].precondition))
+        .partition(|&action| moment.possible(action));
+    [conflicting, possible]
+}
+
+/// Whether a transition from here performs an action with several holding effects on one fluent.
+fn gives_twice(sheet: &Sheet, from: &Configuration) -> bool {
+    let moment = Moment::new(sheet, from.state);
+    let several = |action: &Action| {
+        let holding = sheet.effects[action.effects.clone()].iter().filter(|effect| moment.holds(effect.condition));
+        let fluents: Vec<usize> = holding.map(|effect| effect.fluent).collect();
+        fluents.iter().collect::<BTreeSet<_>>().len() < fluents.len()
+    };
+    let entries = from.transitions(sheet).into_iter().filter_map(|step| step.entry);
+    entries.filter_map(|entry| sheet.actions.get(usize::from(entry))).any(several)
+}
+
+#[test]
+fn effects_conflict_in_some_states_and_agree_in_others() {
+    let mut random = Random::new(14);
+    let count = 3000;
+    let (mut runs, mut conflict, mut sometimes, mut twice) = (0, 0, 0, 0);
+    for _ in 0..count {
+        let (_, sheet) = searchable(&mut random, 3000);
+        let reached = configurations(&sheet);
+        runs += usize::from(reached.len() > 1);
+        let [mut conflicting, mut possible] = [BTreeSet::new(), BTreeSet::new()];
+        for from in &reached {
+            let [conflicting_here, possible_here] = judged(&sheet, &Moment::new(&sheet, from.state));
+            conflicting.extend(conflicting_here);
+            possible.extend(possible_here);
+        }
+        conflict += usize::from(!conflicting.is_empty());
+        sometimes += usize::from(!conflicting.is_disjoint(&possible));
+        twice += usize::from(reached.iter().any(|from| gives_twice(&sheet, from)));
+    }
+    println!("of {count}: with runs of a transition or more {runs}; with an action that conflicts {conflict}, in some");
+    println!("states and not in others {sometimes}; with one performed that gives a fluent its value twice {twice}");
+    assert!(runs * 10 > count * 7);
+    assert!(conflict * 8 > count && sometimes * 15 > count && twice * 10 > count);
 }
 
 #[test]

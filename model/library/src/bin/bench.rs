@@ -72,6 +72,10 @@ fn without_plan() -> Vec<Family> {
             name: "long effect ranges",
             sheets: [16, 128, 512].map(|count| (format!("{count} effects"), long_effects(count, 9))).into(),
         },
+        Family {
+            name: "long conflicting ranges",
+            sheets: [16, 128, 512].map(|count| (format!("{count} effects"), long_conflicts(count, 9))).into(),
+        },
     ]
 }
 
@@ -289,13 +293,54 @@ fn shared_formulas(count: usize, bound: u16) -> Vec<u8> {
     records.bytes()
 }
 
-/// An action with a long range of effects over all fluents, none of which holds, and the choice of it twice.
+/// An action with a long range of effects over all fluents, none of which holds and no two of which give different
+/// values, and the choice of it twice.
 fn long_effects(count: usize, bound: u16) -> Vec<u8> {
     let mut source = Source::new("long effect ranges", bound);
     let fluents: Vec<Fluent> = (0..32).map(|number| source.fluent(&format!("fluent {number}"), 2, 0)).collect();
     let effects = fluents.iter().cycle().take(count).map(|fluent| fluent.gets(1).when(FALSE));
     let long = source.action("the long range", TRUE, effects);
     source.sheet(&sequence([star(choice([long.clone(), long])), test(FALSE)]))
+}
+
+/// Two actions with long ranges, of all effects but the last and of all but the first, and the choice of each twice.
+/// Fluents are named again and again, each to get the value that the next one does not have. In each state one action
+/// conflicts, by the first and the last effect of its range that hold, and the other is possible. The model compares
+/// every two holding effects, so that its time grows with the square.
+fn long_conflicts(count: usize, bound: u16) -> Vec<u8> {
+    use sheet::Program::*;
+    let mut records = Records { bound, ..Records::default() };
+    let [never, always] = [Formula::False, Formula::True].map(|formula| records.formula(formula));
+    for _ in 0..32 {
+        records.fluent(2, 0);
+    }
+    let mut is_0_or_not = |fluent| {
+        let is_0 = records.formula(Formula::Less(fluent, 1));
+        [is_0, records.formula(Formula::Not(is_0))]
+    };
+    let conditions: Vec<[usize; 2]> = (0..30).map(&mut is_0_or_not).collect();
+    let ends = |records: &mut Records, value| {
+        records.effect(conditions[0][0], 30, value);
+        records.effect(conditions[0][1], 31, value);
+    };
+    ends(&mut records, 1);
+    let named = (count - 4) / 2;
+    for fluent in (0..30).cycle().take(named) {
+        let [is_0, is_not] = conditions[(fluent + 1) % named.min(30)];
+        records.effect(is_0, fluent, 1);
+        records.effect(is_not, fluent, 0);
+    }
+    ends(&mut records, 0);
+    let acts = [0, 1].map(|first| records.action(always, first, count - 1));
+    let twice = acts.map(|action| {
+        let act = records.program(Act(action));
+        records.program(Choice(act, act))
+    });
+    let any = records.program(Choice(twice[0], twice[1]));
+    let star = records.program(Star(any));
+    let never = records.program(Test(never));
+    records.program(Sequence(star, never));
+    records.bytes()
 }
 
 /// What planning gives.

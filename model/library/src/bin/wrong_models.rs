@@ -1,7 +1,8 @@
-//! That `compare` catches wrong models: breaks a copy of the model, one construct or one word of F-1 at a time, and
-//! counts the sheets until the comparison with the library ends in a disagreement, for three seeds each. Edits of the
-//! meaning add runs, since the library searches sheets that have few runs by the broken model's count. Edits of the
-//! first plan keep verdicts, so that it is the plan that differs. The test sees that each edit still applies.
+//! That `compare` catches wrong models: breaks a copy of the model, one construct or one word of F-1 or F-2 at a time,
+//! and counts the sheets until the comparison with the library ends in a disagreement, for three seeds each. Edits of
+//! the meaning add runs, since the library searches sheets that have few runs by the broken model's count; those that
+//! find conflicts where there are none take runs away, and are caught before a search takes long. Edits of the first
+//! plan keep verdicts, so that it is the plan that differs. The test sees that each edit still applies.
 
 #![forbid(unsafe_code)]
 
@@ -13,17 +14,44 @@ use std::{env, fs, io};
 struct Edit(&'static str, &'static str, &'static str);
 
 #[rustfmt::skip]
-const EDITS: [Edit; 18] = [
+const EDITS: [Edit; 27] = [
     Edit("sizes: D in the place of F",
         "Ok((sheet.fluents.len(), sheet.bound))",
         "Ok((sheet.bound, sheet.bound))"),
-    Edit("effects: the last holding one counts",
-        "effects.iter().find(",
-        "effects.iter().rev().find("),
+    Edit("effects: conditions read from half-updated values",
+        "e.fluent == fluent && self.holds(e.condition)",
+        "e.fluent == fluent && Moment::new(self.sheet, next).holds(e.condition)"),
+    Edit("possible: conflicts are not judged",
+        "precondition) && self.effects_agree(action)",
+        "precondition)"),
+    Edit("possible: the precondition is not judged",
+        "self.holds(self.sheet.actions[action].precondition) && self.effects_agree(action)",
+        "self.effects_agree(action)"),
+    Edit("conflicts: without the conditions",
+        "effects.filter(|effect| self.holds(effect.condition)).collect()",
+        "effects.collect()"),
+    Edit("conflicts: conditions judged in the new values",
+        "precondition) && self.effects_agree(action)",
+        "precondition) && Moment::new(self.sheet, self.perform(action)).effects_agree(action)"),
+    Edit("conflicts: equal values too",
+        "one.fluent == other.fluent && one.value != other.value",
+        "one.fluent == other.fluent && !std::ptr::eq(one, other)"),
+    Edit("conflicts: only of neighbours",
+        "!holding.iter().any(|one| holding.iter().any(|other| differ(one, other)))",
+        "!holding.windows(2).any(|pair| differ(pair[0], pair[1]))"),
+    Edit("conflicts: only with the first effect",
+        "!holding.iter().any(|one| holding.iter().any(|other| differ(one, other)))",
+        "!holding.iter().any(|other| differ(holding[0], other))"),
+    Edit("conflicts: with the fluent's old value",
+        "one.value != other.value",
+        "one.value != self.state.values[one.fluent]"),
+    Edit("conflicts: not of the fluent's old value",
+        "one.value != other.value",
+        "one.value != other.value && ![one.value, other.value].contains(&self.state.values[one.fluent])"),
     Edit("formulas: less than takes in the value itself",
         "Formula::Less(x, a) => value(x) < a",
         "Formula::Less(x, a) => value(x) <= a"),
-    Edit("1 act: performed without its precondition",
+    Edit("1 act: performed where it is not possible",
         "Act(a) if self.possible(*a) =>",
         "Act(a) =>"),
     Edit("2 test: final where it holds",

@@ -25,18 +25,62 @@ fn world(random: &mut Random, records: &mut Records, counts: [usize; 4], most_si
     if formulas == 0 {
         return;
     }
-    // Most conditions are the first formula, which often is `true`.
-    let condition = |random: &mut Random| if random.percent(60) { 0 } else { random.below(formulas) };
     for _ in 0..effects {
         let fluent = random.below(fluents);
         let value = random.below(usize::from(records.fluents[fluent][0]));
-        records.effect(condition(random), fluent, value as u8);
+        records.effect(condition(random, records), fluent, value as u8);
     }
     for _ in 0..actions {
         let first = random.below(effects + 1);
         let count = random.below((effects - first).min(4) + 1);
-        records.action(condition(random), first, count);
+        records.action(condition(random, records), first, count);
     }
+}
+
+/// Any formula, but mostly the first, which often is `true`.
+fn condition(random: &mut Random, records: &Records) -> usize {
+    if random.percent(60) {
+        0
+    } else {
+        random.below(records.formulas.len())
+    }
+}
+
+/// Often gives the action with the longest range other effects (document 02, F-2), of which two or three are on one
+/// fluent: the first changes it, the others mostly hold once it has changed. So they agree in some states only.
+fn several_on_one_fluent(random: &mut Random, records: &mut Records) {
+    if records.actions.is_empty() || random.percent(30) {
+        return;
+    }
+    let drawn = [0; 3].map(|_| random.below(records.fluents.len()));
+    let fluent = drawn.into_iter().max_by_key(|&fluent| records.fluents[fluent][0]).expect("three were drawn");
+    let other = drawn[0];
+    let [size, initial] = records.fluents[fluent].map(usize::from);
+    let changed = (initial + random.between(1, size.max(2) - 1)) % size;
+    let first = records.effects.len();
+    for number in 0..random.between(2, 3) {
+        if other != fluent && random.percent(40) {
+            let value = random.below(usize::from(records.fluents[other][0]));
+            let condition = condition_on(random, records, fluent);
+            records.effect(condition, other, value as u8);
+        }
+        let value = if number == 0 || random.percent(30) { changed } else { random.below(size) };
+        let condition = if number == 0 { 0 } else { condition_on(random, records, fluent) };
+        records.effect(condition, fluent, value as u8);
+    }
+    let count = records.effects.len() - first;
+    let longest = records.actions.iter_mut().max_by_key(|[_, _, count]| *count).expect("there are actions");
+    *longest = [longest[0], first as u16, count as u16];
+}
+
+/// A formula about this fluent that holds at the start, or mostly one that does not.
+fn condition_on(random: &mut Random, records: &mut Records, fluent: usize) -> usize {
+    let initial = usize::from(records.fluents[fluent][1]);
+    let number = records.formula(random.pick(&[Formula::Is(fluent, initial), Formula::Less(fluent, initial + 1)]));
+    if random.percent(10) {
+        return number;
+    }
+    records.formula(Formula::Not(number))
 }
 
 /// Draws one program record of a kind out of `kinds`, or nil where the tables have nothing for it to name.
@@ -77,6 +121,7 @@ pub fn small(random: &mut Random) -> Records {
     let counts = [fluents, formulas, random.between(1, 7), random.between(1, 4)];
     let most_size = random.pick(&[2, 3, 4, 16]);
     world(random, &mut records, counts, most_size);
+    several_on_one_fluent(random, &mut records);
 
     for _ in 0..random.between(2, 4) {
         let links = records.programs.len();
@@ -145,6 +190,7 @@ fn rivals(random: &mut Random) -> Records {
     let mut records = Records { bound: random.between(1, 10) as u16, ..Records::default() };
     let counts = [random.between(1, 3), random.between(2, 6), random.between(1, 5), random.between(1, 3)];
     world(random, &mut records, counts, 3);
+    several_on_one_fluent(random, &mut records);
     // `true`, so that most ways can be gone.
     records.formulas[0] = ([0, 0], [0, 0]);
     for _ in 0..random.between(1, 3) {
