@@ -16,7 +16,6 @@ use Rattle.sheet.specs.Layout.{layoutOf, effectsIn, actionsIn}
 use Rattle.sheet.specs.Check.{Accepts}
 use Rattle.sheet.proofs.Accepted.{laid}
 use Rattle.sheet.proofs.Lower.{fields-of, action-of, effect-of}
-use Rattle.golog.specs.World.{start}
 use Rattle.remaining.specs.Extended.{empty, virtual}
 use Rattle.remaining.proofs.Started.{table-below, table-above}
 use Rattle.demands.specs.Decoded.{recordsOf, interruptsIn}

@@ -1,6 +1,6 @@
 -- An action is possible exactly when its precondition holds and no two holding effects of its range give one fluent different values
 -- (document 02, F-2): each test computed decides its line of the statement. Assumes nothing.
-use mathlib.Core.Path.{_≡_, refl, subst}
+use mathlib.Core.Path.{_≡_, subst}
 use mathlib.Core.Bool.{Bool, not, _&&_}
 use mathlib.Core.Logic.{_⊎_, inl, inr, ⊎-elim, _↔_}
 use Prim.Native.Nat.{ℕ, zero, suc, _≤_}

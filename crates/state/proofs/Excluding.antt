@@ -14,7 +14,7 @@ use Rattle.records.specs.declared.Formula.{Formula}
 use Rattle.records.specs.declared.Effect.{Effect}
 use Rattle.records.specs.Records.{formulaAt, effectAt, actionAt}
 use Rattle.records.proofs.Fills.{getD-same}
-use Rattle.records.proofs.Truth.{and-left, is-true, is-false}
+use Rattle.records.proofs.Truth.{and-left, is-false}
 use Rattle.records.proofs.Written.{written}
 use Rattle.kinds.specs.Formulas.{asksValue}
 use Rattle.golog.specs.declared.State.{State}
@@ -25,7 +25,7 @@ use Rattle.golog.proofs.Formulas.{value-said}
 use Rattle.state.specs.Truths.{saidBy, AreTruths}
 use Rattle.state.specs.Ranges.{ConditionsBelow}
 use Rattle.state.specs.Conflicts.{listedCount, Lists}
-use Rattle.state.specs.Exclusion.{isGuard, guardOf, guardValue, Excluded, Apart, Readable, Risky}
+use Rattle.state.specs.Exclusion.{isGuard, guardOf, guardValue, Excluded, Apart, Risky}
 use Rattle.state.proofs.Barring.{still-noted}
 
 -- conditions on one fluent, or on none, that ask for different values

@@ -45,11 +45,14 @@ start-from-counts-from c = start-from-flags-from (c .before)
 abbrev start-from-barred-at : tie.After-barred-at → tie.Start
 start-from-barred-at c = start-from-counts-from (c .before .before)
 
+abbrev barred-at-from-tallies-requires : tie.After-tallies-arg5 → tie.After-barred-at
+barred-at-from-tallies-requires c = c .before .before .before .before .before .before
+
 abbrev counts-from-from-tallies-requires : tie.After-tallies-arg5 → tie.After-counts-from
-counts-from-from-tallies-requires c = c .before .before .before .before .before .before .before .before
+counts-from-from-tallies-requires c = barred-at-from-tallies-requires c .before .before
 
 abbrev barred-at-from-tallies : tie.After-tallies → tie.After-barred-at
-barred-at-from-tallies c = c .before .before .before .before .before .before .before
+barred-at-from-tallies c = barred-at-from-tallies-requires (c .before)
 
 barred-at-requires : tie.Need-barred-at-requires
 barred-at-requires c κs =

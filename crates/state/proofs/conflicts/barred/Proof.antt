@@ -2,8 +2,7 @@
 use Prim.Native.Nat.{_-_, _≤_}
 use mathlib.Core.Path.{_≡_, sym, _∙_}
 use native.Mathlib.Omega.{arith}
-use lib.ListN.{getD}
-use Rattle.state.specs.Conflicts.{listedCount, Listed}
+use Rattle.state.specs.Conflicts.{listedCount}
 use Rattle.state.proofs.Barring.{Barring, barring-none, barring-more, barring-done}
 use borrow.Author.Needs.{needs}
 use Rattle.state.proofs.conflicts.barred.Statement.{statement}
