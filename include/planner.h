@@ -15,6 +15,9 @@
  *  - Work, trace and the single results are written. No two of them overlap, nor does one overlap a sheet or a history.
  *    They may hold anything before the call.
  *
+ * Moves. An action is possible where its precondition holds and no two of its effects that hold give one fluent
+ * different values (document 02, F-2); conditions are judged in the values before it.
+ *
  * Time and stack. planner_plan and planner_replay search, which may take time exponential in D; planner_plan, where
  * there is a plan, in the number of its transitions. A call cannot be broken off. It takes at most PLANNER_STACK bytes
  * of stack.
