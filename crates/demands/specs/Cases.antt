@@ -121,8 +121,8 @@ sheetWith own d programs =
     sheet (fluentsFrom 0) (formulas ++ (not1 ∷ [])) (effects ++ own) (actions ++ (action 3 2 (length own) ∷ [])) programs d
 
 -- action 2 gives fluent 0 the value 1
-abbrev sheetThird : (d : ℕ) → (programs : Table) → List ℕ
-sheetThird = sheetWith (effect 0 1 ∷ [])
+abbrev sheetOnce : (d : ℕ) → (programs : Table) → List ℕ
+sheetOnce = sheetWith (effect 0 1 ∷ [])
 
 -- its two effects give fluent 0 the values 1 and 2, neither of which it has yet
 abbrev sheetTwice : (d : ℕ) → (programs : Table) → List ℕ
@@ -206,23 +206,23 @@ further =
     × (replayOf (sheetOf 2 (act 0 ∷ act 1 ∷ nil ∷ ifThenElse 1 1 2 ∷ sequence 0 3 ∷ [])) (0 ∷ []) ≡ replied false))
     -- 8 "either steps, the other stays. Final if both are"
     -- act 0 together with act 2, D 2: both orders, where act 0; act 2 and act 0 over act 2 have only one; not act 0 alone
-    ∷ ((replayOf (sheetThird 2 (act 0 ∷ act 2 ∷ together 0 1 ∷ [])) (0 ∷ 2 ∷ []) ≡ replied true)
-    × (replayOf (sheetThird 2 (act 0 ∷ act 2 ∷ together 0 1 ∷ [])) (2 ∷ 0 ∷ []) ≡ replied true)
-    × (replayOf (sheetThird 2 (act 0 ∷ act 2 ∷ sequence 0 1 ∷ [])) (2 ∷ 0 ∷ []) ≡ replied false)
-    × (replayOf (sheetThird 2 (act 0 ∷ act 2 ∷ over 0 1 ∷ [])) (2 ∷ 0 ∷ []) ≡ replied false)
-    × (replayOf (sheetThird 2 (act 0 ∷ act 2 ∷ together 0 1 ∷ [])) (0 ∷ []) ≡ replied false)
+    ∷ ((replayOf (sheetOnce 2 (act 0 ∷ act 2 ∷ together 0 1 ∷ [])) (0 ∷ 2 ∷ []) ≡ replied true)
+    × (replayOf (sheetOnce 2 (act 0 ∷ act 2 ∷ together 0 1 ∷ [])) (2 ∷ 0 ∷ []) ≡ replied true)
+    × (replayOf (sheetOnce 2 (act 0 ∷ act 2 ∷ sequence 0 1 ∷ [])) (2 ∷ 0 ∷ []) ≡ replied false)
+    × (replayOf (sheetOnce 2 (act 0 ∷ act 2 ∷ over 0 1 ∷ [])) (2 ∷ 0 ∷ []) ≡ replied false)
+    × (replayOf (sheetOnce 2 (act 0 ∷ act 2 ∷ together 0 1 ∷ [])) (0 ∷ []) ≡ replied false)
     -- (act 0 together with act 2); test 1, D 3: the test holds after act 0 and does not after act 2
-    × (planOf (sheetThird 3 (act 0 ∷ act 2 ∷ together 0 1 ∷ test 1 ∷ sequence 2 3 ∷ [])) ≡ found (2 ∷ 0 ∷ []) 3))
+    × (planOf (sheetOnce 3 (act 0 ∷ act 2 ∷ together 0 1 ∷ test 1 ∷ sequence 2 3 ∷ [])) ≡ found (2 ∷ 0 ∷ []) 3))
     -- 10 "a step of a leaves (rest together with the iteration). Always final"
     -- (iteration of act 0); act 1, D 2: final after a round
     ∷ ((planOf (sheetOf 2 (act 0 ∷ iteration 0 ∷ act 1 ∷ sequence 1 2 ∷ [])) ≡ found (0 ∷ 1 ∷ []) 2)
     -- iteration of (act 0; act 2), D 4: rounds interleave, where those of star do not; each round ends
-    × (replayOf (sheetThird 4 (act 0 ∷ act 2 ∷ sequence 0 1 ∷ iteration 2 ∷ [])) (0 ∷ 0 ∷ 2 ∷ 2 ∷ []) ≡ replied true)
-    × (replayOf (sheetThird 4 (act 0 ∷ act 2 ∷ sequence 0 1 ∷ star 2 ∷ [])) (0 ∷ 0 ∷ 2 ∷ 2 ∷ []) ≡ replied false)
-    × (replayOf (sheetThird 4 (act 0 ∷ act 2 ∷ sequence 0 1 ∷ iteration 2 ∷ [])) (0 ∷ 0 ∷ 2 ∷ []) ≡ replied false)
+    × (replayOf (sheetOnce 4 (act 0 ∷ act 2 ∷ sequence 0 1 ∷ iteration 2 ∷ [])) (0 ∷ 0 ∷ 2 ∷ 2 ∷ []) ≡ replied true)
+    × (replayOf (sheetOnce 4 (act 0 ∷ act 2 ∷ sequence 0 1 ∷ star 2 ∷ [])) (0 ∷ 0 ∷ 2 ∷ 2 ∷ []) ≡ replied false)
+    × (replayOf (sheetOnce 4 (act 0 ∷ act 2 ∷ sequence 0 1 ∷ iteration 2 ∷ [])) (0 ∷ 0 ∷ 2 ∷ []) ≡ replied false)
     -- iteration of (act 0 | (act 2; test 1)), D 3: the test does not hold after act 2 and holds after another round's act 0
-    × (replayOf (sheetThird 3 (act 0 ∷ act 2 ∷ test 1 ∷ sequence 1 2 ∷ choice 0 3 ∷ iteration 4 ∷ [])) (2 ∷ 0 ∷ []) ≡ replied true)
-    × (replayOf (sheetThird 3 (act 0 ∷ act 2 ∷ test 1 ∷ sequence 1 2 ∷ choice 0 3 ∷ star 4 ∷ [])) (2 ∷ 0 ∷ []) ≡ replied false))
+    × (replayOf (sheetOnce 3 (act 0 ∷ act 2 ∷ test 1 ∷ sequence 1 2 ∷ choice 0 3 ∷ iteration 4 ∷ [])) (2 ∷ 0 ∷ []) ≡ replied true)
+    × (replayOf (sheetOnce 3 (act 0 ∷ act 2 ∷ test 1 ∷ sequence 1 2 ∷ choice 0 3 ∷ star 4 ∷ [])) (2 ∷ 0 ∷ []) ≡ replied false))
     ∷ []
 
 -- document 02, F-1: "the plan is the first: fewest transitions, and among those the history that is smaller at the first differing entry, a
@@ -232,13 +232,13 @@ firsts =
     -- star(act 0); act 1, D 12: no more transitions than needed
     (planOf (sheetOf 12 starThenAct) ≡ found (0 ∷ 1 ∷ []) 2)
     -- (act 0; act 0) | act 2, D 2: fewer transitions, although the history is larger
-    ∷ (planOf (sheetThird 2 (act 0 ∷ sequence 0 0 ∷ act 2 ∷ choice 1 2 ∷ [])) ≡ found (2 ∷ []) 1)
+    ∷ (planOf (sheetOnce 2 (act 0 ∷ sequence 0 0 ∷ act 2 ∷ choice 1 2 ∷ [])) ≡ found (2 ∷ []) 1)
     -- act 2 | act 0, D 1: the smaller entry, although it is listed later
-    ∷ (planOf (sheetThird 1 (act 2 ∷ act 0 ∷ choice 0 1 ∷ [])) ≡ found (0 ∷ []) 1)
+    ∷ (planOf (sheetOnce 1 (act 2 ∷ act 0 ∷ choice 0 1 ∷ [])) ≡ found (0 ∷ []) 1)
     -- (act 0; act 2) | (act 0; test 3), D 2: a proper beginning
-    ∷ (planOf (sheetThird 2 (act 0 ∷ act 2 ∷ sequence 0 1 ∷ test 3 ∷ sequence 0 3 ∷ choice 2 4 ∷ [])) ≡ found (0 ∷ []) 2)
+    ∷ (planOf (sheetOnce 2 (act 0 ∷ act 2 ∷ sequence 0 1 ∷ test 3 ∷ sequence 0 3 ∷ choice 2 4 ∷ [])) ≡ found (0 ∷ []) 2)
     -- ((act 0; test 3) | (act 0; act 0)); act 2, D 3: 0 is smaller than 0 0, but 0 2 is larger than 0 0 2
-    ∷ (planOf (sheetThird 3 (act 0 ∷ test 3 ∷ sequence 0 1 ∷ sequence 0 0 ∷ choice 2 3 ∷ act 2 ∷ sequence 4 5 ∷ [])) ≡ found (0 ∷ 0 ∷ 2 ∷ []) 3)
+    ∷ (planOf (sheetOnce 3 (act 0 ∷ test 3 ∷ sequence 0 1 ∷ sequence 0 0 ∷ choice 2 3 ∷ act 2 ∷ sequence 4 5 ∷ [])) ≡ found (0 ∷ 0 ∷ 2 ∷ []) 3)
     ∷ []
 
 -- document 02, F-2: "An action with two holding effects that give one fluent different values is now impossible, like one whose precondition
@@ -247,7 +247,7 @@ abbrev pub conflicts : List (Type 0)
 conflicts =
     -- values 1 and 1, neither of which fluent 0 has yet: act 2, D 1
     (planOf (sheetWith (effect 0 1 ∷ effect 0 1 ∷ []) 1 (act 2 ∷ [])) ≡ found (2 ∷ []) 1)
-    -- values 1 and, where fluent 0 is not 0, 2: once in the old values, which act 2 changes, and not twice
+    -- values 1 and, where fluent 0 is not 0, 2: act 2 once, since in the old values the second condition fails; not twice, since then it holds
     ∷ ((planOf (sheetWith (effect 0 1 ∷ effectIf 4 0 2 ∷ []) 1 (act 2 ∷ [])) ≡ found (2 ∷ []) 1)
     × (planOf (sheetWith (effect 0 1 ∷ effectIf 4 0 2 ∷ []) 2 (act 2 ∷ sequence 0 0 ∷ [])) ≡ refusedBy 13)
     × (replayOf (sheetWith (effect 0 1 ∷ effectIf 4 0 2 ∷ []) 2 (act 2 ∷ sequence 0 0 ∷ [])) (2 ∷ 2 ∷ []) ≡ replied false))
@@ -257,10 +257,10 @@ conflicts =
     ∷ (planOf (sheetWith (effect 0 1 ∷ effect 1 1 ∷ effect 0 2 ∷ []) 1 (act 2 ∷ [])) ≡ refusedBy 13)
     -- star(act 2) over act 0, D 1: the second goes where act 2 conflicts, and does not where it is possible
     ∷ ((planOf (sheetTwice 1 (act 2 ∷ star 0 ∷ act 0 ∷ over 1 2 ∷ [])) ≡ found (0 ∷ []) 1)
-    × (planOf (sheetThird 1 (act 2 ∷ star 0 ∷ act 0 ∷ over 1 2 ∷ [])) ≡ refusedBy 14))
+    × (planOf (sheetOnce 1 (act 2 ∷ star 0 ∷ act 0 ∷ over 1 2 ∷ [])) ≡ refusedBy 14))
     -- interrupt true, act 2, D 2: stopped at once where act 2 conflicts, and never where it is possible
     ∷ ((planOf (sheetTwice 2 (act 2 ∷ interrupt 3 0 ∷ [])) ≡ found (65534 ∷ 65535 ∷ []) 2)
-    × (planOf (sheetThird 2 (act 2 ∷ interrupt 3 0 ∷ [])) ≡ refusedBy 14))
+    × (planOf (sheetOnce 2 (act 2 ∷ interrupt 3 0 ∷ [])) ≡ refusedBy 14))
     ∷ []
 
 -- n fluents that are always 0, and the root nil

@@ -26,9 +26,13 @@ use Rattle.engine.specs.Going.{IsAction}
 use Rattle.sheet.proofs.Parts.{part-length, in-order, actions-long}
 
 module _ (s : List ℕ) (accepted : Accepts s) where
+  -- the action of a record of the sheet that performs one
+  pub action-known : (i : ℕ) → i < layoutOf s .p → T (acts (recordsOf s i .kind)) → recordsOf s i .a < layoutOf s .a
+  action-known i l t = action-below _ _ i (fieldA (recordsOf s i .kind)) (fields-of s accepted i l .a) t
+
   act-known : (i : ℕ) → i < layoutOf s .p → T (acts (recordsOf s i .kind)) → IsAction s (recordsOf s i .a)
   act-known i l t =
-      let a = action-below _ _ i (fieldA (recordsOf s i .kind)) (fields-of s accepted i l .a) t in
+      let a = action-known i l t in
       let b = laid s accepted .a in
       (omega arith, λ h. a)
 

@@ -29,14 +29,14 @@ use Rattle.leaves.proofs.Marking.{bounds-above, bounds-after, places-few}
 use Rattle.leaves.proofs.Measuring.{distances-below}
 use Rattle.leaves.proofs.Skipping.{skips-settled}
 use Rattle.leaves.proofs.Entries.{finals-whole, counts-whole}
-use Rattle.engine.specs.Tables.{Only, flagPlaces, endableIn, truthsFrom, truthsAt, finalsAt, numberPlaces, skipsIn, distancesIn, judgedIn, countsFrom, countsAt}
-use Rattle.engine.specs.Tables.{extendedSizeOf, Judges, Prepared, Judged, BarredAt, Surveyed}
+use Rattle.engine.specs.Tables.{Only, flagPlaces, endableIn, truthsFrom, truthsAt, finalsAt, numberPlaces, skipsIn, distancesIn, mayConflictIn, countsFrom, countsAt}
+use Rattle.engine.specs.Tables.{extendedSizeOf, ListsMayConflict, Prepared, Judged, ConflictedAt, Surveyed}
 use Rattle.sheet.specs.Inspection.{Of}
 use Rattle.sheet.specs.declared.Inspection.{Inspection}
 use Rattle.sheet.proofs.Found.{by-found, of-found}
 use Rattle.engine.proofs.Actions.{acts-read}
 use Rattle.engine.proofs.Seen.{sees-possible, sees}
-use Rattle.engine.proofs.Tables.{finals-long, counts-long, endable-kept, skips-kept, distances-kept, judged-kept, none-by}
+use Rattle.engine.proofs.Tables.{finals-long, counts-long, endable-kept, skips-kept, distances-kept, may-conflict-kept, none-by}
 
 -- the table that runs and its number of records, by the names of a layout
 abbrev pub runs : List ℕ → Layout → (interrupts : Bool) → ℕ → Program
@@ -69,7 +69,7 @@ module _ {s : List ℕ} {m : Inspection} (O : Of s m) where
       → ((d i : ℕ) → getD (countsAt d numbers) i 0 ≡ 0)
       → skipsIn numbers ≡ skipsOf (runs s (m .layout) (m .interrupts)) (many (m .layout) (m .interrupts)) marks
       → distancesIn numbers ≡ distancesOf (runs s (m .layout) (m .interrupts)) (many (m .layout) (m .interrupts))
-      → Judges s (judgedIn numbers)
+      → ListsMayConflict s (mayConflictIn numbers)
       → Prepared s flags numbers
   prepared {flags} {numbers} marks n k e eb ec es ed J =
       let low = all-lower s (O .accepted) in
@@ -87,7 +87,7 @@ module _ {s : List ℕ} {m : Inspection} (O : Of s m) where
         none-counted = λ d i l. ec d i;
         skipping = subst (Skips (extendedRecords s) (extendedSizeOf s) (endableIn flags)) (sym e₄) S;
         distances = subst (Distances (extendedRecords s) (extendedSizeOf s)) (sym e₅) (distances-below (extendedRecords s) (extendedSizeOf s) low);
-        judges = J;
+        may-conflict = J;
       }
 
   module _ {flags : List Bool} {numbers : List ℕ} (P : Prepared s flags numbers) where
@@ -109,7 +109,7 @@ module _ {s : List ℕ} {m : Inspection} (O : Of s m) where
       none-counted = P .none-counted;
       skipping = subst (λ (x : List Bool). Skips (extendedRecords s) (extendedSizeOf s) x (skipsIn numbers)) (sym e) (P .skipping);
       distances = P .distances;
-      judges = P .judges;
+      may-conflict = P .may-conflict;
     }
 
     -- told of a state
@@ -157,15 +157,15 @@ module _ {s : List ℕ} {m : Inspection} (O : Of s m) where
 
     -- counted in a state
     pub surveyed :
-        (numbers′ : List ℕ) (barred : List Bool) → length numbers′ ≡ length numbers → Only (countsFrom d) 260 numbers numbers′ → BarredAt s d flags numbers barred
-        → Tallied (runs s (m .layout) (m .interrupts)) (many (m .layout) (m .interrupts)) (actionsIn s (m .layout)) (truthsAt d flags) barred (st .running)
+        (numbers′ : List ℕ) (conflicted : List Bool) → length numbers′ ≡ length numbers → Only (countsFrom d) 260 numbers numbers′ → ConflictedAt s d flags numbers conflicted
+        → Tallied (runs s (m .layout) (m .interrupts)) (many (m .layout) (m .interrupts)) (actionsIn s (m .layout)) (truthsAt d flags) conflicted (st .running)
         (countsAt d numbers) (countsAt d numbers′)
         → Surveyed s st d flags numbers′
-    surveyed numbers′ barred n K B T =
+    surveyed numbers′ conflicted n K B T =
         let W = worldOf s in
         let P = J .prepared in
-        let T₂ = of-found O (λ (l : Layout) (b : Bool). Tallied (runs s l b) (many l b) (actionsIn s l) (truthsAt d flags) barred (st .running) (countsAt d numbers) (countsAt d numbers′)) T in
-        let S = sees s (O .accepted) st (truthsAt d flags) (J .truths-are) (P .judges) B in
+        let T₂ = of-found O (λ (l : Layout) (b : Bool). Tallied (runs s l b) (many l b) (actionsIn s l) (truthsAt d flags) conflicted (st .running) (countsAt d numbers) (countsAt d numbers′)) T in
+        let S = sees s (O .accepted) st (truthsAt d flags) (J .truths-are) (P .may-conflict) B in
         let c = T₂ W st S ∙ counts-whole W st (extendedRecords s) (extendedSizeOf s) (countsAt d numbers) nil-counts in
         let here : (i : ℕ) → extendedSizeOf s ≤ i → getD (countsAt d numbers′) i 0 ≡ 0 = λ i l. ap (λ (x : List ℕ). getD x i 0) c ∙ counts-after i l in
         record {
@@ -177,12 +177,12 @@ module _ {s : List ℕ} {m : Inspection} (O : Of s m) where
                 none-counted = λ e i l. none-by d e i (P .numbers-long) K n (P .none-counted e i l) (here i l);
                 skipping = subst (Skips (extendedRecords s) (extendedSizeOf s) (endableIn flags)) (sym (skips-kept (omega arith) K)) (P .skipping);
                 distances = subst (Distances (extendedRecords s) (extendedSizeOf s)) (sym (distances-kept (omega arith) K n (omega (arith, P .numbers-long)))) (P .distances);
-                judges = subst (Judges s) (sym (judged-kept (omega arith) K n (omega (arith, P .numbers-long)))) (P .judges);
+                may-conflict = subst (ListsMayConflict s) (sym (may-conflict-kept (omega arith) K n (omega (arith, P .numbers-long)))) (P .may-conflict);
               };
           truths-are = J .truths-are;
           tabled =
               record {
-                counted = record { can = allowedBy (actionsIn s (layoutOf s)) (truthsAt d flags) barred; sees = S; lower = all-lower s (O .accepted); counts-are = c };
+                counted = record { can = allowedBy (actionsIn s (layoutOf s)) (truthsAt d flags) conflicted; sees = S; lower = all-lower s (O .accepted); counts-are = c };
                 finals-are = J .finals-are;
               };
         }

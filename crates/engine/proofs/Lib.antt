@@ -1,7 +1,7 @@
 pub mod Codes
 pub mod Actions
 pub mod Seen
-pub mod Barring
+pub mod Conflicting
 pub mod Moves
 pub mod Copied
 pub mod Windows

@@ -8,7 +8,7 @@ use lib.Dec.{T}
 use Rattle.records.specs.Records.{actionAt}
 use Rattle.records.proofs.Truth.{and-right, or-left, is-true}
 use Rattle.kinds.specs.Programs.{fieldA, fieldC, acts}
-use Rattle.kinds.proofs.ProgramFields.{action-below, formula-below}
+use Rattle.kinds.proofs.ProgramFields.{formula-below}
 use Rattle.sheet.specs.Layout.{layoutOf, effectsIn, actionsIn}
 use Rattle.sheet.specs.Check.{Accepts}
 use Rattle.sheet.proofs.Lower.{fields-of, action-of}
@@ -17,15 +17,15 @@ use Rattle.golog.specs.World.{special, conflicting, possibleBy, saysIn, possibl
 use Rattle.demands.specs.Decoded.{worldOf, recordsOf, interruptsIn}
 use Rattle.demands.specs.Compact.{extendedRecords}
 use Rattle.state.specs.Truths.{saidBy, AreTruths}
-use Rattle.state.specs.Conflicts.{Barred, allowedBy}
+use Rattle.state.specs.Conflicts.{Conflicted, allowedBy}
 use Rattle.state.specs.Ranges.{ConditionsBelow}
-use Rattle.state.proofs.Barring.{allowed-possible}
-use Rattle.state.proofs.Excluding.{apart-none}
+use Rattle.state.proofs.Noting.{allowed-possible}
+use Rattle.state.proofs.Excluding.{exclusive-none}
 use Rattle.state.proofs.Performed.{possible-same}
 use Rattle.leaves.specs.Tallies.{SeesRecord, Sees}
 use Rattle.leaves.proofs.Seen.{table-seen}
-use Rattle.engine.specs.Tables.{extendedSizeOf, ApartIn, Judges}
-use Rattle.engine.proofs.Actions.{conditions-below}
+use Rattle.engine.specs.Tables.{extendedSizeOf, ExclusiveIn, ListsMayConflict}
+use Rattle.engine.proofs.Actions.{action-known, conditions-below}
 
 module _ (s : List ℕ) (accepted : Accepts s) (st : State) (truths : List Bool) (H : AreTruths (worldOf s) st (layoutOf s .q) truths) where
   module _
@@ -50,21 +50,21 @@ module _ (s : List ℕ) (accepted : Accepts s) (st : State) (truths : List Bool)
   unfolding possibleBy
   sees-possible = sees-by _ (λ a t. or-left (special a) _ (is-true (special a) t)) (λ i l t. refl)
 
-  -- by which actions the truths bar, where all that may be barred are judged
+  -- by which actions are in conflict, where all that may be are listed
   pub sees :
-      {list : List ℕ} {barred : List Bool} → Judges s list → Barred (effectsIn s (layoutOf s)) (actionsIn s (layoutOf s)) list truths barred
-      → Sees (worldOf s) st (extendedRecords s) (extendedSizeOf s) truths (allowedBy (actionsIn s (layoutOf s)) truths barred) (st .running)
-  sees {barred = barred} J B = sees-by _ (λ a t. or-left (special a) _ (is-true (special a) t)) tells
+      {list : List ℕ} {conflicted : List Bool} → ListsMayConflict s list → Conflicted (effectsIn s (layoutOf s)) (actionsIn s (layoutOf s)) list truths conflicted
+      → Sees (worldOf s) st (extendedRecords s) (extendedSizeOf s) truths (allowedBy (actionsIn s (layoutOf s)) truths conflicted) (st .running)
+  sees {conflicted = conflicted} J B = sees-by _ (λ a t. or-left (special a) _ (is-true (special a) t)) tells
     where
       none : (a : ℕ) → ConditionsBelow (effectsIn s (layoutOf s)) (layoutOf s .q) (actionAt (actionsIn s (layoutOf s)) a .first) (actionAt (actionsIn s (layoutOf s)) a .count)
-          → ApartIn s a → conflicting (saidBy truths) (worldOf s .effect) (worldOf s .action a .first) (worldOf s .action a .count) ≡ false
-      none a low A = apart-none _ _ _ _ A (worldOf s) st (layoutOf s .q) truths H (λ q. refl) low
+          → ExclusiveIn s a → conflicting (saidBy truths) (worldOf s .effect) (worldOf s .action a .first) (worldOf s .action a .count) ≡ false
+      none a low A = exclusive-none _ _ _ _ A (worldOf s) st (layoutOf s .q) truths H (λ q. refl) low
 
       tells : (i : ℕ) → i < layoutOf s .p → T (acts (recordsOf s i .kind))
-          → allowedBy (actionsIn s (layoutOf s)) truths barred (recordsOf s i .a) ≡ possible (worldOf s) (recordsOf s i .a) st
+          → allowedBy (actionsIn s (layoutOf s)) truths conflicted (recordsOf s i .a) ≡ possible (worldOf s) (recordsOf s i .a) st
       tells i l t =
           let a = recordsOf s i .a in
-          let known = action-below _ _ i (fieldA (recordsOf s i .kind)) (fields-of s accepted i l .a) t in
+          let known = action-known s accepted i l t in
           let low = conditions-below s accepted a known in
           let r = actionAt (actionsIn s (layoutOf s)) a in
           allowed-possible a B (λ e. ⊎-elim (λ k. k) (λ A. absurd (false≢true (sym (none a low A) ∙ and-right (saidBy truths (r .precondition)) _ e))) (J .all i l t))

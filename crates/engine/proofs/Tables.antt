@@ -13,8 +13,8 @@ use Rattle.sheet.specs.Layout.{layoutOf}
 use Rattle.golog.specs.declared.State.{State}
 use Rattle.demands.specs.Decoded.{worldOf}
 use Rattle.state.specs.Truths.{AreTruths}
-use Rattle.engine.specs.Tables.{window, Only, setOf, endableIn, truthsFrom, finalsFrom, truthsAt, finalsAt, skipsIn, distancesIn, judgedIn, numberPlaces, surveysAt, countsFrom, countsAt}
-use Rattle.engine.specs.Tables.{Judges, Prepared, Surveyed, SameTables, Filled}
+use Rattle.engine.specs.Tables.{window, Only, setOf, endableIn, truthsFrom, finalsFrom, truthsAt, finalsAt, skipsIn, distancesIn, mayConflictIn, numberPlaces, surveysAt, countsFrom, countsAt}
+use Rattle.engine.specs.Tables.{ListsMayConflict, Prepared, Surveyed, SameTables, Filled}
 use Rattle.engine.proofs.Windows.{window-long, earlier, window-before, window-behind}
 
 module _ {s : List ℕ} {flags : List Bool} {numbers : List ℕ} (P : Prepared s flags numbers) where
@@ -42,9 +42,9 @@ pub distances-kept : {numbers numbers′ : List ℕ} {o n : ℕ} → 521 ≤ o �
     → distancesIn numbers′ ≡ distancesIn numbers
 distances-kept h P n l = window-before P n 261 260 h l
 
-pub judged-kept : {numbers numbers′ : List ℕ} {o n : ℕ} → 586 ≤ o → Only o n numbers numbers′ → length numbers′ ≡ length numbers → 521 ≤ length numbers
-    → judgedIn numbers′ ≡ judgedIn numbers
-judged-kept h P n l = window-before P n 521 65 h l
+pub may-conflict-kept : {numbers numbers′ : List ℕ} {o n : ℕ} → 586 ≤ o → Only o n numbers numbers′ → length numbers′ ≡ length numbers → 521 ≤ length numbers
+    → mayConflictIn numbers′ ≡ mayConflictIn numbers
+may-conflict-kept h P n l = window-before P n 521 65 h l
 
 -- depths less than eight apart have sets of their own
 apart : (d e : ℕ) → d < e → e < d + 8 → ¬ (setOf d ≡ setOf e)
@@ -110,7 +110,7 @@ module _ {numbers numbers′ : List ℕ} (N : Only surveysAt 1 numbers numbers�
         none-counted = λ d i h. ap (λ (x : List ℕ). getD x i 0) (counted-same {flags = flags} d .same-counts) ∙ P .none-counted d i h;
         skipping = rw (skips-kept (omega arith) N) (P .skipping);
         distances = rw (distances-kept (omega arith) N n (omega arith)) (P .distances);
-        judges = subst (Judges s) (sym (judged-kept (omega arith) N n (omega arith))) (P .judges);
+        may-conflict = subst (ListsMayConflict s) (sym (may-conflict-kept (omega arith) N n (omega arith))) (P .may-conflict);
       }
 
   pub counted : {s : List ℕ} {st : State} {d : ℕ} {flags : List Bool} → Surveyed s st d flags numbers → Surveyed s st d flags numbers′

@@ -16,8 +16,8 @@ use Rattle.golog.specs.declared.State.{State}
 use Rattle.demands.specs.Decoded.{worldOf, recordsOf, interruptsIn}
 use Rattle.demands.specs.Compact.{extendedRecords}
 use Rattle.state.specs.Truths.{AreTruths}
-use Rattle.state.specs.Conflicts.{Listed, Barred, Judgeable}
-use Rattle.state.specs.Exclusion.{Apart}
+use Rattle.state.specs.Conflicts.{mostActions, Listed, Conflicted, ReadableListed}
+use Rattle.state.specs.Exclusion.{Exclusive}
 use Rattle.remaining.specs.Extended.{mostRecords}
 use Rattle.leaves.specs.Tallies.{extendedSize, finalsOf}
 use Rattle.leaves.specs.Endable.{Skips, FinalsKnown}
@@ -89,7 +89,7 @@ abbrev pub skipPlaces : ℕ
 skipPlaces = 261
 
 -- numbers: from each place on, the first record whose finality depends on the state; then how far each record is from its end; then the
--- actions that are judged in each state; then for each set how many transitions each record has; then how many configurations were surveyed
+-- actions whose effects may contradict each other; then for each set how many transitions each record has; then how many configurations were surveyed
 abbrev pub numberPlaces : ℕ
 numberPlaces = 2667
 
@@ -107,10 +107,10 @@ distancesIn numbers = window skipPlaces mostRecords numbers
 
 -- the places of a list of actions
 abbrev pub listPlaces : ℕ
-listPlaces = 65
+listPlaces = mostActions + 1
 
-abbrev pub judgedIn : List ℕ → List ℕ
-judgedIn numbers = window (skipPlaces + mostRecords) listPlaces numbers
+abbrev pub mayConflictIn : List ℕ → List ℕ
+mayConflictIn numbers = window (skipPlaces + mostRecords) listPlaces numbers
 
 abbrev pub countsFrom : (d : ℕ) → ℕ
 countsFrom d = skipPlaces + mostRecords + listPlaces + mostRecords * setOf d
@@ -123,16 +123,16 @@ abbrev pub extendedSizeOf : List ℕ → ℕ
 extendedSizeOf s = extendedSize (interruptsIn s) (layoutOf s .p)
 
 -- effects of action a that give one fluent different values stand under conditions that exclude each other
-abbrev pub ApartIn : (s : List ℕ) (a : ℕ) → Type 0
-ApartIn s a =
+abbrev pub ExclusiveIn : (s : List ℕ) (a : ℕ) → Type 0
+ExclusiveIn s a =
     let r = actionAt (actionsIn s (layoutOf s)) a in
-    Apart (formulasIn s (layoutOf s)) (effectsIn s (layoutOf s)) (r .first) (r .count)
+    Exclusive (formulasIn s (layoutOf s)) (effectsIn s (layoutOf s)) (r .first) (r .count)
 
--- the actions listed can be judged; and of each action that a record performs: it is listed, or contradicts itself in no state
-pub record Judges (s : List ℕ) (list : List ℕ) : Type 0 where
-  pub known : Judgeable (effectsIn s (layoutOf s)) (actionsIn s (layoutOf s)) list
+-- the actions listed lie in the tables; and each that a record performs is listed, or contradicts itself in no state
+pub record ListsMayConflict (s : List ℕ) (list : List ℕ) : Type 0 where
+  pub known : ReadableListed (effectsIn s (layoutOf s)) (actionsIn s (layoutOf s)) list
   pub all :
-      (i : ℕ) → i < layoutOf s .p → T (acts (recordsOf s i .kind)) → Listed list (recordsOf s i .a) ⊎ ApartIn s (recordsOf s i .a)
+      (i : ℕ) → i < layoutOf s .p → T (acts (recordsOf s i .kind)) → Listed list (recordsOf s i .a) ⊎ ExclusiveIn s (recordsOf s i .a)
 
 -- what is told once of a sheet stands in the tables, and behind the records nil
 pub record Prepared (s : List ℕ) (flags : List Bool) (numbers : List ℕ) : Type 0 where
@@ -142,7 +142,7 @@ pub record Prepared (s : List ℕ) (flags : List Bool) (numbers : List ℕ) : Ty
   pub none-counted : (d i : ℕ) → extendedSizeOf s ≤ i → getD (countsAt d numbers) i 0 ≡ 0
   pub skipping : Skips (extendedRecords s) (extendedSizeOf s) (endableIn flags) (skipsIn numbers)
   pub distances : Distances (extendedRecords s) (extendedSizeOf s) (distancesIn numbers)
-  pub judges : Judges s (judgedIn numbers)
+  pub may-conflict : ListsMayConflict s (mayConflictIn numbers)
 
 -- what the formulas say in the state st, and which records are final in it, stands there too, for depth d
 pub record Judged (s : List ℕ) (st : State) (d : ℕ) (flags : List Bool) (numbers : List ℕ) : Type 0 where
@@ -151,9 +151,9 @@ pub record Judged (s : List ℕ) (st : State) (d : ℕ) (flags : List Bool) (num
   pub decides : FinalsKnown (extendedRecords s) (extendedSizeOf s) (truthsAt d flags) (st .running) (finalsAt d flags)
   pub finals-are : finalsAt d flags ≡ finalsOf (worldOf s) st (extendedRecords s) (extendedSizeOf s)
 
--- which of the actions judged in each state what the formulas say there bars
-abbrev pub BarredAt : (s : List ℕ) (d : ℕ) (flags : List Bool) (numbers : List ℕ) (barred : List Bool) → Type 0
-BarredAt s d flags numbers barred = Barred (effectsIn s (layoutOf s)) (actionsIn s (layoutOf s)) (judgedIn numbers) (truthsAt d flags) barred
+-- which of the actions listed are in conflict, by the truths for depth d
+abbrev pub ConflictedAt : (s : List ℕ) (d : ℕ) (flags : List Bool) (numbers : List ℕ) (conflicted : List Bool) → Type 0
+ConflictedAt s d flags numbers conflicted = Conflicted (effectsIn s (layoutOf s)) (actionsIn s (layoutOf s)) (mayConflictIn numbers) (truthsAt d flags) conflicted
 
 -- how the sheet's program records are read in the state st
 abbrev pub settingOf : List ℕ → State → Setting

@@ -25,7 +25,7 @@ ghost use Rattle.state.specs.Truths.{AreTruths};
 ghost use Rattle.engine.specs.Tables.{window, Only, mostFormulas, setFlags, truthsOn, finalsOn, FinalsOn, SameFrom, flagPlaces};
 ghost use Rattle.engine.specs.Tables.{numberPlaces, surveysAt, surveysIn};
 ghost use Rattle.engine.specs.Tables.{endableIn, truthsFrom, finalsAt, distancesIn, countsFrom, countsAt};
-ghost use Rattle.engine.specs.Tables.{Judges, Prepared, Judged, BarredAt, Surveyed, Filled};
+ghost use Rattle.engine.specs.Tables.{ListsMayConflict, Prepared, Judged, ConflictedAt, Surveyed, Filled};
 ghost use Rattle.engine.specs.Frames.{Frame};
 ghost use Rattle.engine.specs.Going.{isFinal, Ahead, Tells, Known, IsAction, moveOf, CanGoOn, GoesOn};
 ghost use Rattle.engine.specs.Turns.{Turns};
@@ -44,10 +44,11 @@ pub const FLAGS: usize = leaves::RECORDS + SETS * (sheet::MOST_FORMULAS + leaves
 
 pub const NUMBERS: usize = SURVEYS + 1;
 
-// Where among the numbers the actions judged in each state are listed, behind the skips and the distances, and where those of the sets begin.
-const JUDGED: usize = leaves::SKIPS + leaves::RECORDS;
+// Where among the numbers the actions are listed whose effects may contradict each other, behind the skips and the distances, and where those
+// of the sets begin.
+const MAY_CONFLICT: usize = leaves::SKIPS + leaves::RECORDS;
 
-const COUNTS: usize = JUDGED + state::exclusion::LIST;
+const COUNTS: usize = MAY_CONFLICT + state::exclusion::LIST;
 
 // Where among them it is counted how many configurations were surveyed.
 const SURVEYS: usize = COUNTS + SETS * leaves::RECORDS;
@@ -151,10 +152,10 @@ fn copy_numbers(to: &mut [u32], from: &[u32])
     }
 }
 
-// The actions to be judged in each state: those that records perform and whose effects may contradict each other.
-fn judged_of(s: &[u8], found: Inspection) -> [u32; state::exclusion::LIST]
+// The actions that records perform and whose effects may contradict each other in some state.
+fn may_conflict_of(s: &[u8], found: Inspection) -> [u32; state::exclusion::LIST]
     requires { ⌜ Of (now s) found ⌝ }
-    ensures { λ r. ⌜ Judges (now (s .entry)) r ⌝ }
+    ensures { λ r. ⌜ ListsMayConflict (now (s .entry)) r ⌝ }
 {
     let l = found.layout;
     let formulas = l.formulas;
@@ -163,17 +164,17 @@ fn judged_of(s: &[u8], found: Inspection) -> [u32; state::exclusion::LIST]
     let programs = l.programs;
     let end = l.end;
     let performed = leaves::performed(&s[programs..end], l.p);
-    let risky = state::exclusion::risky(
+    let may_conflict = state::exclusion::may_conflict(
         &s[formulas..effects],
         &s[effects..actions],
         &s[actions..programs],
         &performed,
     );
-    state::exclusion::listed(&risky)
+    state::exclusion::listed(&may_conflict)
 }
 
 // Fills in once what depends on the sheet alone: which records may be final in some state, which depend on it, how far each is from its
-// end, and which actions are judged in each state.
+// end, and which actions' effects may contradict each other.
 pub fn prepare(flags: &mut [bool], numbers: &mut [u32], s: &[u8], found: Inspection)
     requires { ⌜ Of (now s) found × (length (now flags) ≡ flagPlaces) × (length (now numbers) ≡ numberPlaces) × ((i : ℕ) → getD (now numbers) i 0 ≡ 0) ⌝ }
     ensures { λ _. ⌜ Prepared (now (s .entry)) (now (flags .exit)) (now (numbers .exit)) ⌝ }
@@ -185,11 +186,11 @@ pub fn prepare(flags: &mut [bool], numbers: &mut [u32], s: &[u8], found: Inspect
     let endable = leaves::bounds(t, l.p, found.interrupts, true);
     let skips = leaves::skips(t, l.p, found.interrupts, &endable);
     let distances = leaves::distances(t, l.p, found.interrupts);
-    let judged = judged_of(s, found);
+    let listed = may_conflict_of(s, found);
     copy_flags(&mut flags[..leaves::RECORDS], &endable);
     copy_numbers(&mut numbers[..leaves::SKIPS], &skips);
-    copy_numbers(&mut numbers[leaves::SKIPS..JUDGED], &distances);
-    copy_numbers(&mut numbers[JUDGED..COUNTS], &judged);
+    copy_numbers(&mut numbers[leaves::SKIPS..MAY_CONFLICT], &distances);
+    copy_numbers(&mut numbers[MAY_CONFLICT..COUNTS], &listed);
 }
 
 // Where the tables for depth d begin: among the flags what the formulas say, and behind it which records are final.
@@ -308,8 +309,8 @@ pub fn is_final(
     ends::final_rest(&flags[from..to], work, d * found.frame + height::HEADER)
 }
 
-// Which actions what the formulas say in the tables for depth d bars.
-fn barred_at(
+// Which of the listed actions are in conflict, by the truths for depth d.
+fn conflicted_at(
     flags: &[bool],
     numbers: &[u32],
     s: &[u8],
@@ -317,7 +318,7 @@ fn barred_at(
     d: usize,
 ) -> [bool; state::conflicts::ACTIONS]
     requires { ⌜ Of (now s) found × Prepared (now s) (now flags) (now numbers) ⌝ }
-    ensures { λ r. ⌜ BarredAt (now (s .entry)) d (now (flags .entry)) (now (numbers .entry)) r ⌝ }
+    ensures { λ r. ⌜ ConflictedAt (now (s .entry)) d (now (flags .entry)) (now (numbers .entry)) r ⌝ }
 {
     let l = found.layout;
     let effects = l.effects;
@@ -325,10 +326,10 @@ fn barred_at(
     let programs = l.programs;
     let from = flags_from(d);
     let to = from + sheet::MOST_FORMULAS;
-    state::conflicts::barred(
+    state::conflicts::in_conflict(
         &s[effects..actions],
         &s[actions..programs],
-        &numbers[JUDGED..COUNTS],
+        &numbers[MAY_CONFLICT..COUNTS],
         &flags[from..to],
     )
 }
@@ -348,7 +349,7 @@ fn tally(numbers: &mut [u32], flags: &[bool], s: &[u8], found: Inspection, st: S
     let to = middle + leaves::RECORDS;
     let first = counts_from(d);
     let last = first + leaves::RECORDS;
-    let barred = barred_at(flags, numbers, s, found, d);
+    let conflicted = conflicted_at(flags, numbers, s, found, d);
     leaves::tallies(
         &mut numbers[first..last],
         &s[programs..end],
@@ -356,7 +357,7 @@ fn tally(numbers: &mut [u32], flags: &[bool], s: &[u8], found: Inspection, st: S
         found.interrupts,
         &s[actions..programs],
         &flags[from..middle],
-        &barred,
+        &conflicted,
         st.running,
         &flags[middle..to],
     );
@@ -373,7 +374,7 @@ fn total(flags: &[bool], numbers: &[u32], work: &[u32], d: usize, at: usize) -> 
     let last = first + leaves::RECORDS;
     ends::total_rest(
         &flags[from..to],
-        &numbers[leaves::SKIPS..JUDGED],
+        &numbers[leaves::SKIPS..MAY_CONFLICT],
         &numbers[first..last],
         work,
         at,

@@ -1,6 +1,6 @@
 -- An action is possible exactly when its precondition holds and no two holding effects of its range give one fluent different values
 -- (document 02, F-2): each test computed decides its line of the statement. Assumes nothing.
-use mathlib.Core.Path.{_≡_, subst}
+use mathlib.Core.Path.{_≡_, refl, subst}
 use mathlib.Core.Bool.{Bool, not, _&&_}
 use mathlib.Core.Logic.{_⊎_, inl, inr, ⊎-elim, _↔_}
 use Prim.Native.Nat.{ℕ, zero, suc, _≤_}
@@ -15,7 +15,7 @@ use Rattle.golog.specs.Possible.{Contradict, InRange, Conflict, Possible
 use Rattle.golog.proofs.Tests.{same, not-iff}
 
 -- one of the k numbers from i on has what the test decides
-pub some-iff : {P : ℕ → Type 0} (has : ℕ → Bool) → ((a : ℕ) → T (has a) ↔ P a) → (k i : ℕ) → T (someFrom has i k) ↔ ((a : ℕ) × InRange i k a × P a)
+some-iff : {P : ℕ → Type 0} (has : ℕ → Bool) → ((a : ℕ) → T (has a) ↔ P a) → (k i : ℕ) → T (someFrom has i k) ↔ ((a : ℕ) × InRange i k a × P a)
 unfolding someFrom
 some-iff has h zero i = (λ t. absurd t, λ (a, (l, m), p). absurd (omega arith))
 some-iff {P} has h (suc k) i =
@@ -45,3 +45,14 @@ possible-exactly W a s =
     let conflict = conflicting (saysIn W s) (W .effect) (r .first) (r .count) in
     or-iff (special a) (holds W (r .precondition) s && not conflict) (same _)
     (and-iff (holds W (r .precondition) s) (not conflict) (same _) (not-iff conflict (conflicting-exactly (saysIn W s) (W .effect) (r .first) (r .count))))
+
+some-same : (f g : ℕ → Bool) (k i : ℕ) → ((a : ℕ) → InRange i k a → f a ≡ g a) → someFrom f i k ≡ someFrom g i k
+unfolding someFrom
+some-same f g zero i h = refl
+some-same f g (suc k) i h = rw (h i (omega arith, omega arith), some-same f g k (suc i) (λ a (l, m). h a (omega arith, omega arith)))
+
+-- what is asked of the formulas is no more than the conditions of the range: where these say the same, it conflicts alike
+module _ (effect : ℕ → Effect) (says said : ℕ → Bool) (i k : ℕ) where
+  pub conflict-same : ((a : ℕ) → InRange i k a → says (effect a .condition) ≡ said (effect a .condition)) → conflicting says effect i k ≡ conflicting said effect i k
+  unfolding conflicting
+  conflict-same same = some-same _ _ k i (λ a l. some-same _ _ k i (λ b m. rw (same a l, same b m)))

@@ -5,14 +5,14 @@ use mathlib.Core.List.{List}
 use Prim.Native.Nat.{ℕ, _+_, _<_}
 use native.Mathlib.Omega.{arith}
 use lib.Dec.{T, ltb}
-use borrow.Author.Tests.{lt-ltb}
+use borrow.Author.Tests.{ltb-true, lt-ltb}
 use lib.ListN.{length, set, replicate}
 use Rattle.records.specs.declared.Program.{Program}
 use Rattle.records.proofs.Fills.{getD-same}
-use Rattle.records.proofs.Truth.{and-left, and-both, is-true}
+use Rattle.records.proofs.Truth.{and-left, and-right, and-both, is-true}
 use Rattle.records.proofs.Written.{written}
 use Rattle.kinds.specs.Programs.{acts}
-use Rattle.leaves.specs.Tallies.{Performed}
+use Rattle.leaves.specs.Performed.{Performed}
 
 module _ (p : ℕ → Program) where
   pub performed-none : Performed p 0 (replicate 64 false)
@@ -34,8 +34,8 @@ module _ (p : ℕ → Program) where
             let same = ap p z ∙ sym e in
             false≢true (sym f ∙ and-both _ _ (ap (λ (q : Program). acts (q .kind)) (sym same) ∙ is-true _ t) (ap (λ (q : Program). ltb (q .a) 64) (sym same) ∙ lt-ltb _ 64 h))
 
-    pub performed-more : length marks ≡ 64 → (acts (r .kind) && ltb (r .a) 64) ≡ true → r .a < 64 → Performed p (i + 1) (set marks (r .a) true)
-    performed-more long f l = record {
+    pub performed-more : length marks ≡ 64 → (acts (r .kind) && ltb (r .a) 64) ≡ true → Performed p (i + 1) (set marks (r .a) true)
+    performed-more long f = record {
       all = λ j m t h. written (λ (b : Bool). b ≡ true) false marks (r .a) true inside (p j .a)
           (λ n. P .all j (omega (arith, apart j n)) t h) (λ z. refl);
       only = λ a. written (λ (b : Bool). b ≡ true → Performs a) false marks (r .a) true inside a
@@ -47,7 +47,7 @@ module _ (p : ℕ → Program) where
         Performs a = (j : ℕ) × (j < i + 1) × T (acts (p j .kind)) × (p j .a ≡ a)
 
         inside : r .a < length marks
-        inside = omega (arith, long)
+        inside = omega (arith, long, ltb-true (r .a) 64 (and-right (acts (r .kind)) _ f))
 
         performs : T (acts (p i .kind))
         performs = subst T (sym (ap (λ (q : Program). acts (q .kind)) (sym e) ∙ and-left (acts (r .kind)) _ f)) tt

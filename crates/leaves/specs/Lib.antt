@@ -1,3 +1,4 @@
 pub mod Tallies
 pub mod Endable
 pub mod Distances
+pub mod Performed

@@ -11,7 +11,7 @@ use Rattle.records.specs.Table.{upTo}
 use Rattle.kinds.specs.Programs.{hasCondition, acts, tests, countBy}
 use Rattle.golog.specs.declared.State.{State}
 use Rattle.golog.specs.World.{World, holds, possible}
-use Rattle.state.specs.Conflicts.{mostActions, allowedBy}
+use Rattle.state.specs.Conflicts.{allowedBy}
 use Rattle.state.specs.Ranges.{InActions}
 use Rattle.remaining.specs.Extended.{mostRecords}
 use Rattle.remaining.specs.Leaves.{Leaf, leafAt}
@@ -36,14 +36,9 @@ finalsOf W s p m = map (λ (l : Leaf). l .final) (upTo (leafAt W s p) m) ++ repl
 unfoldable pub countsOf : World → State → (ℕ → Program) → (m : ℕ) → List ℕ
 countsOf W s p m = map cappedCount (upTo (leafAt W s p) m) ++ replicate (mostRecords - m) 0
 
--- how many transitions a record has, up to there, by tables of actions, of truths, of barred actions and of lower records
-abbrev pub cappedCountBy : Program → (actions : List ℕ) (truths barred : List Bool) (running : Bool) (finals : List Bool) (counts : List ℕ) → ℕ
-cappedCountBy r actions truths barred running finals counts = min cap (countBy r (allowedBy actions truths barred (r .a)) truths running finals counts)
-
--- the marks have the actions that the first n records of p perform, and no others
-pub record Performed (p : ℕ → Program) (n : ℕ) (marks : List Bool) : Type 0 where
-  pub all : (i : ℕ) → i < n → T (acts (p i .kind)) → p i .a < mostActions → getD marks (p i .a) false ≡ true
-  pub only : (a : ℕ) → getD marks a false ≡ true → (i : ℕ) × (i < n) × T (acts (p i .kind)) × (p i .a ≡ a)
+-- how many transitions a record has, up to there, by tables of actions, of truths, of actions in conflict and of lower records
+abbrev pub cappedCountBy : Program → (actions : List ℕ) (truths conflicted : List Bool) (running : Bool) (finals : List Bool) (counts : List ℕ) → ℕ
+cappedCountBy r actions truths conflicted running finals counts = min cap (countBy r (allowedBy actions truths conflicted (r .a)) truths running finals counts)
 
 -- the action of a record that performs one is start, stop or in the table
 abbrev pub ReadsActions : (actions : List ℕ) → (ℕ → Program) → Type 0
@@ -61,6 +56,6 @@ pub record Sees (W : World) (s : State) (p : ℕ → Program) (m : ℕ) (truths 
   pub each : (i : ℕ) → i < m → SeesRecord W s truths can (p i)
 
 -- the table has how many transitions each of the first m records has in every state that is seen so, and after them what was there
-abbrev pub Tallied : (p : ℕ → Program) (m : ℕ) (actions : List ℕ) (truths barred : List Bool) (running : Bool) (old counts : List ℕ) → Type 0
-Tallied p m actions truths barred running old counts =
-    (W : World) (s : State) → Sees W s p m truths (allowedBy actions truths barred) running → counts ≡ map cappedCount (upTo (leafAt W s p) m) ++ drop m old
+abbrev pub Tallied : (p : ℕ → Program) (m : ℕ) (actions : List ℕ) (truths conflicted : List Bool) (running : Bool) (old counts : List ℕ) → Type 0
+Tallied p m actions truths conflicted running old counts =
+    (W : World) (s : State) → Sees W s p m truths (allowedBy actions truths conflicted) running → counts ≡ map cappedCount (upTo (leafAt W s p) m) ++ drop m old

@@ -1,5 +1,6 @@
 // Tables over the program records, each by one pass: for a state, whether each record is final and how many transitions it has; and for
-// every state at once, whether it may be final, whether it surely is, which records depend on the state, and how far each is from its end.
+// every state at once, whether it may be final, whether it surely is, which records depend on the state, how far each is from its end, and
+// which actions they perform.
 ghost use mathlib.Core.Path.{_≡_};
 ghost use mathlib.Core.Bool.{true, _&&_};
 ghost use Prim.Native.Nat.{_≤_, _<_, min};
@@ -10,9 +11,10 @@ ghost use Rattle.kinds.specs.Programs.{acts};
 ghost use Rattle.remaining.specs.Extended.{mostRecords, empty, virtual, tableOf};
 ghost use Rattle.state.specs.Conflicts.{allowedBy};
 ghost use Rattle.state.specs.Ranges.{InActions};
-ghost use Rattle.leaves.specs.Tallies.{extendedSize, Performed, cappedCountBy, Tallied};
+ghost use Rattle.leaves.specs.Tallies.{extendedSize, cappedCountBy, Tallied};
 ghost use Rattle.leaves.specs.Endable.{finalBoundsOf, doubtBy, skipsOf, Tallyable};
 ghost use Rattle.leaves.specs.Distances.{distancesOf};
+ghost use Rattle.leaves.specs.Performed.{Performed};
 use records::Program;
 
 // How many program records can run: those of a sheet, and four more.
@@ -112,12 +114,12 @@ pub fn performed(programs: &[u8], n: usize) -> [bool; state::conflicts::ACTIONS]
 }
 
 // Whether a record performs an action, and one that is possible.
-fn can_act(r: Program, actions: &[u8], truths: &[bool], barred: &[bool]) -> bool
+fn can_act(r: Program, actions: &[u8], truths: &[bool], conflicted: &[bool]) -> bool
     requires { ⌜ (T (acts (r .kind)) → InActions (now actions) (r .a)) ⌝ }
-    ensures { λ b. ⌜ b ≡ (acts (r .kind) && allowedBy (now (actions .entry)) (now (truths .entry)) (now (barred .entry)) (r .a)) ⌝ }
+    ensures { λ b. ⌜ b ≡ (acts (r .kind) && allowedBy (now (actions .entry)) (now (truths .entry)) (now (conflicted .entry)) (r .a)) ⌝ }
 {
     if kinds::programs::acts(r.kind) {
-        return state::possible(actions, truths, barred, r.a);
+        return state::possible(actions, truths, conflicted, r.a);
     }
     false
 }
@@ -126,15 +128,15 @@ fn count_at(
     r: Program,
     actions: &[u8],
     truths: &[bool],
-    barred: &[bool],
+    conflicted: &[bool],
     running: bool,
     finals: &[bool],
     counts: &[u32],
 ) -> u32
     requires { ⌜ (T (acts (r .kind)) → InActions (now actions) (r .a)) ⌝ }
-    ensures { λ k. ⌜ k ≡ cappedCountBy r (now (actions .entry)) (now (truths .entry)) (now (barred .entry)) running (now (finals .entry)) (now (counts .entry)) ⌝ }
+    ensures { λ k. ⌜ k ≡ cappedCountBy r (now (actions .entry)) (now (truths .entry)) (now (conflicted .entry)) running (now (finals .entry)) (now (counts .entry)) ⌝ }
 {
-    let can = can_act(r, actions, truths, barred);
+    let can = can_act(r, actions, truths, conflicted);
     capped(
         kinds::programs::count_by(r, can, truths, running, finals, counts),
         CAP,
@@ -148,7 +150,7 @@ pub fn places_of(n: usize, interrupts: bool) -> usize
     if interrupts { n + 4 } else { n }
 }
 
-// Fills in how many transitions each record of the table that runs has in the state that `truths`, the actions, `barred` and `running` say,
+// Fills in how many transitions each record of the table that runs has in the state that `truths`, the actions, `conflicted` and `running` say,
 // where `finals` tells which are final, whatever stood there: one pass upwards, since a record names lower ones only.
 pub fn tallies(
     counts: &mut [u32],
@@ -157,21 +159,21 @@ pub fn tallies(
     interrupts: bool,
     actions: &[u8],
     truths: &[bool],
-    barred: &[bool],
+    conflicted: &[bool],
     running: bool,
     finals: &[bool],
 )
     requires { ⌜ ProgramTable (now programs) n × (length (now counts) ≡ mostRecords) ⌝ }
     requires { ⌜ Tallyable (tableOf (now programs) n interrupts) (extendedSize interrupts n) (now actions) (now truths) running (now finals) ⌝ }
     ensures counts { λ _. ⌜ Tallied (tableOf (now (programs .entry)) n interrupts) (extendedSize interrupts n) (now (actions .entry)) (now (truths .entry))
-        (now (barred .entry)) running (now (counts .entry)) (now (counts .exit)) ⌝ }
+        (now (conflicted .entry)) running (now (counts .entry)) (now (counts .exit)) ⌝ }
     ensures places { λ _. ⌜ length (now (counts .exit)) ≡ mostRecords ⌝ }
 {
     let m = places_of(n, interrupts);
     let mut i = 0;
     while i < m {
         let r = record_at(programs, n, interrupts, i);
-        let k = count_at(r, actions, truths, barred, running, finals, counts);
+        let k = count_at(r, actions, truths, conflicted, running, finals, counts);
         counts[i] = k;
         i += 1;
     }

@@ -24,28 +24,28 @@ use Rattle.golog.proofs.Possible.{conflicting-exactly}
 use Rattle.golog.proofs.Formulas.{value-said}
 use Rattle.state.specs.Truths.{saidBy, AreTruths}
 use Rattle.state.specs.Ranges.{ConditionsBelow}
-use Rattle.state.specs.Conflicts.{listedCount, Lists}
-use Rattle.state.specs.Exclusion.{isGuard, guardOf, guardValue, Excluded, Apart, Risky}
-use Rattle.state.proofs.Barring.{still-noted}
+use Rattle.state.specs.Conflicts.{differs, listedCount, Lists}
+use Rattle.state.specs.Exclusion.{asksInDomain, askedFluent, askedValue, Excluded, Exclusive, MayConflict}
+use Rattle.state.proofs.Noting.{still-noted}
 
 -- conditions on one fluent, or on none, that ask for different values
-excluded : (c d : Formula) → guardOf c ≡ guardOf d → ¬ (guardValue c ≡ guardValue d) → Excluded c d
-excluded c d = go (isGuard c) refl (isGuard d) refl
+excluded : (c d : Formula) → askedFluent c ≡ askedFluent d → ¬ (askedValue c ≡ askedValue d) → Excluded c d
+excluded c d = go (asksInDomain c) refl (asksInDomain d) refl
   where
-    asks : (r : Formula) → isGuard r ≡ true → T (asksValue (r .kind))
+    asks : (r : Formula) → asksInDomain r ≡ true → T (asksValue (r .kind))
     asks r e = subst T (sym (and-left (asksValue (r .kind)) (ltb (r .a) 16) e)) tt
 
-    go : (p : Bool) → isGuard c ≡ p → (q : Bool) → isGuard d ≡ q → guardOf c ≡ guardOf d → ¬ (guardValue c ≡ guardValue d) → Excluded c d
+    go : (p : Bool) → asksInDomain c ≡ p → (q : Bool) → asksInDomain d ≡ q → askedFluent c ≡ askedFluent d → ¬ (askedValue c ≡ askedValue d) → Excluded c d
     go true e true f = rw (e, f) (λ same differ. record { one = asks c e; other = asks d f; fluent = omega arith; values = differ })
     go true e false f = rw (e, f) (λ same differ. absurd (omega arith))
     go false e true f = rw (e, f) (λ same differ. absurd (omega arith))
     go false e false f = rw (e, f) (λ same differ. absurd (differ refl))
 
--- what a condition asks for is noted by no 0
-guard-some : (c : Formula) → guardOf c ≡ suc (guardOf c - 1)
-guard-some c = go (isGuard c) refl
+-- what a condition asks for is never noted as 0
+asked-some : (c : Formula) → askedFluent c ≡ suc (askedFluent c - 1)
+asked-some c = go (asksInDomain c) refl
   where
-    go : (p : Bool) → isGuard c ≡ p → guardOf c ≡ suc (guardOf c - 1)
+    go : (p : Bool) → asksInDomain c ≡ p → askedFluent c ≡ suc (askedFluent c - 1)
     go true e = rw e (omega arith)
     go false e = rw e refl
 
@@ -55,87 +55,87 @@ module _ (formulas effects : List ℕ) (first : ℕ) where
   condition a = formulaAt formulas (effectAt effects a .condition)
 
   abbrev place : ℕ → ℕ
-  place a = 16 * effectAt effects a .fluent + guardValue (condition a)
+  place a = 16 * effectAt effects a .fluent + askedValue (condition a)
 
   -- of each effect before number i it is noted what its condition asks for, and under that its value
-  pub record Guarded (guards noted : List ℕ) (i : ℕ) : Type 0 where
-    pub guards-long : length guards ≡ 32
+  pub record AskedBefore (fluents noted : List ℕ) (i : ℕ) : Type 0 where
+    pub fluents-long : length fluents ≡ 32
     pub noted-long : length noted ≡ 512
-    pub guard : (a : ℕ) → first ≤ a → a < i → getD guards (effectAt effects a .fluent) 0 ≡ guardOf (condition a)
+    pub fluent : (a : ℕ) → first ≤ a → a < i → getD fluents (effectAt effects a .fluent) 0 ≡ askedFluent (condition a)
     pub value : (a : ℕ) → first ≤ a → a < i → getD noted (place a) 0 ≡ suc (effectAt effects a .value)
 
-  pub guarded-none : Guarded (replicate 32 0) (replicate 512 0) first
-  guarded-none = record {
-    guards-long = length-replicate {A = ℕ} 32 0;
+  pub asked-none : AskedBefore (replicate 32 0) (replicate 512 0) first
+  asked-none = record {
+    fluents-long = length-replicate {A = ℕ} 32 0;
     noted-long = length-replicate {A = ℕ} 512 0;
-    guard = λ a l m. absurd (omega arith);
+    fluent = λ a l m. absurd (omega arith);
     value = λ a l m. absurd (omega arith);
   }
 
-  module _ {guards noted : List ℕ} {i : ℕ} (G : Guarded guards noted i) where
+  module _ {fluents noted : List ℕ} {i : ℕ} (G : AskedBefore fluents noted i) where
     -- effect i is e, under a condition that asks for `asked`, and `at` is its place
     module _
-        {e : Effect} (r : e ≡ effectAt effects i) {asked at given : ℕ} (ga : asked ≡ guardOf (formulaAt formulas (e .condition)))
-        (pa : at ≡ 16 * e .fluent + guardValue (formulaAt formulas (e .condition))) (gv : given ≡ e .value + 1) where
-      pub guarded-more :
+        {e : Effect} (r : e ≡ effectAt effects i) {asked at given : ℕ} (ga : asked ≡ askedFluent (formulaAt formulas (e .condition)))
+        (pa : at ≡ 16 * e .fluent + askedValue (formulaAt formulas (e .condition))) (gv : given ≡ e .value + 1) where
+      pub asked-more :
           e .fluent < 32 → at < 512
-          → (not (eqb (getD guards (e .fluent) 0) 0) && not (eqb (getD guards (e .fluent) 0) asked)) ≡ false
-          → (not (eqb (getD noted at 0) 0) && not (eqb (getD noted at 0) given)) ≡ false
-          → Guarded (set guards (e .fluent) asked) (set noted at given) (i + 1)
-      guarded-more l m one other = record {
-        guards-long = length-set guards (e .fluent) asked ∙ G .guards-long;
+          → differs (getD fluents (e .fluent) 0) asked ≡ false
+          → differs (getD noted at 0) given ≡ false
+          → AskedBefore (set fluents (e .fluent) asked) (set noted at given) (i + 1)
+      asked-more l m one other = record {
+        fluents-long = length-set fluents (e .fluent) asked ∙ G .fluents-long;
         noted-long = length-set noted at given ∙ G .noted-long;
-        guard = λ a f t. guard-of a f t (ℕ-discrete a i);
+        fluent = λ a f t. fluent-of a f t (ℕ-discrete a i);
         value = λ a f t. value-of a f t (ℕ-discrete a i);
       }
         where
           known : {X : Type 0} (f : Effect → X) → f e ≡ f (effectAt effects i)
           known f = ap f r
 
-          guard-of : (a : ℕ) → first ≤ a → a < i + 1 → Dec (a ≡ i) → getD (set guards (e .fluent) asked) (effectAt effects a .fluent) 0 ≡ guardOf (condition a)
-          guard-of a f t (yes z) =
-              subst (λ (b : ℕ). getD (set guards (e .fluent) asked) (effectAt effects b .fluent) 0 ≡ guardOf (condition b)) (sym z)
-              (ap (λ (x : ℕ). getD (set guards (e .fluent) asked) x 0) (sym (known (λ (d : Effect). d .fluent)))
-              ∙ getD-set-same guards (e .fluent) asked 0 (omega (arith, G .guards-long)) ∙ ga ∙ known (λ (d : Effect). guardOf (formulaAt formulas (d .condition))))
-          guard-of a f t (no z) =
-              still-noted guards (e .fluent) asked (omega (arith, G .guards-long)) one _ _ (G .guard a f (omega (arith, z)) ∙ guard-some (condition a))
-              ∙ sym (guard-some (condition a))
+          fluent-of : (a : ℕ) → first ≤ a → a < i + 1 → Dec (a ≡ i) → getD (set fluents (e .fluent) asked) (effectAt effects a .fluent) 0 ≡ askedFluent (condition a)
+          fluent-of a f t (yes z) =
+              subst (λ (b : ℕ). getD (set fluents (e .fluent) asked) (effectAt effects b .fluent) 0 ≡ askedFluent (condition b)) (sym z)
+              (ap (λ (x : ℕ). getD (set fluents (e .fluent) asked) x 0) (sym (known (λ (d : Effect). d .fluent)))
+              ∙ getD-set-same fluents (e .fluent) asked 0 (omega (arith, G .fluents-long)) ∙ ga ∙ known (λ (d : Effect). askedFluent (formulaAt formulas (d .condition))))
+          fluent-of a f t (no z) =
+              still-noted fluents (e .fluent) asked (omega (arith, G .fluents-long)) one _ _ (G .fluent a f (omega (arith, z)) ∙ asked-some (condition a))
+              ∙ sym (asked-some (condition a))
 
           value-of : (a : ℕ) → first ≤ a → a < i + 1 → Dec (a ≡ i) → getD (set noted at given) (place a) 0 ≡ suc (effectAt effects a .value)
           value-of a f t (yes z) =
               subst (λ (b : ℕ). getD (set noted at given) (place b) 0 ≡ suc (effectAt effects b .value)) (sym z)
-              (ap (λ (x : ℕ). getD (set noted at given) x 0) (sym (pa ∙ known (λ (d : Effect). 16 * d .fluent + guardValue (formulaAt formulas (d .condition)))))
+              (ap (λ (x : ℕ). getD (set noted at given) x 0) (sym (pa ∙ known (λ (d : Effect). 16 * d .fluent + askedValue (formulaAt formulas (d .condition)))))
               ∙ getD-set-same noted at given 0 (omega (arith, G .noted-long)) ∙ gv ∙ add-one (e .value) ∙ known (λ (d : Effect). suc (d .value)))
           value-of a f t (no z) = still-noted noted at given (omega (arith, G .noted-long)) other _ _ (G .value a f (omega (arith, z)))
 
     -- behind the last effect
-    pub guarded-all : (count : ℕ) → first + count ≤ i → Apart formulas effects first count
-    guarded-all count l a b (f, t) (g, u) same differ =
-        let one = G .guard a f (omega arith) in
-        let other = G .guard b g (omega arith) in
-        excluded (condition a) (condition b) (sym one ∙ ap (λ (x : ℕ). getD guards x 0) same ∙ other) (λ z. differ (equal z))
+    pub asked-all : (count : ℕ) → first + count ≤ i → Exclusive formulas effects first count
+    asked-all count l a b (f, t) (g, u) same differ =
+        let one = G .fluent a f (omega arith) in
+        let other = G .fluent b g (omega arith) in
+        excluded (condition a) (condition b) (sym one ∙ ap (λ (x : ℕ). getD fluents x 0) same ∙ other) (λ z. differ (equal z))
       where
-        equal : guardValue (condition a) ≡ guardValue (condition b) → effectAt effects a .value ≡ effectAt effects b .value
+        equal : askedValue (condition a) ≡ askedValue (condition b) → effectAt effects a .value ≡ effectAt effects b .value
         equal z =
             let p : place a ≡ place b = omega arith in
             let e = sym (G .value a f (omega arith)) ∙ ap (λ (x : ℕ). getD noted x 0) p ∙ G .value b g (omega arith) in
             omega arith
 
 -- where no effects contradict each other although every formula holds, none give one fluent different values
-pub held-apart :
+pub held-exclusive :
     (formulas effects : List ℕ) (i k : ℕ) → ConditionsBelow effects 512 i k → conflicting (saidBy (replicate 512 true)) (effectAt effects) i k ≡ false
-    → Apart formulas effects i k
-held-apart formulas effects i k low none a b l m same differ =
+    → Exclusive formulas effects i k
+held-exclusive formulas effects i k low none a b l m same differ =
     let hold : (c : ℕ) → InRange i k c → T (saidBy (replicate 512 true) (effectAt effects c .condition)) =
     λ c (f, t). subst T (sym (getD-replicate 512 (effectAt effects c .condition) true false (low c f t))) tt in
     let t = conflicting-exactly (saidBy (replicate 512 true)) (effectAt effects) i k .1 (a, l, (b, m, ((hold a l, hold b m), (same, differ)))) in
     absurd (subst T none t)
 
--- effects apart contradict each other in no state
-pub apart-none :
-    (formulas effects : List ℕ) (i k : ℕ) → Apart formulas effects i k → (W : World) (s : State) (n : ℕ) (truths : List Bool) → AreTruths W s n truths
+-- exclusive effects contradict each other in no state
+pub exclusive-none :
+    (formulas effects : List ℕ) (i k : ℕ) → Exclusive formulas effects i k → (W : World) (s : State) (n : ℕ) (truths : List Bool) → AreTruths W s n truths
     → ((q : ℕ) → W .formula q ≡ formulaAt formulas q) → ConditionsBelow effects n i k → conflicting (saidBy truths) (effectAt effects) i k ≡ false
-apart-none formulas effects i k A W s n truths H F low =
+exclusive-none formulas effects i k A W s n truths H F low =
     is-false _ (λ e. none (conflicting-exactly (saidBy truths) (effectAt effects) i k .0 (subst T (sym e) tt)))
   where
     -- a fluent has the value that a condition asks for, where it holds
@@ -151,52 +151,56 @@ apart-none formulas effects i k A W s n truths H F low =
         let other = asked _ (low b g u) j (E .other) in
         E .values (sym one ∙ ap (λ (x : ℕ). getD (s .values) x 0) (E .fluent) ∙ other)
 
--- of the marked actions below a those are risky that may contradict themselves
-module _ (formulas effects actions : List ℕ) (marks : List Bool) where
-  pub record Risking (risky : List Bool) (a : ℕ) : Type 0 where
-    pub long : length risky ≡ 64
-    pub within : (b : ℕ) → getD risky b false ≡ true → (b < a) × (getD marks b false ≡ true)
-    pub rest : (b : ℕ) → b < a → getD marks b false ≡ true → getD risky b false ≡ false → Apart formulas effects (actionAt actions b .first) (actionAt actions b .count)
+-- of a number that is not marked no marked one is the same, and every marked one has a place
+unmarked-other : (marks : List Bool) (a b : ℕ) → getD marks a false ≡ false → getD marks b false ≡ true → b ≡ a → ⊥
+unmarked-other marks a b e m z = false≢true (sym e ∙ ap (λ (i : ℕ). getD marks i false) (sym z) ∙ m)
 
-  pub risking-none : Risking (replicate 64 false) 0
-  risking-none = record {
+marked-below : (marks : List Bool) (b : ℕ) → getD marks b false ≡ true → b < length marks
+marked-below marks b m = go (decLt b (length marks))
+  where
+    go : Dec (b < length marks) → b < length marks
+    go (yes k) = k
+    go (no k) = absurd (false≢true (sym (List·getD-eq-default marks false (omega arith)) ∙ m))
+
+-- of the marked actions below a those that may contradict themselves, and no others are left out
+module _ (formulas effects actions : List ℕ) (marks : List Bool) where
+  pub record MayConflictBelow (may_conflict : List Bool) (a : ℕ) : Type 0 where
+    pub long : length may_conflict ≡ 64
+    pub within : (b : ℕ) → getD may_conflict b false ≡ true → (b < a) × (getD marks b false ≡ true)
+    pub rest : (b : ℕ) → b < a → getD marks b false ≡ true → getD may_conflict b false ≡ false → Exclusive formulas effects (actionAt actions b .first) (actionAt actions b .count)
+
+  pub below-none : MayConflictBelow (replicate 64 false) 0
+  below-none = record {
     long = length-replicate {A = Bool} 64 false;
     within = λ b e. absurd (false≢true (sym (getD-same false 64 b) ∙ e));
     rest = λ b l. absurd (omega arith);
   }
 
-  module _ {risky : List Bool} {a : ℕ} (R : Risking risky a) where
-    pub risking-passed : getD marks a false ≡ false → Risking risky (a + 1)
-    risking-passed e = record {
+  module _ {may_conflict : List Bool} {a : ℕ} (R : MayConflictBelow may_conflict a) where
+    pub below-passed : getD marks a false ≡ false → MayConflictBelow may_conflict (a + 1)
+    below-passed e = record {
       long = R .long;
       within = λ b t. let (l, m) = R .within b t in (omega arith, m);
-      rest = λ b l m. R .rest b (omega (arith, apart b m)) m;
+      rest = λ b l m. R .rest b (omega (arith, unmarked-other marks a b e m)) m;
     }
-      where
-        apart : (b : ℕ) → getD marks b false ≡ true → b ≡ a → ⊥
-        apart b m z = false≢true (sym e ∙ ap (λ (i : ℕ). getD marks i false) (sym z) ∙ m)
 
-    pub risking-more :
-        {t : Bool} → getD marks a false ≡ true → a < 64 → (t ≡ false → Apart formulas effects (actionAt actions a .first) (actionAt actions a .count))
-        → Risking (set risky a t) (a + 1)
-    risking-more {t} m l A = record {
-      long = length-set risky a t ∙ R .long;
-      within = λ b. written (λ (x : Bool). x ≡ true → (b < a + 1) × (getD marks b false ≡ true)) false risky a t inside b
+    pub below-more :
+        {t : Bool} → getD marks a false ≡ true → a < 64 → (t ≡ false → Exclusive formulas effects (actionAt actions a .first) (actionAt actions a .count))
+        → MayConflictBelow (set may_conflict a t) (a + 1)
+    below-more {t} m l A = record {
+      long = length-set may_conflict a t ∙ R .long;
+      within = λ b. written (λ (x : Bool). x ≡ true → (b < a + 1) × (getD marks b false ≡ true)) false may_conflict a t inside b
           (λ n x. let (k, h) = R .within b x in (omega arith, h)) (λ z x. (omega arith, ap (λ (i : ℕ). getD marks i false) z ∙ m));
-      rest = λ b k h. written (λ (x : Bool). x ≡ false → Apart formulas effects (actionAt actions b .first) (actionAt actions b .count)) false risky a t inside b
+      rest = λ b k h. written (λ (x : Bool). x ≡ false → Exclusive formulas effects (actionAt actions b .first) (actionAt actions b .count)) false may_conflict a t inside b
           (λ n. R .rest b (omega (arith, n)) h)
-          (λ z x. subst (λ (i : ℕ). Apart formulas effects (actionAt actions i .first) (actionAt actions i .count)) (sym z) (A x));
+          (λ z x. subst (λ (i : ℕ). Exclusive formulas effects (actionAt actions i .first) (actionAt actions i .count)) (sym z) (A x));
     }
       where
-        inside : a < length risky
+        inside : a < length may_conflict
         inside = omega (arith, R .long)
 
-    pub risking-done : length marks ≡ 64 → 64 ≤ a → Risky formulas effects actions marks risky
-    risking-done long l = record { within = λ b t. R .within b t .1; rest = λ b m. R .rest b (inside b m (decLt b a)) m }
-      where
-        inside : (b : ℕ) → getD marks b false ≡ true → Dec (b < a) → b < a
-        inside b m (yes k) = k
-        inside b m (no k) = absurd (false≢true (sym (List·getD-eq-default marks false (omega arith)) ∙ m))
+    pub below-done : length marks ≡ 64 → 64 ≤ a → MayConflict formulas effects actions marks may_conflict
+    below-done long l = record { within = λ b t. R .within b t .1; rest = λ b m. R .rest b (omega (arith, long, marked-below marks b m)) m }
 
 module _ (marks : List Bool) where
   -- the first n places of the list are the marked numbers below a
@@ -220,11 +224,8 @@ module _ (marks : List Bool) where
       long = L .long;
       few = omega (arith, L .few);
       marked = λ j l. (omega (arith, L .marked j l .0), L .marked j l .1);
-      all = λ b l m. L .all b (omega (arith, apart b m)) m;
+      all = λ b l m. L .all b (omega (arith, unmarked-other marks a b e m)) m;
     }
-      where
-        apart : (b : ℕ) → getD marks b false ≡ true → b ≡ a → ⊥
-        apart b m z = false≢true (sym e ∙ ap (λ (i : ℕ). getD marks i false) (sym z) ∙ m)
 
     pub listing-more : getD marks a false ≡ true → a < 64 → Listing (set list n a) (n + 1) (a + 1)
     listing-more e small = record {
@@ -247,7 +248,7 @@ module _ (marks : List Bool) where
     listing-done l h long = record {
       marked = λ b (j, k, z). let m = L .marked j (few j k) in subst (λ (i : ℕ). getD marks i false ≡ true) (sym (kept j k) ∙ z) (m .1);
       all = λ b m.
-          let (j, k, z) = L .all b (inside b m) m in
+          let (j, k, z) = L .all b (omega (arith, long, marked-below marks b m)) m in
           (j, subst (λ (v : ℕ). j < v) (sym count) k, getD-set-other list 64 j n 0 (λ y. omega (arith, L .few)) ∙ z);
     }
       where
@@ -259,10 +260,3 @@ module _ (marks : List Bool) where
 
         kept : (j : ℕ) → j < listedCount (set list 64 n) → getD (set list 64 n) j 0 ≡ getD list j 0
         kept j k = getD-set-other list 64 j n 0 (λ y. omega (arith, L .few, few j k))
-
-        inside : (b : ℕ) → getD marks b false ≡ true → b < a
-        inside b m = go (decLt b a)
-          where
-            go : Dec (b < a) → b < a
-            go (yes k) = k
-            go (no k) = absurd (false≢true (sym (List·getD-eq-default marks false (omega arith)) ∙ m))

@@ -1,4 +1,4 @@
 pub mod Truths
-pub mod Barring
+pub mod Noting
 pub mod Excluding
 pub mod Performed

@@ -17,9 +17,9 @@ use Rattle.records.specs.Records.{effectAt, actionAt}
 use Rattle.records.proofs.Laid.{Laid}
 use Rattle.golog.specs.declared.State.{State}
 use Rattle.golog.specs.World.{start, possibleBy, changes, given, each, changed, performBy}
+use Rattle.golog.proofs.Possible.{conflict-same}
 use Rattle.golog.proofs.Moves.{given-none, given-here, given-later, each-at}
 use Rattle.state.specs.Ranges.{Names, ConditionsBelow}
-use Rattle.state.proofs.Barring.{conflict-same}
 
 module _ (says : ℕ → Bool) (effects : List ℕ) (x old : ℕ) where
   -- the effects before number i change nothing
@@ -99,7 +99,7 @@ module _ (says : ℕ → Bool) (effects : List ℕ) (n : ℕ) where
           ap (λ (y : ℕ). getD new y 0) (omega arith) ∙ L .laid j q ∙ ap (λ (y : ℕ). from y (getD values j 0)) (omega arith)
       pick j (no q) b = L .above j (omega arith) ∙ sym (given-stays (0 + j) (getD values j 0) (r .count) (r .first) h (omega arith))
 
--- where formulas say the same of the conditions of a range, and of its precondition, an action is as possible, and performing it leads to
+-- where formulas say the same of an action's precondition and of the conditions of its range, it is as possible, and performing it leads to
 -- the same state
 module _ (effects actions : List ℕ) (says said : ℕ → Bool) (n : ℕ) (same : (q : ℕ) → q < n → says q ≡ said q) where
   given-same : (x old k i : ℕ) → ConditionsBelow effects n i k → given says (effectAt effects) x old i k ≡ given said (effectAt effects) x old i k

@@ -11,15 +11,16 @@ use Rattle.kinds.specs.Formulas.{asksValue}
 use Rattle.golog.specs.Possible.{InRange}
 use Rattle.state.specs.Ranges.{Names, ConditionsBelow}
 
--- a condition that a fluent has a value: 2 more than the fluent, and the value; of any other condition 1 and 0
-abbrev pub isGuard : Formula → Bool
-isGuard r = asksValue (r .kind) && ltb (r .a) 16
+-- a formula asks that a fluent has a value, one that a fluent may have
+abbrev pub asksInDomain : Formula → Bool
+asksInDomain r = asksValue (r .kind) && ltb (r .a) 16
 
-abbrev pub guardOf : Formula → ℕ
-guardOf r = cond (isGuard r) (r .x + 2) 1
+-- that fluent, by 2 more than its number, and the value; of any other formula 1 and 0
+abbrev pub askedFluent : Formula → ℕ
+askedFluent r = cond (asksInDomain r) (r .x + 2) 1
 
-abbrev pub guardValue : Formula → ℕ
-guardValue r = cond (isGuard r) (r .a) 0
+abbrev pub askedValue : Formula → ℕ
+askedValue r = cond (asksInDomain r) (r .a) 0
 
 -- two conditions exclude each other: that one fluent has two values
 pub record Excluded (c d : Formula) : Type 0 where
@@ -29,8 +30,8 @@ pub record Excluded (c d : Formula) : Type 0 where
   pub values : ¬ (c .a ≡ d .a)
 
 -- of the k effects from number i on, those that give one fluent different values stand under such conditions
-abbrev pub Apart : (formulas effects : List ℕ) (i k : ℕ) → Type 0
-Apart formulas effects i k =
+abbrev pub Exclusive : (formulas effects : List ℕ) (i k : ℕ) → Type 0
+Exclusive formulas effects i k =
     (a b : ℕ) → InRange i k a → InRange i k b → effectAt effects a .fluent ≡ effectAt effects b .fluent → ¬ (effectAt effects a .value ≡ effectAt effects b .value)
     → Excluded (formulaAt formulas (effectAt effects a .condition)) (formulaAt formulas (effectAt effects b .condition))
 
@@ -47,6 +48,6 @@ pub record ReadableAll (formulas effects actions : List ℕ) (marks : List Bool)
   pub each : (a : ℕ) → getD marks a false ≡ true → Readable formulas effects (actionAt actions a .first) (actionAt actions a .count)
 
 -- some of the marked actions, and those left out contradict themselves in no state
-pub record Risky (formulas effects actions : List ℕ) (marks risky : List Bool) : Type 0 where
-  pub within : (a : ℕ) → getD risky a false ≡ true → getD marks a false ≡ true
-  pub rest : (a : ℕ) → getD marks a false ≡ true → getD risky a false ≡ false → Apart formulas effects (actionAt actions a .first) (actionAt actions a .count)
+pub record MayConflict (formulas effects actions : List ℕ) (marks may_conflict : List Bool) : Type 0 where
+  pub within : (a : ℕ) → getD may_conflict a false ≡ true → getD marks a false ≡ true
+  pub rest : (a : ℕ) → getD marks a false ≡ true → getD may_conflict a false ≡ false → Exclusive formulas effects (actionAt actions a .first) (actionAt actions a .count)

@@ -1,22 +1,23 @@
-// Effects that contradict each other in a state (document 02, F-2): which of the actions judged in it they bar.
+// Effects that contradict each other in a state (document 02, F-2): which of the actions listed have such effects.
 ghost use mathlib.Core.Path.{_≡_};
-ghost use mathlib.Core.Bool.{not, _&&_};
 ghost use Prim.Native.Nat.{_+_, _*_, _≤_};
-ghost use lib.Dec.{eqb};
 ghost use lib.ListN.{length};
 ghost use Rattle.records.specs.Records.{effectAt};
 ghost use Rattle.golog.specs.World.{conflicting};
 ghost use Rattle.state.specs.Truths.{saidBy};
 ghost use Rattle.state.specs.Ranges.{Names};
-ghost use Rattle.state.specs.Conflicts.{bars, Barred, Judgeable};
+ghost use Rattle.state.specs.Conflicts.{differs, inConflict, Conflicted, ReadableListed};
 use records::Action;
 
 // How many actions a sheet may have.
 pub const ACTIONS: usize = 64;
 
+// How many fluents.
+pub const FLUENTS: usize = 32;
+
 // Whether a value was noted and it is another: `noted` is 0 or, as `given`, one more than a value.
 pub fn differs(noted: u16, given: u16) -> bool
-    ensures { λ r. ⌜ r ≡ (not (eqb noted 0) && not (eqb noted given)) ⌝ }
+    ensures { λ r. ⌜ r ≡ differs noted given ⌝ }
 {
     (noted != 0) & (noted != given)
 }
@@ -27,7 +28,7 @@ pub fn conflict(effects: &[u8], first: usize, count: usize, truths: &[bool]) -> 
     ensures { λ r. ⌜ r ≡ conflicting (saidBy (now (truths .entry))) (effectAt (now (effects .entry))) first count ⌝ }
 {
     let end = first + count;
-    let mut noted = [0u16; 32];
+    let mut noted = [0u16; FLUENTS];
     let mut i = first;
     while i < end {
         let e = records::effect_at(effects, i);
@@ -44,10 +45,10 @@ pub fn conflict(effects: &[u8], first: usize, count: usize, truths: &[bool]) -> 
     false
 }
 
-// Whether an action cannot go although its precondition holds.
-fn is_barred(effects: &[u8], r: Action, truths: &[bool]) -> bool
+// Whether effects of an action contradict each other although its precondition holds.
+fn is_in_conflict(effects: &[u8], r: Action, truths: &[bool]) -> bool
     requires { ⌜ (4 * (r .first + r .count) ≤ length (now effects)) × Names (now effects) 32 (r .first) (r .count) ⌝ }
-    ensures { λ b. ⌜ b ≡ bars (now (effects .entry)) (now (truths .entry)) r ⌝ }
+    ensures { λ b. ⌜ b ≡ inConflict (now (effects .entry)) (now (truths .entry)) r ⌝ }
 {
     if records::flag_in(truths, r.precondition, false) {
         return conflict(effects, r.first, r.count, truths);
@@ -55,17 +56,17 @@ fn is_barred(effects: &[u8], r: Action, truths: &[bool]) -> bool
     false
 }
 
-// Which of the listed actions cannot go although their precondition holds, where `truths` has what the formulas say.
-pub fn barred(effects: &[u8], actions: &[u8], list: &[u32], truths: &[bool]) -> [bool; ACTIONS]
-    requires { ⌜ Judgeable (now effects) (now actions) (now list) ⌝ }
-    ensures { λ r. ⌜ Barred (now (effects .entry)) (now (actions .entry)) (now (list .entry)) (now (truths .entry)) r ⌝ }
+// Of which of the listed actions effects contradict each other although the precondition holds, where `truths` has what the formulas say.
+pub fn in_conflict(effects: &[u8], actions: &[u8], list: &[u32], truths: &[bool]) -> [bool; ACTIONS]
+    requires { ⌜ ReadableListed (now effects) (now actions) (now list) ⌝ }
+    ensures { λ r. ⌜ Conflicted (now (effects .entry)) (now (actions .entry)) (now (list .entry)) (now (truths .entry)) r ⌝ }
 {
     let n = records::wide32(records::number_in(list, ACTIONS, 0));
     let mut marks = [false; ACTIONS];
     let mut j = 0;
     while j < n {
         let a = records::wide32(records::number_in(list, j, 0));
-        marks[a] = is_barred(effects, records::action_at(actions, a), truths);
+        marks[a] = is_in_conflict(effects, records::action_at(actions, a), truths);
         j += 1;
     }
     marks

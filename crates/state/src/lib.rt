@@ -1,4 +1,4 @@
-// One state: what all formulas say of it, and the state after an action.
+// One state: what all formulas say of it, whether an action is possible, and the state after it.
 ghost use mathlib.Core.Path.{_≡_};
 ghost use Prim.Native.Nat.{_+_, _*_, _≤_};
 ghost use lib.ListN.{length};
@@ -41,16 +41,16 @@ pub fn fill_truths(formulas: &[u8], n: usize, s: State, truths: &mut [bool])
     }
 }
 
-// Whether action a is possible, where `truths` has what the formulas say and `barred` which actions they bar.
-pub fn possible(actions: &[u8], truths: &[bool], barred: &[bool], a: usize) -> bool
+// Whether action a is possible, where `truths` has what the formulas say and `conflicted` which actions are in conflict.
+pub fn possible(actions: &[u8], truths: &[bool], conflicted: &[bool], a: usize) -> bool
     requires { ⌜ InActions (now actions) a ⌝ }
-    ensures { λ r. ⌜ r ≡ allowedBy (now (actions .entry)) (now (truths .entry)) (now (barred .entry)) a ⌝ }
+    ensures { λ r. ⌜ r ≡ allowedBy (now (actions .entry)) (now (truths .entry)) (now (conflicted .entry)) a ⌝ }
 {
     if golog::START <= a {
         return true;
     }
     let r = records::action_at(actions, a);
-    records::flag_in(truths, r.precondition, false) & !records::flag_in(barred, a, false)
+    records::flag_in(truths, r.precondition, false) & !records::flag_in(conflicted, a, false)
 }
 
 // Whether an effect names fluent x and its condition holds.

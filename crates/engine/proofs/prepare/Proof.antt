@@ -1,4 +1,4 @@
--- The tables are those of the sheet's records, by the laws of Marking, Skipping, Measuring and Barring, and stand in the parts kept for them.
+-- The tables are those of the sheet's records, by the laws of Marking, Skipping, Measuring and Conflicting, and stand in the parts kept for them.
 -- Assumes nothing.
 use denote.Ref.{now}
 use native.Mathlib.Omega.{arith}
@@ -8,7 +8,7 @@ use lib.Seq.{length-front, length-take-le, take-at}
 use Prim.Native.Nat.{ℕ, _≤_}
 use mathlib.Core.List.{List, _++_}
 use borrow.Rule.Slice.PartMut.{putMid, same-len-mid}
-use Rattle.engine.specs.Tables.{countsFrom, Judges}
+use Rattle.engine.specs.Tables.{countsFrom, ListsMayConflict}
 use Rattle.sheet.proofs.Parts.{in-order, programs-long}
 use Rattle.sheet.proofs.Found.{in-sheet}
 use Rattle.engine.proofs.Tables.{skips-kept, distances-kept}
@@ -40,11 +40,11 @@ start-from-skips c = start-from-bounds (c .before .before)
 abbrev start-from-distances : tie.After-distances → tie.Start
 start-from-distances c = start-from-skips (c .before)
 
-abbrev start-from-judged-of : tie.After-judged-of → tie.Start
-start-from-judged-of c = start-from-distances (c .before)
+abbrev start-from-may-conflict-of : tie.After-may-conflict-of → tie.Start
+start-from-may-conflict-of c = start-from-distances (c .before)
 
 abbrev start-from-copy-flags : tie.After-copy-flags → tie.Start
-start-from-copy-flags c = start-from-judged-of (c .before .before .before)
+start-from-copy-flags c = start-from-may-conflict-of (c .before .before .before)
 
 abbrev copy-flags-from-copy-numbers : tie.After-copy-numbers → tie.After-copy-flags
 copy-flags-from-copy-numbers c = c .before .before .before .before .before
@@ -67,15 +67,15 @@ skips-requires c κs = programs-long _ _ (in-sheet (start-from-bounds (c .before
 distances-requires : tie.Need-distances-requires
 distances-requires c κs = programs-long _ _ (in-sheet (start-from-skips c .pre .0))
 
-judged-of-requires : tie.Need-judged-of-requires
-judged-of-requires c κs = start-from-distances c .pre .0
+may-conflict-of-requires : tie.Need-may-conflict-of-requires
+may-conflict-of-requires c κs = start-from-distances c .pre .0
 
 slice-relend-prefix-copy-flags : tie.Need-slice-relend-prefix-copy-flags
 slice-relend-prefix-copy-flags c = search needs
 
 slice-aggregate-copy-flags : tie.Need-slice-aggregate-copy-flags
 slice-aggregate-copy-flags c =
-    let at-start = start-from-judged-of (c .before) in
+    let at-start = start-from-may-conflict-of (c .before) in
     sym (length-take-le 260 (now (at-start .args .flags)) (omega (arith, at-start .pre .1)))
 
 slice-aggregate-copy-flags-2 : tie.Need-slice-aggregate-copy-flags-2
@@ -83,7 +83,7 @@ slice-aggregate-copy-flags-2 c = search needs
 
 copy-flags-requires : tie.Need-copy-flags-requires
 copy-flags-requires c κs =
-    let at-start = start-from-judged-of (c .before .before) in
+    let at-start = start-from-may-conflict-of (c .before .before) in
     let n = length-take-le 260 (now (at-start .args .flags)) (omega (arith, at-start .pre .1)) in
     search needs
 
@@ -146,8 +146,8 @@ returns c =
     let at-copy-numbers2 = copy-numbers2-from-copy-numbers3 at-copy-numbers3 in
     let at-copy-numbers = copy-numbers-from-copy-numbers2 at-copy-numbers2 in
     let at-copy-flags = copy-flags-from-copy-numbers at-copy-numbers in
-    let at-judged-of = at-copy-flags .before .before .before in
-    let at-distances = at-judged-of .before in
+    let at-may-conflict-of = at-copy-flags .before .before .before in
+    let at-distances = at-may-conflict-of .before in
     let at-skips = at-distances .before in
     let at-bounds = at-skips .before .before in
     let at-start = start-from-bounds at-bounds in
@@ -182,7 +182,7 @@ returns c =
     (skips-kept (omega arith) K₂ ∙ skips-kept (omega arith) K ∙ take-at skips (drop 261 numbers) 261 sl ∙ at-copy-numbers .copy-numbers .ensures ∙ at-skips .skips .ensures)
     (distances-kept (omega arith) K₂ nl₃ (omega arith) ∙ window-put 261 521 260 numbers₁ distances (omega arith) long dl ∙ at-copy-numbers2 .copy-numbers2 .ensures ∙
     at-distances .distances .ensures)
-    (subst (Judges (now (at-start .args .s))) (sym (window-put 521 586 65 numbers₂ judged (omega arith) long₂ jl ∙ at-copy-numbers3 .copy-numbers3 .ensures)) (at-judged-of .judged-of .ensures))
+    (subst (ListsMayConflict (now (at-start .args .s))) (sym (window-put 521 586 65 numbers₂ judged (omega arith) long₂ jl ∙ at-copy-numbers3 .copy-numbers3 .ensures)) (at-may-conflict-of .may-conflict-of .ensures))
 
 pub prepare-spec : {M : Type 1} → statement M
 prepare-spec =
@@ -195,7 +195,7 @@ prepare-spec =
     slice-aggregate-skips
     skips-requires
     distances-requires
-    judged-of-requires
+    may-conflict-of-requires
     slice-relend-prefix-copy-flags
     slice-aggregate-copy-flags
     slice-aggregate-copy-flags-2

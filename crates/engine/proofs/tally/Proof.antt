@@ -42,20 +42,20 @@ start-from-flags-from c = c .before .before .before .before .before
 abbrev start-from-counts-from : tie.After-counts-from → tie.Start
 start-from-counts-from c = start-from-flags-from (c .before)
 
-abbrev start-from-barred-at : tie.After-barred-at → tie.Start
-start-from-barred-at c = start-from-counts-from (c .before .before)
+abbrev start-from-conflicted-at : tie.After-conflicted-at → tie.Start
+start-from-conflicted-at c = start-from-counts-from (c .before .before)
 
-abbrev barred-at-from-tallies-requires : tie.After-tallies-arg5 → tie.After-barred-at
-barred-at-from-tallies-requires c = c .before .before .before .before .before .before
+abbrev conflicted-at-from-tallies-requires : tie.After-tallies-arg5 → tie.After-conflicted-at
+conflicted-at-from-tallies-requires c = c .before .before .before .before .before .before
 
 abbrev counts-from-from-tallies-requires : tie.After-tallies-arg5 → tie.After-counts-from
-counts-from-from-tallies-requires c = barred-at-from-tallies-requires c .before .before
+counts-from-from-tallies-requires c = conflicted-at-from-tallies-requires c .before .before
 
-abbrev barred-at-from-tallies : tie.After-tallies → tie.After-barred-at
-barred-at-from-tallies c = barred-at-from-tallies-requires (c .before)
+abbrev conflicted-at-from-tallies : tie.After-tallies → tie.After-conflicted-at
+conflicted-at-from-tallies c = conflicted-at-from-tallies-requires (c .before)
 
-barred-at-requires : tie.Need-barred-at-requires
-barred-at-requires c κs =
+conflicted-at-requires : tie.Need-conflicted-at-requires
+conflicted-at-requires c κs =
     let at-start = start-from-counts-from (c .before) in
     (at-start .pre .0, at-start .pre .1 .prepared)
 
@@ -72,22 +72,22 @@ part-tallies-end : tie.Need-part-tallies-end
 part-tallies-end c = search needs
 
 sub-tallies-2 : tie.Need-sub-tallies-2
-sub-tallies-2 c = in-order (in-sheet (start-from-barred-at (c .before) .pre .0)) .programs
+sub-tallies-2 c = in-order (in-sheet (start-from-conflicted-at (c .before) .pre .0)) .programs
 
 part-tallies-start-2 : tie.Need-part-tallies-start-2
-part-tallies-start-2 c = let o = in-order (in-sheet (start-from-barred-at (c .before) .pre .0)) in omega arith
+part-tallies-start-2 c = let o = in-order (in-sheet (start-from-conflicted-at (c .before) .pre .0)) in omega arith
 
 part-tallies-end-2 : tie.Need-part-tallies-end-2
-part-tallies-end-2 c = in-order (in-sheet (start-from-barred-at (c .before) .pre .0)) .end
+part-tallies-end-2 c = in-order (in-sheet (start-from-conflicted-at (c .before) .pre .0)) .end
 
 sub-tallies-3 : tie.Need-sub-tallies-3
-sub-tallies-3 c = in-order (in-sheet (start-from-barred-at (c .before .before) .pre .0)) .actions
+sub-tallies-3 c = in-order (in-sheet (start-from-conflicted-at (c .before .before) .pre .0)) .actions
 
 part-tallies-start-3 : tie.Need-part-tallies-start-3
-part-tallies-start-3 c = let o = in-order (in-sheet (start-from-barred-at (c .before .before) .pre .0)) in omega arith
+part-tallies-start-3 c = let o = in-order (in-sheet (start-from-conflicted-at (c .before .before) .pre .0)) in omega arith
 
 part-tallies-end-3 : tie.Need-part-tallies-end-3
-part-tallies-end-3 c = let o = in-order (in-sheet (start-from-barred-at (c .before .before) .pre .0)) in omega arith
+part-tallies-end-3 c = let o = in-order (in-sheet (start-from-conflicted-at (c .before .before) .pre .0)) in omega arith
 
 sub-tallies-4 : tie.Need-sub-tallies-4
 sub-tallies-4 c = search needs
@@ -140,8 +140,8 @@ same-length c = search needs
 returns : tie.Need-returns
 returns c =
     let at-tallies = c .before .before in
-    let at-barred-at = barred-at-from-tallies at-tallies in
-    let at-counts-from = at-barred-at .before .before in
+    let at-conflicted-at = conflicted-at-from-tallies at-tallies in
+    let at-counts-from = at-conflicted-at .before .before in
     let at-flags-from = at-counts-from .before in
     let at-start = start-from-flags-from at-flags-from in
     let O = at-start .pre .0 in
@@ -164,10 +164,10 @@ returns c =
     let new = putMid y (y + 260 - y) numbers counts in
     let K : Only (countsFrom d) 260 numbers new = subst (λ (o : ℕ). Only o 260 numbers new) ey (only-put y (y + 260) 260 numbers counts (omega arith) fits long) in
     let e : countsAt d new ≡ counts = subst (λ (o : ℕ). window o 260 new ≡ counts) ey (window-put y (y + 260) 260 numbers counts (omega arith) fits long) in
-    let barred = at-barred-at .barred-at .result in
-    let told = subst₂ (λ (t : List Bool) (k : List ℕ). Tallied (runs s l b) (many l b) (actionsIn s l) t barred (st .running) k counts) T N (at-tallies .tallies .ensures .0) in (
-      surveyed O J new barred (same-len-mid y (y + 260 - y) numbers counts (at-tallies .tallies .kept .0)) K (at-barred-at .barred-at .ensures)
-          (subst (λ (k : List ℕ). Tallied (runs s l b) (many l b) (actionsIn s l) (truthsAt d flags) barred (st .running) (countsAt d numbers) k) (sym e) told),
+    let conflicted = at-conflicted-at .conflicted-at .result in
+    let told = subst₂ (λ (t : List Bool) (k : List ℕ). Tallied (runs s l b) (many l b) (actionsIn s l) t conflicted (st .running) k counts) T N (at-tallies .tallies .ensures .0) in (
+      surveyed O J new conflicted (same-len-mid y (y + 260 - y) numbers counts (at-tallies .tallies .kept .0)) K (at-conflicted-at .conflicted-at .ensures)
+          (subst (λ (k : List ℕ). Tallied (runs s l b) (many l b) (actionsIn s l) (truthsAt d flags) conflicted (st .running) (countsAt d numbers) k) (sym e) told),
       K,
     )
 
@@ -180,7 +180,7 @@ tally-spec =
     add-to
     counts-from-requires
     add-last
-    barred-at-requires
+    conflicted-at-requires
     mul-tallies
     sub-tallies
     part-tallies-start

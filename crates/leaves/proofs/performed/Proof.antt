@@ -7,7 +7,7 @@ use borrow.Author.Tests.{ltb-true}
 use lib.ListN.{length, length-set}
 use Rattle.records.specs.Records.{programAt}
 use Rattle.records.proofs.Truth.{and-right}
-use Rattle.leaves.specs.Tallies.{Performed}
+use Rattle.leaves.specs.Performed.{Performed}
 use Rattle.leaves.proofs.Performing.{performed-none, performed-passed, performed-more}
 use borrow.Author.Needs.{needs}
 use Rattle.leaves.proofs.performed.Statement.{statement}
@@ -47,7 +47,7 @@ loop-again c =
       omega arith,
       ⊎-elim (λ w. rw (w .1) (simp length-set (v .1))) (λ w. rw (w .1) (v .1)) (c .if1 .came),
       ⊎-elim
-          (λ w. rw (w .1) (performed-more _ (v .2) e (v .1) (rw (← f) (w .0 .taken)) (ltb-true _ 64 (and-right (at-acts .acts .result) _ (w .0 .taken)))))
+          (λ w. rw (w .1) (performed-more _ (v .2) e (v .1) (rw (← f) (w .0 .taken))))
           (λ w. rw (w .1) (performed-passed _ (v .2) e (rw (← f) (w .0 .left))))
           (c .if1 .came),
     )

@@ -19,13 +19,13 @@ use Rattle.leaves.proofs.tallies.Statement.{statement}
 use Rattle.leaves.proofs.tallies.Tie as tie
 
 abbrev Inv-loop : tie.InvT-loop
-Inv-loop counts₀ programs n interrupts actions truths barred running finals m i₀ counts i =
+Inv-loop counts₀ programs n interrupts actions truths conflicted running finals m i₀ counts i =
     (i ≤ m) × (length counts ≡ 260)
-    × ((W : World) (s : State) → Sees W s (extended interrupts (programAt programs) n) (extendedSize interrupts n) truths (allowedBy actions truths barred) running →
+    × ((W : World) (s : State) → Sees W s (extended interrupts (programAt programs) n) (extendedSize interrupts n) truths (allowedBy actions truths conflicted) running →
     Refilled (leafAt W s (extended interrupts (programAt programs) n)) cappedCount counts₀ counts i)
 
 abbrev μ-loop : tie.MeasureT-loop
-μ-loop counts₀ programs n interrupts actions truths barred running finals m i₀ counts i = m - i
+μ-loop counts₀ programs n interrupts actions truths conflicted running finals m i₀ counts i = m - i
 
 places-of-requires : tie.Need-places-of-requires Inv-loop μ-loop
 places-of-requires c κs = search needs

@@ -1,4 +1,4 @@
--- Start and stop stand above every number of an action; any other action is read in the table, and in that of the barred ones. Assumes
+-- Start and stop stand above every number of an action; any other action is read in the table, and in that of the conflicted ones. Assumes
 -- nothing.
 use native.Mathlib.Omega.{arith}
 use borrow.Author.Tests.{lt-ltb, le-ltb}

@@ -5,7 +5,7 @@ use mathlib.Core.Path.{_≡_, refl, sym, _∙_}
 use mathlib.Core.Logic.{⊎-elim}
 use native.Mathlib.Omega.{arith}
 use Rattle.state.specs.Truths.{saidBy}
-use Rattle.state.proofs.Barring.{Noted, noted-none, noted-passed, noted-more, noted-other, noted-all}
+use Rattle.state.proofs.Noting.{Noted, noted-none, noted-passed, noted-more, noted-other, noted-all}
 use borrow.Author.Needs.{needs}
 use Rattle.state.proofs.conflicts.conflict.Statement.{statement}
 use Rattle.state.proofs.conflicts.conflict.Tie as tie
@@ -56,7 +56,7 @@ returns c =
     let at-effect-at = at-flag-in .before in
     let at-loop = at-effect-at .before .before in
     let v = at-loop .loop .inv in
-    sym (noted-other _ _ _ (v .3) (v .0) (at-effect-at .effect-at .ensures .0) (at-flag-in .flag-in .ensures) (at-if1 .if1 .taken) refl refl _ (omega (arith, v .2))
+    sym (noted-other _ _ _ (v .3) (at-effect-at .effect-at .ensures .0) (at-flag-in .flag-in .ensures) (v .0) (at-if1 .if1 .taken) refl refl _ (omega (arith, v .2))
     (sym (c .before .differs .ensures) ∙ c .if2 .taken))
 
 mul-noted : tie.Need-mul-noted Inv-loop μ-loop
@@ -92,15 +92,15 @@ loop-again c =
       omega arith,
       v .2,
       ⊎-elim
-          (λ w. rw (w .4) (noted-more _ _ _ (v .3) (v .0) e f (w .0 .taken) refl refl (rw e n) (sym (w .2 .ensures) ∙ w .3 .left)))
-          (λ w. rw (w .1) (noted-passed _ _ _ (v .3) (v .0) e f (w .0 .left)))
+          (λ w. rw (w .4) (noted-more _ _ _ (v .3) e f (v .0) (w .0 .taken) refl refl (rw e n) (sym (w .2 .ensures) ∙ w .3 .left)))
+          (λ w. rw (w .1) (noted-passed _ _ _ (v .3) e f (w .0 .left)))
           (c .if1 .came),
     )
 
 returns-2 : tie.Need-returns-2 Inv-loop μ-loop
 returns-2 c =
     let at-loop = c .before in
-    sym (noted-all _ _ _ (at-loop .loop .inv .3) (at-loop .loop .inv .0) _ (omega (arith, at-loop .loop .inv .2)))
+    sym (noted-all _ _ _ (at-loop .loop .inv .3) _ (omega (arith, at-loop .loop .inv .2)))
 
 pub conflict-spec : {M : Type 1} → statement M
 conflict-spec =

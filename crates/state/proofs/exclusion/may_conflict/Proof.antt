@@ -1,31 +1,71 @@
--- Where no effects contradict each other although every formula holds, none give one fluent different values. Assumes nothing.
-use mathlib.Core.Path.{sym, _∙_}
-use borrow.Author.Tests.{not-false}
-use Rattle.state.proofs.Excluding.{held-apart}
+-- Each turn looks at one marked action; what is left out contradicts itself in no state. Assumes nothing.
+use Prim.Native.Nat.{_-_, _≤_}
+use mathlib.Core.Logic.{⊎-elim}
+use native.Mathlib.Omega.{arith}
+use Rattle.state.proofs.Excluding.{MayConflictBelow, below-none, below-passed, below-more, below-done}
 use borrow.Author.Needs.{needs}
 use Rattle.state.proofs.exclusion.may_conflict.Statement.{statement}
 use Rattle.state.proofs.exclusion.may_conflict.Tie as tie
 
-slice-aggregate-conflict : tie.Need-slice-aggregate-conflict
-slice-aggregate-conflict c = search needs
+abbrev Inv-loop : tie.InvT-loop
+Inv-loop formulas effects actions marks may₀ a₀ may a = (a ≤ 64) × MayConflictBelow formulas effects actions marks may a
 
-conflict-requires : tie.Need-conflict-requires
-conflict-requires c κs = search needs
+abbrev μ-loop : tie.MeasureT-loop
+μ-loop formulas effects actions marks may₀ a₀ may a = 64 - a
 
-is-apart-requires : tie.Need-is-apart-requires
-is-apart-requires c κs = search needs
+loop-holds : tie.Need-loop-holds Inv-loop μ-loop
+loop-holds c = (omega arith, below-none _ _ _ _)
 
-returns : tie.Need-returns
-returns c = λ e. c .is-apart .ensures (not-false (c .is-apart .result) e)
+shared-slice-read-if1 : tie.Need-shared-slice-read-if1 Inv-loop μ-loop
+shared-slice-read-if1 c = search needs
 
 -- Places: what stands before a need, by name. Written by `named`: run it again when the code changes.
-abbrev start-from-conflict : tie.After-conflict → tie.Start
-start-from-conflict c = c .before .before .before .before
+abbrev start-from-loop : tie.At-loop Inv-loop μ-loop → tie.Start Inv-loop μ-loop
+start-from-loop c = c .before .before .before .before .before
 
-returns-2 : tie.Need-returns-2
-returns-2 c = λ e. held-apart _ _ _ _ (start-from-conflict (c .before) .pre .conditions) (sym (c .before .conflict .ensures) ∙ c .if1 .left)
+abbrev start-from-then1 : tie.Then1 Inv-loop μ-loop → tie.Start Inv-loop μ-loop
+start-from-then1 c = start-from-loop (c .before .before .before)
+
+action-at-requires : tie.Need-action-at-requires Inv-loop μ-loop
+action-at-requires c κs = start-from-then1 c .pre .1 .known _ (c .if1 .taken)
+
+action-may-conflict-requires : tie.Need-action-may-conflict-requires Inv-loop μ-loop
+action-may-conflict-requires c κs = rw (c .action-at .ensures .0) (start-from-then1 (c .before) .pre .1 .each _ (c .before .if1 .taken))
+
+array-write-may : tie.Need-array-write-may Inv-loop μ-loop
+array-write-may c = search needs
+
+add-a : tie.Need-add-a Inv-loop μ-loop
+add-a c = search needs
+
+loop-less : tie.Need-loop-less Inv-loop μ-loop
+loop-less c = search needs
+
+loop-again : tie.Need-loop-again Inv-loop μ-loop
+loop-again c =
+    let v = c .before .before .before .loop .inv in (
+      omega arith,
+      ⊎-elim
+          (λ w. rw (w .3) (below-more _ _ _ _ (v .1) (w .0 .taken) (omega arith) (rw (w .1 .ensures .0) at (w .2 .ensures))))
+          (λ w. rw (w .1) (below-passed _ _ _ _ (v .1) (w .0 .left)))
+          (c .if1 .came),
+    )
+
+returns : tie.Need-returns Inv-loop μ-loop
+returns c = below-done _ _ _ _ (c .before .loop .inv .1) (start-from-loop (c .before) .pre .0) (omega arith)
 
 pub may-conflict-spec : {M : Type 1} → statement M
 may-conflict-spec =
     tie.close
-    (tie.spec slice-aggregate-conflict conflict-requires is-apart-requires returns returns-2)
+    (tie.spec
+    Inv-loop
+    μ-loop
+    loop-holds
+    shared-slice-read-if1
+    action-at-requires
+    action-may-conflict-requires
+    array-write-may
+    add-a
+    loop-less
+    loop-again
+    returns)

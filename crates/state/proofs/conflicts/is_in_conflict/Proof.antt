@@ -1,8 +1,8 @@
 -- Only where the precondition holds are effects looked at. Assumes nothing.
 use mathlib.Core.Path.{sym, _∙_}
 use borrow.Author.Needs.{needs}
-use Rattle.state.proofs.conflicts.is_barred.Statement.{statement}
-use Rattle.state.proofs.conflicts.is_barred.Tie as tie
+use Rattle.state.proofs.conflicts.is_in_conflict.Statement.{statement}
+use Rattle.state.proofs.conflicts.is_in_conflict.Tie as tie
 
 flag-in-requires : tie.Need-flag-in-requires
 flag-in-requires c κs = search needs
@@ -16,5 +16,5 @@ returns c = rw (sym (c .before .before .flag-in .ensures) ∙ c .before .if1 .ta
 returns-2 : tie.Need-returns-2
 returns-2 c = rw (sym (c .before .flag-in .ensures) ∙ c .if1 .left)
 
-pub is-barred-spec : {M : Type 1} → statement M
-is-barred-spec = tie.close (tie.spec flag-in-requires conflict-requires returns returns-2)
+pub is-in-conflict-spec : {M : Type 1} → statement M
+is-in-conflict-spec = tie.close (tie.spec flag-in-requires conflict-requires returns returns-2)

@@ -7,8 +7,8 @@ use lib.Dec.{ltb}
 use Rattle.records.proofs.Truth.{and-right}
 use Rattle.kinds.specs.Formulas.{asksValue}
 use borrow.Author.Needs.{needs}
-use Rattle.state.proofs.exclusion.guard_at.Statement.{statement}
-use Rattle.state.proofs.exclusion.guard_at.Tie as tie
+use Rattle.state.proofs.exclusion.asked_at.Statement.{statement}
+use Rattle.state.proofs.exclusion.asked_at.Tie as tie
 
 formula-at-requires : tie.Need-formula-at-requires
 formula-at-requires c κs = search needs
@@ -35,5 +35,5 @@ returns-2 c =
     let e = ap (λ (b : Bool). b && ltb (at-formula-at .formula-at .result .a) 16) (sym (c .before .before .asks-value .ensures)) ∙ c .if1 .left in
     rw (← at-formula-at .formula-at .ensures .0, e) ((refl, refl), omega arith)
 
-pub guard-at-spec : {M : Type 1} → statement M
-guard-at-spec = tie.close (tie.spec formula-at-requires asks-value-requires cast-t7 add-t8 returns returns-2)
+pub asked-at-spec : {M : Type 1} → statement M
+asked-at-spec = tie.close (tie.spec formula-at-requires asks-value-requires cast-t7 add-t8 returns returns-2)
