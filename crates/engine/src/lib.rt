@@ -44,8 +44,8 @@ pub const FLAGS: usize = leaves::RECORDS + SETS * (sheet::MOST_FORMULAS + leaves
 
 pub const NUMBERS: usize = SURVEYS + 1;
 
-// Where among the numbers the actions are listed whose effects may contradict each other, behind the skips and the distances, and where those
-// of the sets begin.
+// Where among the numbers the actions are listed whose effects may contradict each other, behind the skips and the distances, and where
+// those of the sets begin.
 const MAY_CONFLICT: usize = leaves::SKIPS + leaves::RECORDS;
 
 const COUNTS: usize = MAY_CONFLICT + state::exclusion::LIST;

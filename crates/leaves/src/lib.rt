@@ -150,8 +150,8 @@ pub fn places_of(n: usize, interrupts: bool) -> usize
     if interrupts { n + 4 } else { n }
 }
 
-// Fills in how many transitions each record of the table that runs has in the state that `truths`, the actions, `conflicted` and `running` say,
-// where `finals` tells which are final, whatever stood there: one pass upwards, since a record names lower ones only.
+// Fills in how many transitions each record of the table that runs has in the state that `truths`, the actions, `conflicted` and `running`
+// say, where `finals` tells which are final, whatever stood there: one pass upwards, since a record names lower ones only.
 pub fn tallies(
     counts: &mut [u32],
     programs: &[u8],

@@ -12,7 +12,7 @@ use Rattle.golog.specs.World.{special, conflicting}
 use Rattle.state.specs.Truths.{saidBy}
 use Rattle.state.specs.Ranges.{Performable}
 
--- a value was noted and it is another: `noted` is 0 or, as `given`, one more than a value
+-- something was noted and it is another: `noted` is 0 where nothing was, and else, as `given`, from 1 on
 abbrev pub differs : (noted given : ℕ) → Bool
 differs noted given = not (eqb noted 0) && not (eqb noted given)
 

@@ -15,7 +15,7 @@ pub const ACTIONS: usize = 64;
 // How many fluents.
 pub const FLUENTS: usize = 32;
 
-// Whether a value was noted and it is another: `noted` is 0 or, as `given`, one more than a value.
+// Whether something was noted and it is another: `noted` is 0 where nothing was, and else, as `given`, from 1 on.
 pub fn differs(noted: u16, given: u16) -> bool
     ensures { λ r. ⌜ r ≡ differs noted given ⌝ }
 {

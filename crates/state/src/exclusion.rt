@@ -1,4 +1,4 @@
-// What is told once of a sheet: which actions have effects that may contradict each other in some state, so that no state need judge the others.
+// What is told once of a sheet: which actions' effects may contradict each other in some state, so that only theirs are compared in each.
 ghost use mathlib.Core.Path.{_≡_};
 ghost use mathlib.Core.Bool.{true, false};
 ghost use Prim.Native.Nat.{_+_, _*_, _≤_, _<_};

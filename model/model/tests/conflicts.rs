@@ -88,6 +88,7 @@ fn every_fluent_has_values_of_its_own() {
 
 #[test]
 fn every_pair_counts() {
+    assert!(!possible(&[(YES, 0, 1), (YES, 0, 2), (YES, 0, 1)]));
     assert!(!possible(&[(YES, 0, 1), (YES, 1, 1), (YES, 0, 2)]));
     assert!(!possible(&[(YES, 0, 1), (YES, 1, 1), (YES, 2, 1), (YES, 1, 2)]));
     assert!(!possible(&[(YES, 1, 1), (YES, 0, 1), (YES, 2, 1), (YES, 0, 1), (YES, 1, 2)]));

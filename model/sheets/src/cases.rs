@@ -73,12 +73,13 @@ fn case_9() -> Records {
 /// An effect: condition, fluent, value.
 pub type Effect = (usize, usize, u8);
 
-/// The quay where fluent 0 starts 0, with formula 4, "not formula 1", and action 2, precondition 3, which has these
-/// effects.
+/// The quay where fluent 0 starts 0, with formulas 4, "not formula 1", and 5, "fluent 0 is 1", and action 2,
+/// precondition 3, which has these effects.
 pub fn with_action_2(effects: &[Effect], programs: &[Program], bound: u16) -> Records {
     let mut records = three_sections(programs, bound);
     records.fluents[0] = [3, 0];
     records.formula(Formula::Not(1));
+    records.formula(Formula::Is(0, 1));
     for (condition, fluent, value) in effects {
         records.effect(*condition, *fluent, *value);
     }
@@ -115,6 +116,12 @@ pub fn conflicts() -> Vec<Case> {
         case("a condition that fails, then holds", &DIFFERENT_AFTERWARDS, twice, 2, "refused 13 0\n"),
         case("conflict on another fluent than the first", &[(3, 0, 1), (3, 1, 1), (3, 1, 2)], act, 1, "refused 13 0\n"),
         case("conflict of the first and third effect", &[(3, 0, 1), (3, 1, 1), (3, 0, 2)], act, 1, "refused 13 0\n"),
+        case("different fluents", &[(3, 0, 1), (3, 1, 2)], act, 1, found),
+        case("conflict with the second of three", &[(3, 0, 1), (3, 0, 2), (3, 0, 1)], act, 1, "refused 13 0\n"),
+        case("different values of one fluent asked for", &[(1, 0, 1), (5, 0, 2)], twice, 2, "found 2 2\n2\n2\n"),
+        case("one value asked for twice", &[(1, 0, 1), (1, 0, 2)], act, 1, "refused 13 0\n"),
+        case("values of two fluents asked for", &[(0, 0, 1), (1, 0, 2)], act, 1, "refused 13 0\n"),
+        case("a value asked for, and nothing", &[(1, 0, 1), (3, 0, 2)], act, 1, "refused 13 0\n"),
         case("star over, conflict", &DIFFERENT, &STAR_OVER, 1, "found 1 1\n0\n"),
         case("star over, equal values", &EQUAL, &STAR_OVER, 1, "refused 14 0\n"),
         case("interrupt, conflict", &DIFFERENT, interrupt, 2, "found 2 2\n65534\n65535\n"),

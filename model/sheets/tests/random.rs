@@ -2,7 +2,7 @@
 
 use model::meaning::{Configuration, Moment};
 use model::planner::{depth_first, plan, replay, Plan};
-use model::sheet::{check, Action, Program, Sheet};
+use model::sheet::{check, Action, Formula, Program, Sheet};
 use sheets::random::{accepted, damaged, near_miss, run, searchable, unknown, Random};
 use std::collections::{BTreeSet, HashMap, HashSet};
 use std::mem::{self, discriminant};
@@ -204,4 +204,32 @@ fn the_same_seed_gives_the_same_sheets() {
     let draw = |seed| searchable(&mut Random::new(seed), 1000).0;
     assert_eq!(draw(9), draw(9));
     assert_ne!(draw(9), draw(10));
+}
+
+/// Whether effects of the range that give one fluent different values stand under conditions that one fluent has
+/// different values, and there are such effects.
+fn exclusive(sheet: &Sheet, action: &Action) -> bool {
+    let effects = &sheet.effects[action.effects.clone()];
+    let pairs = effects.iter().flat_map(|one| effects.iter().map(move |other| (one, other)));
+    let mut different = pairs.filter(|(one, other)| one.fluent == other.fluent && one.value != other.value).peekable();
+    different.peek().is_some()
+        && different.all(|(one, other)| match [one, other].map(|effect| sheet.formulas[effect.condition]) {
+            [Formula::Is(x, a), Formula::Is(y, b)] => x == y && a != b,
+            _ => false,
+        })
+}
+
+#[test]
+fn conditions_exclude_each_other() {
+    let mut random = Random::new(16);
+    let count = 3000;
+    let mut performed = 0;
+    for _ in 0..count {
+        let (_, sheet) = searchable(&mut random, 3000);
+        let reached = configurations(&sheet);
+        let possible = reached.iter().flat_map(|from| judged(&sheet, &Moment::new(&sheet, from.state))[1].clone());
+        performed += usize::from(possible.into_iter().any(|action| exclusive(&sheet, &sheet.actions[action])));
+    }
+    println!("of {count}: with a possible action whose effects' conditions exclude each other {performed}");
+    assert!(performed * 50 > count);
 }

@@ -68,13 +68,24 @@ fn without_plan() -> Vec<Family> {
             name: "shared formulas",
             sheets: [8, 64, 512].map(|count| (format!("{count} formulas"), shared_formulas(count, 6))).into(),
         },
+    ]
+}
+
+/// Ranges of up to as many effects as a sheet may have.
+fn long_ranges() -> Vec<Family> {
+    let counts = [16, 128, 512];
+    vec![
         Family {
             name: "long effect ranges",
-            sheets: [16, 128, 512].map(|count| (format!("{count} effects"), long_effects(count, 9))).into(),
+            sheets: counts.map(|count| (format!("{count} effects"), long_effects(count, 9))).into(),
         },
         Family {
             name: "long conflicting ranges",
-            sheets: [16, 128, 512].map(|count| (format!("{count} effects"), long_conflicts(count, 9))).into(),
+            sheets: counts.map(|count| (format!("{count} effects"), long_conflicts(count, false, 9))).into(),
+        },
+        Family {
+            name: "the same, exclusive",
+            sheets: counts.map(|count| (format!("{count} effects"), long_conflicts(count, true, 9))).into(),
         },
     ]
 }
@@ -306,8 +317,10 @@ fn long_effects(count: usize, bound: u16) -> Vec<u8> {
 /// Two actions with long ranges, of all effects but the last and of all but the first, and the choice of each twice.
 /// Fluents are named again and again, each to get the value that the next one does not have. In each state one action
 /// conflicts, by the first and the last effect of its range that hold, and the other is possible. The model compares
-/// every two holding effects, so that its time grows with the square.
-fn long_conflicts(count: usize, bound: u16) -> Vec<u8> {
+/// every two holding effects, so that its time grows with the square. Where the ranges are exclusive, no two of their
+/// effects that hold differ, by conditions that one fluent has a value, and the preconditions choose the action: what is
+/// left of the library's time is that of performing.
+fn long_conflicts(count: usize, exclusive: bool, bound: u16) -> Vec<u8> {
     use sheet::Program::*;
     let mut records = Records { bound, ..Records::default() };
     let [never, always] = [Formula::False, Formula::True].map(|formula| records.formula(formula));
@@ -315,6 +328,9 @@ fn long_conflicts(count: usize, bound: u16) -> Vec<u8> {
         records.fluent(2, 0);
     }
     let mut is_0_or_not = |fluent| {
+        if exclusive {
+            return [0, 1].map(|value| records.formula(Formula::Is(fluent, value)));
+        }
         let is_0 = records.formula(Formula::Less(fluent, 1));
         [is_0, records.formula(Formula::Not(is_0))]
     };
@@ -330,8 +346,9 @@ fn long_conflicts(count: usize, bound: u16) -> Vec<u8> {
         records.effect(is_0, fluent, 1);
         records.effect(is_not, fluent, 0);
     }
-    ends(&mut records, 0);
-    let acts = [0, 1].map(|first| records.action(always, first, count - 1));
+    ends(&mut records, u8::from(exclusive));
+    let preconditions = if exclusive { [conditions[0][1], conditions[0][0]] } else { [always; 2] };
+    let acts = [0, 1].map(|first| records.action(preconditions[first], first, count - 1));
     let twice = acts.map(|action| {
         let act = records.program(Act(action));
         records.program(Choice(act, act))
@@ -462,7 +479,7 @@ fn main() {
     println!();
     println!("Without a plan: 14. Transitions: those that the plain search follows. Growth: the library's time for");
     println!("one of them, the family's first row being 1.");
-    without_plan().into_iter().for_each(print_without_plan);
+    without_plan().into_iter().chain(long_ranges()).for_each(print_without_plan);
     println!();
     println!("With a plan, the same by the library and by sets: n moves, t transitions, under the bound D. The plain");
     println!("search gives another and is left out. To first: the library's time, the family's first row being 1.");

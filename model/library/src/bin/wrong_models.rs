@@ -14,7 +14,7 @@ use std::{env, fs, io};
 struct Edit(&'static str, &'static str, &'static str);
 
 #[rustfmt::skip]
-const EDITS: [Edit; 27] = [
+const EDITS: [Edit; 28] = [
     Edit("sizes: D in the place of F",
         "Ok((sheet.fluents.len(), sheet.bound))",
         "Ok((sheet.bound, sheet.bound))"),
@@ -36,6 +36,9 @@ const EDITS: [Edit; 27] = [
     Edit("conflicts: equal values too",
         "one.fluent == other.fluent && one.value != other.value",
         "one.fluent == other.fluent && !std::ptr::eq(one, other)"),
+    Edit("conflicts: of any two fluents",
+        "one.fluent == other.fluent && one.value != other.value",
+        "one.value != other.value"),
     Edit("conflicts: only of neighbours",
         "!holding.iter().any(|one| holding.iter().any(|other| differ(one, other)))",
         "!holding.windows(2).any(|pair| differ(pair[0], pair[1]))"),

@@ -46,18 +46,30 @@ fn condition(random: &mut Random, records: &Records) -> usize {
     }
 }
 
-/// Often gives the action with the longest range other effects (document 02, F-2), of which two or three are on one
-/// fluent: the first changes it, the others mostly hold once it has changed. So they agree in some states only.
+/// Often gives the action with the longest range other effects (document 02, F-2), of which several are on one fluent.
 fn several_on_one_fluent(random: &mut Random, records: &mut Records) {
-    if records.actions.is_empty() || random.percent(30) {
+    let shape = random.below(10);
+    if records.actions.is_empty() || shape < 3 {
         return;
     }
     let drawn = [0; 3].map(|_| random.below(records.fluents.len()));
     let fluent = drawn.into_iter().max_by_key(|&fluent| records.fluents[fluent][0]).expect("three were drawn");
-    let other = drawn[0];
+    let first = records.effects.len();
+    if shape < 8 {
+        agreeing_at_first(random, records, fluent, drawn[0]);
+    } else {
+        by_values(random, records, fluent, drawn[0]);
+    }
+    let count = records.effects.len() - first;
+    let longest = records.actions.iter_mut().max_by_key(|[_, _, count]| *count).expect("there are actions");
+    *longest = [longest[0], first as u16, count as u16];
+}
+
+/// Two or three effects on a fluent, with others between them: the first changes it, the others mostly hold once it has
+/// changed. So they agree in some states only.
+fn agreeing_at_first(random: &mut Random, records: &mut Records, fluent: usize, other: usize) {
     let [size, initial] = records.fluents[fluent].map(usize::from);
     let changed = (initial + random.between(1, size.max(2) - 1)) % size;
-    let first = records.effects.len();
     for number in 0..random.between(2, 3) {
         if other != fluent && random.percent(40) {
             let value = random.below(usize::from(records.fluents[other][0]));
@@ -68,9 +80,28 @@ fn several_on_one_fluent(random: &mut Random, records: &mut Records) {
         let condition = if number == 0 { 0 } else { condition_on(random, records, fluent) };
         records.effect(condition, fluent, value as u8);
     }
-    let count = records.effects.len() - first;
-    let longest = records.actions.iter_mut().max_by_key(|[_, _, count]| *count).expect("there are actions");
-    *longest = [longest[0], first as u16, count as u16];
+}
+
+/// Two to four effects on a fluent, mostly under the conditions that one fluent has this value, the next, and so on from
+/// its initial one, so that no two hold. Some come near: another fluent, less, the opposite, an equal fluent, or none.
+fn by_values(random: &mut Random, records: &mut Records, fluent: usize, other: usize) {
+    let size = usize::from(records.fluents[fluent][0]);
+    let mostly = random.pick(&[fluent, other]);
+    for number in 0..random.between(2, 4) {
+        let asked = if random.percent(20) { random.pick(&[fluent, other]) } else { mostly };
+        let [values, initial] = records.fluents[asked].map(usize::from);
+        let value = (initial + number) % values;
+        let is = records.formula(Formula::Is(asked, value));
+        let condition = match random.below(20) {
+            0 => 0,
+            1 => records.formula(Formula::Less(asked, value + 1)),
+            2 => records.formula(Formula::Not(is)),
+            3 => records.formula(Formula::Equal(asked, other)),
+            _ => is,
+        };
+        let given = if random.percent(60) { value + 1 } else { random.below(size) };
+        records.effect(condition, fluent, (given % size) as u8);
+    }
 }
 
 /// A formula about this fluent that holds at the start, or mostly one that does not.
