@@ -2,12 +2,12 @@
 -- other in no state; and a list has the marked numbers. Assumes nothing.
 use Prim.Native.Nat.{ℕ, suc, _+_, _-_, _*_, _≤_, _<_}
 use mathlib.Core.Path.{_≡_, refl, sym, _∙_, ap, subst}
-use mathlib.Core.Bool.{Bool, true, false, not, _&&_, false≢true}
+use mathlib.Core.Bool.{Bool, true, false, false≢true}
 use mathlib.Core.List.{List}
 use native.Mathlib.Numerals.{add-one}
 use native.Mathlib.Decide.{ℕ-discrete, decLt}
 use native.Mathlib.Omega.{arith}
-use lib.Dec.{T, eqb, ltb}
+use lib.Dec.{T, ltb}
 use lib.ListN.{length, getD, set, replicate, length-set, length-replicate, List·getD-eq-default, getD-replicate}
 use lib.Seq.{getD-set-same, getD-set-other}
 use Rattle.records.specs.declared.Formula.{Formula}
@@ -164,10 +164,10 @@ marked-below marks b m = go (decLt b (length marks))
 
 -- of the marked actions below a those that may contradict themselves, and no others are left out
 module _ (formulas effects actions : List ℕ) (marks : List Bool) where
-  pub record MayConflictBelow (may_conflict : List Bool) (a : ℕ) : Type 0 where
-    pub long : length may_conflict ≡ 64
-    pub within : (b : ℕ) → getD may_conflict b false ≡ true → (b < a) × (getD marks b false ≡ true)
-    pub rest : (b : ℕ) → b < a → getD marks b false ≡ true → getD may_conflict b false ≡ false → Exclusive formulas effects (actionAt actions b .first) (actionAt actions b .count)
+  pub record MayConflictBelow (may : List Bool) (a : ℕ) : Type 0 where
+    pub long : length may ≡ 64
+    pub within : (b : ℕ) → getD may b false ≡ true → (b < a) × (getD marks b false ≡ true)
+    pub rest : (b : ℕ) → b < a → getD marks b false ≡ true → getD may b false ≡ false → Exclusive formulas effects (actionAt actions b .first) (actionAt actions b .count)
 
   pub below-none : MayConflictBelow (replicate 64 false) 0
   below-none = record {
@@ -176,8 +176,8 @@ module _ (formulas effects actions : List ℕ) (marks : List Bool) where
     rest = λ b l. absurd (omega arith);
   }
 
-  module _ {may_conflict : List Bool} {a : ℕ} (R : MayConflictBelow may_conflict a) where
-    pub below-passed : getD marks a false ≡ false → MayConflictBelow may_conflict (a + 1)
+  module _ {may : List Bool} {a : ℕ} (R : MayConflictBelow may a) where
+    pub below-passed : getD marks a false ≡ false → MayConflictBelow may (a + 1)
     below-passed e = record {
       long = R .long;
       within = λ b t. let (l, m) = R .within b t in (omega arith, m);
@@ -186,20 +186,20 @@ module _ (formulas effects actions : List ℕ) (marks : List Bool) where
 
     pub below-more :
         {t : Bool} → getD marks a false ≡ true → a < 64 → (t ≡ false → Exclusive formulas effects (actionAt actions a .first) (actionAt actions a .count))
-        → MayConflictBelow (set may_conflict a t) (a + 1)
+        → MayConflictBelow (set may a t) (a + 1)
     below-more {t} m l A = record {
-      long = length-set may_conflict a t ∙ R .long;
-      within = λ b. written (λ (x : Bool). x ≡ true → (b < a + 1) × (getD marks b false ≡ true)) false may_conflict a t inside b
+      long = length-set may a t ∙ R .long;
+      within = λ b. written (λ (x : Bool). x ≡ true → (b < a + 1) × (getD marks b false ≡ true)) false may a t inside b
           (λ n x. let (k, h) = R .within b x in (omega arith, h)) (λ z x. (omega arith, ap (λ (i : ℕ). getD marks i false) z ∙ m));
-      rest = λ b k h. written (λ (x : Bool). x ≡ false → Exclusive formulas effects (actionAt actions b .first) (actionAt actions b .count)) false may_conflict a t inside b
+      rest = λ b k h. written (λ (x : Bool). x ≡ false → Exclusive formulas effects (actionAt actions b .first) (actionAt actions b .count)) false may a t inside b
           (λ n. R .rest b (omega (arith, n)) h)
           (λ z x. subst (λ (i : ℕ). Exclusive formulas effects (actionAt actions i .first) (actionAt actions i .count)) (sym z) (A x));
     }
       where
-        inside : a < length may_conflict
+        inside : a < length may
         inside = omega (arith, R .long)
 
-    pub below-done : length marks ≡ 64 → 64 ≤ a → MayConflict formulas effects actions marks may_conflict
+    pub below-done : length marks ≡ 64 → 64 ≤ a → MayConflict formulas effects actions marks may
     below-done long l = record { within = λ b t. R .within b t .1; rest = λ b m. R .rest b (omega (arith, long, marked-below marks b m)) m }
 
 module _ (marks : List Bool) where

@@ -1,6 +1,6 @@
 -- The laws of comparing effects in a state: a pass that notes what each fluent was given finds a conflict exactly where there is one; marks
 -- are those of the listed actions; and by them an action is allowed exactly where it is possible. Assumes nothing.
-use Prim.Native.Nat.{ℕ, zero, suc, _+_, _-_, _≤_, _<_}
+use Prim.Native.Nat.{ℕ, suc, _+_, _-_, _≤_, _<_}
 use mathlib.Core.Path.{_≡_, refl, sym, _∙_, ap, subst}
 use mathlib.Core.Bool.{Bool, true, false, not, _&&_, _||_, false≢true}
 use mathlib.Core.List.{List}
@@ -18,7 +18,7 @@ use Rattle.records.proofs.Fills.{getD-same}
 use Rattle.records.proofs.Truth.{and-left, and-right, and-both, is-true, is-false}
 use Rattle.records.proofs.Written.{written}
 use Rattle.golog.specs.World.{special, conflicting, possibleBy}
-use Rattle.golog.specs.Possible.{InRange, Conflict}
+use Rattle.golog.specs.Possible.{Conflict}
 use Rattle.golog.proofs.Possible.{conflicting-exactly}
 use Rattle.state.specs.Truths.{saidBy}
 use Rattle.state.specs.Conflicts.{differs, listedCount, Listed, inConflict, Conflicted, allowedBy}

@@ -48,6 +48,6 @@ pub record ReadableAll (formulas effects actions : List ℕ) (marks : List Bool)
   pub each : (a : ℕ) → getD marks a false ≡ true → Readable formulas effects (actionAt actions a .first) (actionAt actions a .count)
 
 -- some of the marked actions, and those left out contradict themselves in no state
-pub record MayConflict (formulas effects actions : List ℕ) (marks may_conflict : List Bool) : Type 0 where
-  pub within : (a : ℕ) → getD may_conflict a false ≡ true → getD marks a false ≡ true
-  pub rest : (a : ℕ) → getD marks a false ≡ true → getD may_conflict a false ≡ false → Exclusive formulas effects (actionAt actions a .first) (actionAt actions a .count)
+pub record MayConflict (formulas effects actions : List ℕ) (marks may : List Bool) : Type 0 where
+  pub within : (a : ℕ) → getD may a false ≡ true → getD marks a false ≡ true
+  pub rest : (a : ℕ) → getD marks a false ≡ true → getD may a false ≡ false → Exclusive formulas effects (actionAt actions a .first) (actionAt actions a .count)

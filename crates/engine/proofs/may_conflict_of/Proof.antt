@@ -89,7 +89,8 @@ returns c =
     let marks = at-performed .performed .result in
     let P = of-found O (λ (l : Layout) (b : Bool). Performed (programAt (programsIn s l)) (l .p) marks) (at-performed .performed .ensures) in
     let list = c .listed .ensures in
-    listed-may-conflict s (O .accepted) P (of-found O (λ (l : Layout) (b : Bool). MayConflict (formulasIn s l) (effectsIn s l) (actionsIn s l) marks (at-may-conflict .may-conflict .result)) (at-may-conflict .may-conflict .ensures)) list
+    listed-may-conflict s (O .accepted) P
+    (of-found O (λ (l : Layout) (b : Bool). MayConflict (formulasIn s l) (effectsIn s l) (actionsIn s l) marks (at-may-conflict .may-conflict .result)) (at-may-conflict .may-conflict .ensures)) list
 
 pub may-conflict-of-spec : {M : Type 1} → statement M
 may-conflict-of-spec =

@@ -182,7 +182,8 @@ returns c =
     (skips-kept (omega arith) K₂ ∙ skips-kept (omega arith) K ∙ take-at skips (drop 261 numbers) 261 sl ∙ at-copy-numbers .copy-numbers .ensures ∙ at-skips .skips .ensures)
     (distances-kept (omega arith) K₂ nl₃ (omega arith) ∙ window-put 261 521 260 numbers₁ distances (omega arith) long dl ∙ at-copy-numbers2 .copy-numbers2 .ensures ∙
     at-distances .distances .ensures)
-    (subst (ListsMayConflict (now (at-start .args .s))) (sym (window-put 521 586 65 numbers₂ judged (omega arith) long₂ jl ∙ at-copy-numbers3 .copy-numbers3 .ensures)) (at-may-conflict-of .may-conflict-of .ensures))
+    (subst (ListsMayConflict (now (at-start .args .s)))
+    (sym (window-put 521 586 65 numbers₂ judged (omega arith) long₂ jl ∙ at-copy-numbers3 .copy-numbers3 .ensures)) (at-may-conflict-of .may-conflict-of .ensures))
 
 pub prepare-spec : {M : Type 1} → statement M
 prepare-spec =
