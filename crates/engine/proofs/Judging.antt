@@ -164,7 +164,8 @@ module _ {s : List ℕ} {m : Inspection} (O : Of s m) where
     surveyed numbers′ conflicted n K B T =
         let W = worldOf s in
         let P = J .prepared in
-        let T₂ = of-found O (λ (l : Layout) (b : Bool). Tallied (runs s l b) (many l b) (actionsIn s l) (truthsAt d flags) conflicted (st .running) (countsAt d numbers) (countsAt d numbers′)) T in
+        let counts = countsAt d numbers in
+        let T₂ = of-found O (λ (l : Layout) (b : Bool). Tallied (runs s l b) (many l b) (actionsIn s l) (truthsAt d flags) conflicted (st .running) counts (countsAt d numbers′)) T in
         let S = sees s (O .accepted) st (truthsAt d flags) (J .truths-are) (P .may-conflict) B in
         let c = T₂ W st S ∙ counts-whole W st (extendedRecords s) (extendedSizeOf s) (countsAt d numbers) nil-counts in
         let here : (i : ℕ) → extendedSizeOf s ≤ i → getD (countsAt d numbers′) i 0 ≡ 0 = λ i l. ap (λ (x : List ℕ). getD x i 0) c ∙ counts-after i l in
