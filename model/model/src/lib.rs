@@ -1,8 +1,9 @@
 //! A plain model of the planner, to be believed by reading it beside document 01.
 //!
 //! It is written from document 01, from F-1 and F-2 of document 02 and from sections 4 and 5 of the paper (000,
-//! ConGolog), without a look at the verified code, and shares nothing with it. It prefers the shortest statement to
-//! the fastest one: a checked sheet is decoded into plain records, a program is a tree, and a verdict and the first
+//! ConGolog), and shares neither code nor algorithm with the verified code. Whoever wrote the rule of F-2 had read that
+//! code; what stands here is the request's sentence, over all pairs of effects. It prefers the shortest statement to the
+//! fastest one: a checked sheet is decoded into plain records, a program is a tree, and a verdict and the first
 //! plan are read off the sets of configurations that can be reached in exactly 0, 1, 2, .. transitions.
 //!
 //! What need not be believed stands elsewhere: sheets to try it with in the package `sheets`, the verified library
