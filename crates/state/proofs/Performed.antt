@@ -14,11 +14,10 @@ use lib.ListN.{getD, length}
 use Rattle.records.specs.declared.Effect.{Effect}
 use Rattle.records.specs.declared.Action.{Action}
 use Rattle.records.specs.Records.{effectAt, actionAt}
-use Rattle.records.proofs.Laid.{Laid}
 use Rattle.golog.specs.declared.State.{State}
 use Rattle.golog.specs.World.{start, possibleBy, changes, given, each, changed, performBy}
 use Rattle.golog.proofs.Possible.{conflict-same}
-use Rattle.golog.proofs.Moves.{given-none, given-here, given-later, each-at}
+use Rattle.golog.proofs.Moves.{given-none, given-here, given-later, changed-at}
 use Rattle.state.specs.Ranges.{Names, ConditionsBelow}
 
 module _ (says : ℕ → Bool) (effects : List ℕ) (x old : ℕ) where
@@ -70,34 +69,26 @@ unfolding each
 each-same f g h x [] = refl
 each-same f g h x (v ∷ l) = rw (h x v, each-same f g h (suc x) l)
 
-module _ (says : ℕ → Bool) (effects : List ℕ) (n : ℕ) where
-  -- no effect names a fluent from n on
-  given-stays : (x old k first : ℕ) → Names effects n first k → n ≤ x → given says (effectAt effects) x old first k ≡ old
-  unfolding given
-  given-stays x old zero first h l = refl
-  given-stays x old (suc k) first h l =
-      let other : eqb (effectAt effects first .fluent) x ≡ false = ne-eqb _ x (λ (e : effectAt effects first .fluent ≡ x). omega (arith, h first (omega arith) (omega arith))) in
-      rw (other, given) (given-stays x old k (suc first) (λ i a b. h i (omega arith) (omega arith)) l)
+-- no effect names a fluent from n on, so that its value stays
+pub given-stays :
+    (says : ℕ → Bool) (effects : List ℕ) (n x old k first : ℕ) → Names effects n first k → n ≤ x
+    → given says (effectAt effects) x old first k ≡ old
+unfolding given
+given-stays says effects n x old zero first h l = refl
+given-stays says effects n x old (suc k) first h l =
+    let other : eqb (effectAt effects first .fluent) x ≡ false = ne-eqb _ x (λ (e : effectAt effects first .fluent ≡ x). omega (arith, h first (omega arith) (omega arith))) in
+    rw (other, given) (given-stays says effects n x old k (suc first) (λ i a b. h i (omega arith) (omega arith)) l)
 
-  -- values written up to the number that no effect passes are those after all effects
-  pub changed-all :
-      (r : Action) {x : ℕ} {values new : List ℕ}
-      → Names effects n (r .first) (r .count)
-      → n ≤ x
-      → Laid 0 (λ (y : ℕ). given says (effectAt effects) y (getD values y 0) (r .first) (r .count)) values new x
-      → new ≡ changed says (effectAt effects) r values
-  unfolding changed
-  changed-all r {x} {values} {new} h l L =
-      ext-getD 0 new _ (L .len ∙ sym (length-each _ 0 values))
-      (λ j b. pick j (decLt j x) (omega (arith, L .len)) ∙ sym (each-at _ 0 values j (omega (arith, L .len))))
-    where
-      from : ℕ → ℕ → ℕ
-      from y old = given says (effectAt effects) y old (r .first) (r .count)
-
-      pick : (j : ℕ) → Dec (j < x) → j < length values → getD new j 0 ≡ from (0 + j) (getD values j 0)
-      pick j (yes q) b =
-          ap (λ (y : ℕ). getD new y 0) (omega arith) ∙ L .laid j q ∙ ap (λ (y : ℕ). from y (getD values j 0)) (omega arith)
-      pick j (no q) b = L .above j (omega arith) ∙ sym (given-stays (0 + j) (getD values j 0) (r .count) (r .first) h (omega arith))
+-- values each of which is what the range gives are those after all its effects
+pub changed-all :
+    (says : ℕ → Bool) (effects : List ℕ) (r : Action) (values : List ℕ) {new : List ℕ}
+    → length new ≡ length values
+    → ((x : ℕ) → x < length values → getD new x 0 ≡ given says (effectAt effects) x (getD values x 0) (r .first) (r .count))
+    → new ≡ changed says (effectAt effects) r values
+unfolding changed
+changed-all says effects r values {new} long each-is =
+    ext-getD 0 new _ (long ∙ sym (length-each _ 0 values))
+    (λ x l. each-is x (omega (arith, long)) ∙ sym (changed-at says (effectAt effects) r values x (omega (arith, long))))
 
 -- where formulas say the same of an action's precondition and of the conditions of its range, it is as possible, and performing it leads to
 -- the same state

@@ -6,13 +6,12 @@ ghost use Rattle.records.specs.Records.{formulaAt, effectAt, actionAt};
 ghost use Rattle.kinds.specs.Truth.{truthOf};
 ghost use Rattle.kinds.specs.Formulas.{LowerFormulas};
 ghost use Rattle.golog.specs.declared.State.{State};
-ghost use Rattle.golog.specs.World.{changes, given, changed, performBy};
+ghost use Rattle.golog.specs.World.{changed, performBy};
 ghost use Rattle.state.specs.Truths.{truthsOf, saidBy};
 ghost use Rattle.state.specs.Ranges.{Names, InActions, Performable};
 ghost use Rattle.state.specs.Conflicts.{allowedBy};
 use golog::State;
 use records::Action;
-use records::Effect;
 
 pub mod conflicts;
 pub mod exclusion;
@@ -53,45 +52,36 @@ pub fn possible(actions: &[u8], truths: &[bool], conflicted: &[bool], a: usize) 
     records::flag_in(truths, r.precondition, false) & !records::flag_in(conflicted, a, false)
 }
 
-// Whether an effect names fluent x and its condition holds.
-fn changes_value(e: Effect, truths: &[bool], x: usize) -> bool
-    ensures { λ r. ⌜ r ≡ changes (saidBy (now (truths .entry))) e x ⌝ }
-{
-    if e.fluent != x {
-        return false;
-    }
-    records::flag_in(truths, e.condition, false)
-}
-
-// The new value of fluent x under an action's effects: the first one that changes it gives it.
-fn new_value(effects: &[u8], first: usize, count: usize, truths: &[bool], x: usize, old: u8) -> u8
-    requires { ⌜ 4 * (first + count) ≤ length (now effects) ⌝ }
-    ensures { λ v. ⌜ v ≡ given (saidBy (now (truths .entry))) (effectAt (now (effects .entry))) x old first count ⌝ }
-{
-    let end = first + count;
-    let mut value = old;
-    let mut i = first;
-    'effects: while i < end {
-        let e = records::effect_at(effects, i);
-        if changes_value(e, truths, x) {
-            value = e.value as u8;
-            break 'effects;
-        }
-        i += 1;
-    }
-    value
-}
-
-// The values after an action's effects, which name fluents below n.
-fn new_values(effects: &[u8], r: Action, n: usize, truths: &[bool], values: [u8; 32]) -> [u8; 32]
+// The values after an action's effects, which name fluents below n: one pass from the first effect to the last. It notes which fluents were
+// given a value, since the first effect that holds gives it, and is left once all were.
+pub fn new_values(
+    effects: &[u8],
+    r: Action,
+    n: usize,
+    truths: &[bool],
+    values: [u8; 32],
+) -> [u8; 32]
     requires { ⌜ (4 * (r .first + r .count) ≤ length (now effects)) × (n ≤ 32) × Names (now effects) n (r .first) (r .count) ⌝ }
     ensures { λ v. ⌜ v ≡ changed (saidBy (now (truths .entry))) (effectAt (now (effects .entry))) r values ⌝ }
 {
+    let first = r.first;
+    let end = first + r.count;
     let mut new = values;
-    let mut x = 0;
-    while x < n {
-        new[x] = new_value(effects, r.first, r.count, truths, x, values[x]);
-        x += 1;
+    let mut given = [false; conflicts::FLUENTS];
+    let mut left = n;
+    let mut i = first;
+    while i < end {
+        let e = records::effect_at(effects, i);
+        let x = e.fluent;
+        if records::flag_in(truths, e.condition, false) & !given[x] {
+            new[x] = e.value as u8;
+            given[x] = true;
+            left -= 1;
+            if left == 0 {
+                return new;
+            }
+        }
+        i += 1;
     }
     new
 }

@@ -1,8 +1,8 @@
 -- Only where the effect names the fluent is its condition looked up. Assumes nothing.
 use borrow.Author.Tests.{eq-eqb, ne-eqb}
 use borrow.Author.Needs.{needs}
-use Rattle.state.proofs.changes_value.Statement.{statement}
-use Rattle.state.proofs.changes_value.Tie as tie
+use Rattle.timed_cases.proofs.each_fluent.changes_value.Statement.{statement}
+use Rattle.timed_cases.proofs.each_fluent.changes_value.Tie as tie
 
 returns : tie.Need-returns
 returns c = rw (ne-eqb _ _ (c .if1 .taken))

@@ -4,10 +4,10 @@ use Prim.Native.Nat.{_+_, _-_}
 use mathlib.Core.Path.{_≡_, refl}
 use native.Mathlib.Omega.{arith}
 use borrow.Author.Needs.{needs}
 use Rattle.state.specs.Truths.{saidBy}
 use Rattle.state.proofs.Performed.{Passed, passed-none, passed-more, passed-found, passed-all}
-use Rattle.state.proofs.new_value.Statement.{statement}
-use Rattle.state.proofs.new_value.Tie as tie
+use Rattle.timed_cases.proofs.each_fluent.new_value.Statement.{statement}
+use Rattle.timed_cases.proofs.each_fluent.new_value.Tie as tie
 
 abbrev Inv-effects : tie.InvT-effects
 Inv-effects effects first count truths x old end value₀ i₀ value i = Passed (saidBy truths) effects x old first count value i × (end ≡ first + count)
@@ -38,10 +38,8 @@ effects-less c = search needs
 
 effects-again : tie.Need-effects-again Inv-effects μ-effects
 effects-again c =
-    let at-changes-value = c .before in
-    let at-effect-at = at-changes-value .before in
-    let p = at-effect-at .before .before .effects .inv in (
-      passed-more _ _ _ _ (p .0) (omega arith) (at-effect-at .effect-at .ensures .0) (at-changes-value .changes-value .ensures)
+    let p = c .before .before .before .before .effects .inv in (
+      passed-more _ _ _ _ (p .0) (omega arith) (c .before .before .effect-at .ensures .0) (c .before .changes-value .ensures)
           (c .if1 .left),
       p .1,
     )
@@ -51,12 +49,10 @@ returns c = let p = c .before .effects .inv in passed-all _ _ _ _ (p .0) (omega 
 
 returns-2 : tie.Need-returns-2 Inv-effects μ-effects
 returns-2 c =
-    let at-if1 = c .before in
-    let at-changes-value = at-if1 .before in
-    let at-effect-at = at-changes-value .before in
+    let at-effect-at = c .before .before .before in
     let at-effects = at-effect-at .before .before in
     let p = at-effects .effects .inv in
-    passed-found _ _ _ _ (p .0) (omega arith) (at-effect-at .effect-at .ensures .0) (at-changes-value .changes-value .ensures) (at-if1 .if1 .taken)
+    passed-found _ _ _ _ (p .0) (omega arith) (at-effect-at .effect-at .ensures .0) (c .before .before .changes-value .ensures) (c .before .if1 .taken)
 
 pub new-value-spec : {M : Type 1} → statement M
 new-value-spec =

@@ -1,0 +1,17 @@
+// The processor time of this program.
+
+// A number that is not negative, 0 for one that is.
+fn unsigned(x: i64) -> u64 {
+    if x > 0 { x as u64 } else { 0 }
+}
+
+// The processor time that this program has used, in microseconds; 0 where it cannot be told.
+pub fn microseconds() -> u64 {
+    unsigned(libc::clock())
+}
+
+// What it has used since then.
+pub fn since(then: u64) -> u64 {
+    let now = microseconds();
+    if now < then { 0 } else { now - then }
+}

@@ -1,0 +1,11 @@
+// What document 02 asks to be measured: one thing done in two ways. Whether both give the same, and whether the one is as quick as asked, goes
+// to standard output and is compared with what is stored; the times go to standard error.
+mod clock;
+mod each_fluent;
+mod performing;
+mod report;
+mod writing;
+
+fn main() {
+    performing::cases();
+}
