@@ -7,6 +7,9 @@
 //! Sheets without a plan end in 14, so that all of the search is made. Where there is a plan, the library and sets give
 //! the same, the first (document 02, F-1): n, t and trace. There plain is left out: it gives another plan, mostly one
 //! of D transitions, and its time says only how soon it comes upon one in listed order.
+//!
+//! Last comes what the test program `timed_cases` measures of the verified code alone, one pass over an action's effects
+//! against its test copy.
 
 #![forbid(unsafe_code)]
 
@@ -17,6 +20,8 @@ use sheets::runs;
 use sheets::source::*;
 use sheets::write::Records;
 use std::hint::black_box;
+use std::path::Path;
+use std::process::Command;
 use std::time::{Duration, Instant};
 
 /// The time that one sheet gets.
@@ -77,7 +82,11 @@ fn long_ranges() -> Vec<Family> {
     vec![
         Family {
             name: "long effect ranges",
-            sheets: counts.map(|count| (format!("{count} effects"), long_effects(count, 9))).into(),
+            sheets: counts.map(|count| (format!("{count} effects"), long_effects(count, FALSE, 9))).into(),
+        },
+        Family {
+            name: "the same, all hold",
+            sheets: counts.map(|count| (format!("{count} effects"), long_effects(count, TRUE, 9))).into(),
         },
         Family {
             name: "long conflicting ranges",
@@ -304,12 +313,12 @@ fn shared_formulas(count: usize, bound: u16) -> Vec<u8> {
     records.bytes()
 }
 
-/// An action with a long range of effects over all fluents, none of which holds and no two of which give different
-/// values, and the choice of it twice.
-fn long_effects(count: usize, bound: u16) -> Vec<u8> {
+/// An action with a long range of effects over all fluents, no two of which give different values, and the choice of it
+/// twice. The effects hold where the condition does.
+fn long_effects(count: usize, condition: Condition, bound: u16) -> Vec<u8> {
     let mut source = Source::new("long effect ranges", bound);
     let fluents: Vec<Fluent> = (0..32).map(|number| source.fluent(&format!("fluent {number}"), 2, 0)).collect();
-    let effects = fluents.iter().cycle().take(count).map(|fluent| fluent.gets(1).when(FALSE));
+    let effects = fluents.iter().cycle().take(count).map(|fluent| fluent.gets(1).when(condition.clone()));
     let long = source.action("the long range", TRUE, effects);
     source.sheet(&sequence([star(choice([long.clone(), long])), test(FALSE)]))
 }
@@ -472,6 +481,15 @@ fn print_with_plan(Family { name, sheets }: Family) {
     }
 }
 
+/// The times that the test program tells.
+fn print_timed_cases() {
+    let program = Path::new(env!("CARGO_MANIFEST_DIR")).join("../../target/bin/timed_cases");
+    match Command::new(program).output() {
+        Ok(output) => print!("{}", String::from_utf8_lossy(&output.stderr)),
+        Err(error) => println!("{error}: `rt check timed_cases` in the repository's root makes the program"),
+    }
+}
+
 fn main() {
     println!("Buffers are not cleared before a call of the library: they hold garbage. Putting it there is not timed;");
     println!("the zeros that the library leaves are its own work, and are timed. The least time of all calls counts.");
@@ -484,4 +502,7 @@ fn main() {
     println!("With a plan, the same by the library and by sets: n moves, t transitions, under the bound D. The plain");
     println!("search gives another and is left out. To first: the library's time, the family's first row being 1.");
     with_plan().into_iter().for_each(print_with_plan);
+    println!();
+    println!("Performing 512 effects, none of which holds, with 32 fluents, by the verified code in the test program:");
+    print_timed_cases();
 }
