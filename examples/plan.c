@@ -100,12 +100,17 @@ static void print_entry(uint16_t entry)
     }
 }
 
+/* Words of index to lend to planning: any number will do, and a larger one may save time. */
+enum { INDEX = 4096 };
+
 /* Plans in a work area, prints the plan, and replays it. */
 static uint32_t plan(const uint8_t *sheet, size_t sheet_len, uint32_t *work, size_t words, size_t *place)
 {
     uint16_t trace[PLANNER_TRACE_MAX];
+    uint32_t index[INDEX];
     size_t n, t;
-    uint32_t number = planner_plan(sheet, sheet_len, work, words, trace, PLANNER_TRACE_MAX, &n, &t, place);
+    uint32_t number =
+        planner_plan(sheet, sheet_len, work, words, trace, PLANNER_TRACE_MAX, index, INDEX, &n, &t, place);
     if (number != 0) {
         return number;
     }

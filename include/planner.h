@@ -12,8 +12,12 @@
  *  - A slice is a pointer to its first element, which is aligned for its type, then the number of its elements. An
  *    empty slice may be a null pointer with length 0.
  *  - Sheets and histories are read only, and are never written. Nobody else writes them during the call.
- *  - Work, trace and the single results are written. No two of them overlap, nor does one overlap a sheet or a history.
- *    They may hold anything before the call.
+ *  - Work, trace, index and the single results are written. No two of them overlap, nor does one overlap a sheet or a
+ *    history. They may hold anything before the call.
+ *
+ * Index. planner_plan takes an index of configurations already explored (document 02, F-4), which may have any length
+ * from 0. The answer does not depend on it, nor what is left in trace and work: only the time does. An entry takes some
+ * 10 words; when the index is full nothing more is noted.
  *
  * Moves. An action is possible where its precondition holds and no two of its effects that hold give one fluent
  * different values (document 02, F-2); conditions are judged in the values before it.
@@ -46,14 +50,16 @@
  *   13  no run of at most D transitions ends final, and no run has D + 1: there is no plan at all
  *   14  none ends final, but some run has D + 1: there is no plan within the bound
  *
- * What is left in work and trace:
+ * What is left in work, trace and index:
  *
- *   number                  work                                          trace
- *   0 from planner_plan     the required words are 0, the rest untouched  the first n entries are the plan,
- *                                                                         the rest untouched
- *   0 from planner_replay   the required words are 0, the rest untouched  (none is lent)
- *   1 to 11                 untouched                                     untouched
- *   13, 14                  the required words are 0, the rest untouched  untouched
+ *   number                  work                          trace                                    index
+ *   0 from planner_plan     the required words are 0,     the first n entries are the plan,        all words are 0
+ *                           the rest untouched            the rest untouched
+ *   0 from planner_replay   the required words are 0,     (none is lent)                           (none is lent)
+ *                           the rest untouched
+ *   1 to 11                 untouched                     untouched                                untouched
+ *   13, 14                  the required words are 0,     untouched                                all words are 0
+ *                           the rest untouched
  */
 #ifndef PLANNER_H
 #define PLANNER_H
@@ -84,7 +90,7 @@ extern "C" {
 uint32_t planner_raw_check(const uint8_t *sheet, size_t sheet_len, size_t *words, size_t *place);
 uint32_t planner_raw_sizes(const uint8_t *sheet, size_t sheet_len, size_t *fluents, size_t *bound, size_t *place);
 uint32_t planner_raw_plan(const uint8_t *sheet, size_t sheet_len, uint32_t *work, size_t work_len, uint16_t *trace,
-                          size_t trace_len, size_t *n, size_t *t, size_t *place);
+                          size_t trace_len, uint32_t *index, size_t index_len, size_t *n, size_t *t, size_t *place);
 uint32_t planner_raw_replay(const uint8_t *sheet, size_t sheet_len, const uint16_t *history, size_t history_len,
                             uint32_t *work, size_t work_len, uint32_t *yes, size_t *place);
 uint32_t planner_raw_look_up(const uint8_t *sheet, size_t sheet_len, size_t fluent, size_t *size, size_t *initial,
@@ -118,17 +124,20 @@ static inline uint32_t planner_sizes(const uint8_t *sheet, size_t sheet_len, siz
  * final, and it is the first such plan (document 02, F-1): no run of fewer transitions ends final, and of those of as
  * many none has a smaller history: smaller at the first differing entry, a proper beginning counting as smaller. So a
  * higher D alone keeps *n, *t and these entries as they are. An entry is an action's number, PLANNER_START or
- * PLANNER_STOP. Work needs as many words as planner_check says, trace D entries; both may be longer.
+ * PLANNER_STOP. Work needs as many words as planner_check says, trace D entries; both may be longer. The index may have
+ * any length: a longer one may save time.
  * Numbers 1 to 11, 13 and 14.
  */
 static inline uint32_t planner_plan(const uint8_t *sheet, size_t sheet_len, uint32_t *work, size_t work_len,
-                                    uint16_t *trace, size_t trace_len, size_t *n, size_t *t, size_t *place)
+                                    uint16_t *trace, size_t trace_len, uint32_t *index, size_t index_len, size_t *n,
+                                    size_t *t, size_t *place)
 {
     const uint8_t no_sheet = 0;
     uint32_t no_work = 0;
     uint16_t no_trace = 0;
+    uint32_t no_index = 0;
     return planner_raw_plan(sheet ? sheet : &no_sheet, sheet_len, work ? work : &no_work, work_len,
-                            trace ? trace : &no_trace, trace_len, n, t, place);
+                            trace ? trace : &no_trace, trace_len, index ? index : &no_index, index_len, n, t, place);
 }
 
 /*

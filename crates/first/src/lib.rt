@@ -10,6 +10,7 @@ ghost use Rattle.demands.specs.Decoded.{boundOf};
 ghost use Rattle.demands.specs.Planning.{FirstPlan, verdictOf};
 ghost use Rattle.search.specs.Outcome.{Reported};
 ghost use Rattle.search.specs.Searching.{Standing};
+ghost use Rattle.explored.specs.Known.{Lasting};
 ghost use Rattle.first.specs.Settling.{historyOf, Within, notFound, transitionCount, anyRun, FoundSoFar, FewestFound, CanSettle, Settled, Answers};
 use search::Outcome;
 use search::Question;
@@ -45,21 +46,23 @@ fn lower(
     best: &mut [u16],
     flags: &mut [bool],
     numbers: &mut [u32],
+    index: &mut [u32],
     s: &[u8],
     found: Inspection,
     low: usize,
     o: Outcome,
 ) -> Outcome
-    requires { ⌜ Standing (now s) (now work) found (now flags) (now numbers) × (boundOf (now s) ≤ length (now best)) × FoundSoFar (now s) low (now best) o ⌝ }
+    requires { ⌜ Standing (now s) (now work) found (now flags) (now numbers) × (boundOf (now s) ≤ length (now best)) × FoundSoFar (now s) low (now best) o × Lasting (now s) (now index) ⌝ }
     ensures answer { λ r. ⌜ FewestFound (now (s .entry)) (now (best .exit)) r ⌝ }
     ensures stands { λ _. ⌜ Standing (now (s .entry)) (now (work .exit)) found (now (flags .exit)) (now (numbers .exit)) ⌝ }
+    ensures index { λ _. ⌜ Lasting (now (s .entry)) (now (index .exit)) ⌝ }
 {
     let none = [0u16; 1];
     let mut fewest = o;
     while low < transition_count(fewest) {
         let left = transition_count(fewest) - 1;
         let a = any_run(left, true);
-        let x = search::explore(work, best, flags, numbers, s, found, &none[..0], a);
+        let x = search::explore(work, best, flags, numbers, index, s, found, &none[..0], a);
         if !search::is_found(x) {
             return fewest;
         }
@@ -108,12 +111,14 @@ fn deepen(
     best: &mut [u16],
     flags: &mut [bool],
     numbers: &mut [u32],
+    index: &mut [u32],
     s: &[u8],
     found: Inspection,
 ) -> Outcome
-    requires { ⌜ Standing (now s) (now work) found (now flags) (now numbers) × (boundOf (now s) ≤ length (now best)) ⌝ }
+    requires { ⌜ Standing (now s) (now work) found (now flags) (now numbers) × (boundOf (now s) ≤ length (now best)) × Lasting (now s) (now index) ⌝ }
     ensures answer { λ r. ⌜ FewestFound (now (s .entry)) (now (best .exit)) r ⌝ }
     ensures stands { λ _. ⌜ Standing (now (s .entry)) (now (work .exit)) found (now (flags .exit)) (now (numbers .exit)) ⌝ }
+    ensures index { λ _. ⌜ Lasting (now (s .entry)) (now (index .exit)) ⌝ }
 {
     let l = found.layout;
     let d = l.d;
@@ -125,9 +130,9 @@ fn deepen(
         let t = next_bound(low, d, at_once);
         let begun = engine::surveys(numbers);
         let a = any_run(t, false);
-        let o = search::explore(work, best, flags, numbers, s, found, &none[..0], a);
+        let o = search::explore(work, best, flags, numbers, index, s, found, &none[..0], a);
         if !search::is_more(o) {
-            return lower(work, best, flags, numbers, s, found, low, o);
+            return lower(work, best, flags, numbers, index, s, found, low, o);
         }
         let cost = std::num::wrapping_sub_u32(engine::surveys(numbers), begun);
         at_once = doubles(before, cost);
@@ -163,6 +168,7 @@ fn ask(
     work: &mut [u32],
     flags: &mut [bool],
     numbers: &mut [u32],
+    index: &mut [u32],
     s: &[u8],
     found: Inspection,
     t: usize,
@@ -170,9 +176,10 @@ fn ask(
     i: usize,
     window: Window,
 ) -> Answer
-    requires { ⌜ Standing (now s) (now work) found (now flags) (now numbers) × (t ≤ boundOf (now s)) × Within h × (i ≤ h .n) ⌝ }
+    requires { ⌜ Standing (now s) (now work) found (now flags) (now numbers) × (t ≤ boundOf (now s)) × Within h × (i ≤ h .n) × Lasting (now s) (now index) ⌝ }
     ensures answer { λ r. ⌜ Answers (now (s .entry)) t h i window r ⌝ }
     ensures stands { λ _. ⌜ Standing (now (s .entry)) (now (work .exit)) found (now (flags .exit)) (now (numbers .exit)) ⌝ }
+    ensures index { λ _. ⌜ Lasting (now (s .entry)) (now (index .exit)) ⌝ }
 {
     let given = h.entries;
     let mut entries = h.entries;
@@ -182,7 +189,17 @@ fn ask(
         left: t,
         cut: true,
     };
-    let o = search::explore(work, &mut entries, flags, numbers, s, found, &given[..i], a);
+    let o = search::explore(
+        work,
+        &mut entries,
+        flags,
+        numbers,
+        index,
+        s,
+        found,
+        &given[..i],
+        a,
+    );
     match o {
         Outcome::Found { n, t: _ } => Answer {
             found: true,
@@ -210,22 +227,24 @@ fn narrow(
     work: &mut [u32],
     flags: &mut [bool],
     numbers: &mut [u32],
+    index: &mut [u32],
     s: &[u8],
     found: Inspection,
     t: usize,
     h: History,
     i: usize,
 ) -> History
-    requires { ⌜ Standing (now s) (now work) found (now flags) (now numbers) × CanSettle (now s) t × Settled (now s) t i h × (i ≤ h .n) ⌝ }
+    requires { ⌜ Standing (now s) (now work) found (now flags) (now numbers) × CanSettle (now s) t × Settled (now s) t i h × (i ≤ h .n) × Lasting (now s) (now index) ⌝ }
     ensures answer { λ r. ⌜ Settled (now (s .entry)) t (i + 1) r ⌝ }
     ensures stands { λ _. ⌜ Standing (now (s .entry)) (now (work .exit)) found (now (flags .exit)) (now (numbers .exit)) ⌝ }
+    ensures index { λ _. ⌜ Lasting (now (s .entry)) (now (index .exit)) ⌝ }
 {
     let mut best = h;
     let mut low = 0;
     let mut high = rank_at(h, i);
     while low < rank_at(best, i) {
         let window = Window { low, high };
-        let a = ask(work, flags, numbers, s, found, t, best, i, window);
+        let a = ask(work, flags, numbers, index, s, found, t, best, i, window);
         best = a.history;
         if !a.found {
             low = high;
@@ -240,19 +259,21 @@ fn grow(
     work: &mut [u32],
     flags: &mut [bool],
     numbers: &mut [u32],
+    index: &mut [u32],
     s: &[u8],
     found: Inspection,
     t: usize,
     h: History,
 ) -> History
-    requires { ⌜ Standing (now s) (now work) found (now flags) (now numbers) × CanSettle (now s) t × Settled (now s) t 0 h ⌝ }
+    requires { ⌜ Standing (now s) (now work) found (now flags) (now numbers) × CanSettle (now s) t × Settled (now s) t 0 h × Lasting (now s) (now index) ⌝ }
     ensures answer { λ r. ⌜ Within r × FirstPlan (now (s .entry)) (historyOf r) t ⌝ }
     ensures stands { λ _. ⌜ Standing (now (s .entry)) (now (work .exit)) found (now (flags .exit)) (now (numbers .exit)) ⌝ }
+    ensures index { λ _. ⌜ Lasting (now (s .entry)) (now (index .exit)) ⌝ }
 {
     let mut best = h;
     let mut settled = 0;
     while settled < best.n {
-        best = narrow(work, flags, numbers, s, found, t, best, settled);
+        best = narrow(work, flags, numbers, index, s, found, t, best, settled);
         settled += 1;
     }
     best
@@ -277,18 +298,28 @@ fn settle(
     trace: &mut [u16],
     flags: &mut [bool],
     numbers: &mut [u32],
+    index: &mut [u32],
     s: &[u8],
     found: Inspection,
     entries: [u16; sheet::MOST_TRANSITIONS],
     o: Outcome,
 ) -> Outcome
-    requires { ⌜ Standing (now s) (now work) found (now flags) (now numbers) × (boundOf (now s) ≤ length (now trace)) ⌝ }
+    requires { ⌜ Standing (now s) (now work) found (now flags) (now numbers) × (boundOf (now s) ≤ length (now trace)) × Lasting (now s) (now index) ⌝ }
     requires { ⌜ FewestFound (now s) entries o × (length entries ≡ 64) ⌝ }
     ensures answer { λ r. ⌜ Reported 0 0 (now (trace .entry)) (now (trace .exit)) r (verdictOf (now (s .entry))) ⌝ }
 {
     match o {
         Outcome::Found { n, t } => {
-            let h = grow(work, flags, numbers, s, found, t, History { entries, n });
+            let h = grow(
+                work,
+                flags,
+                numbers,
+                index,
+                s,
+                found,
+                t,
+                History { entries, n },
+            );
             hand_out(trace, h);
             Outcome::Found { n: h.n, t }
         }
@@ -297,18 +328,45 @@ fn settle(
     }
 }
 
-// The first plan of an accepted sheet; the work area is as long as required.
-pub fn plan(s: &[u8], found: Inspection, work: &mut [u32], trace: &mut [u16]) -> Outcome
+// The first plan of an accepted sheet; the work area is as long as required, the index of any length.
+pub fn plan(
+    s: &[u8],
+    found: Inspection,
+    work: &mut [u32],
+    trace: &mut [u16],
+    index: &mut [u32],
+) -> Outcome
     requires { ⌜ Of (now s) found × (length (now work) ≡ found .words) × (boundOf (now s) ≤ length (now trace)) ⌝ }
     ensures answer { λ r. ⌜ Reported 0 0 (now (trace .entry)) (now (trace .exit)) r (verdictOf (now (s .entry))) ⌝ }
     ensures work { λ _. ⌜ now (work .exit) ≡ replicate (length (now (work .entry))) 0 ⌝ }
+    ensures index { λ _. ⌜ now (index .exit) ≡ replicate (length (now (index .entry))) 0 ⌝ }
 {
     let mut flags = [false; engine::FLAGS];
     let mut numbers = [0u32; engine::NUMBERS];
     search::stand(work, &mut flags, &mut numbers, s, found);
+    index::begin(index);
     let mut entries = [0u16; sheet::MOST_TRANSITIONS];
-    let o = deepen(work, &mut entries, &mut flags, &mut numbers, s, found);
-    let r = settle(work, trace, &mut flags, &mut numbers, s, found, entries, o);
+    let o = deepen(
+        work,
+        &mut entries,
+        &mut flags,
+        &mut numbers,
+        index,
+        s,
+        found,
+    );
+    let r = settle(
+        work,
+        trace,
+        &mut flags,
+        &mut numbers,
+        index,
+        s,
+        found,
+        entries,
+        o,
+    );
     search::clear(work);
+    search::clear(index);
     r
 }

@@ -1,10 +1,12 @@
 // Reads a sheet from standard input and prints the plan: `found`, n, t and then one entry a line, or `refused`, number, place.
 use planner::Planned;
 
-// The words and the trace entries that the program lends, and the bytes that it reads.
+// The words, the trace entries and the words of index that the program lends, and the bytes that it reads.
 const WORDS: usize = 16384;
 
 const ENTRIES: usize = 64;
+
+const INDEX: usize = 32768;
 
 const BYTES: usize = 16384;
 
@@ -40,7 +42,8 @@ fn entries(trace: &[u16], n: usize) {
 fn report(sheet: &[u8]) {
     let mut work = [0u32; WORDS];
     let mut trace = [0u16; ENTRIES];
-    match planner::plan(sheet, &mut work, &mut trace) {
+    let mut index = [0u32; INDEX];
+    match planner::plan(sheet, &mut work, &mut trace, &mut index) {
         Planned::Found { n, t } => {
             line(b"found", n, t);
             entries(&trace, n);

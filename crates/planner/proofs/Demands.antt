@@ -1,10 +1,11 @@
--- Demands 1, 2 and 3 of the mission and F-1 of document 02, about the calls `plan` and `replay` as a user makes them: sheet, lent work and
--- lent trace in; answer and final content of the lent slices out. The contracts in src/lib.rt say that the calls equal answerOf, traceOf,
--- planWork, replyOf and replayWork (specs/Answers.antt); the theorems here say what those are, in the demands' words. Assumes nothing.
+-- Demands 1, 2 and 3 of the mission and F-1 and F-4 of document 02, about the calls `plan` and `replay` as a user makes them: sheet, lent
+-- work, trace and index in; answer and final content of the lent slices out. The contracts in src/lib.rt say that the calls equal answerOf,
+-- traceOf, planWork, indexOf, replyOf and replayWork (specs/Answers.antt); the theorems here say what those are, in the demands' words.
+-- Assumes nothing.
 use mathlib.Core.Path.{_≡_, refl, sym, _∙_, ap, ap₂, subst}
 use mathlib.Core.Bool.{Bool, true, false, cond}
-use mathlib.Core.List.{List, _++_, List·Memᴰ}
-use mathlib.Core.Logic.{_↔_, Iff·trans}
+use mathlib.Core.List.{List, [], _++_, List·Memᴰ}
+use mathlib.Core.Logic.{_⊎_, _↔_, inl, inr, ⊎-elim, Iff·trans}
 use Prim.Native.Nat.{ℕ, _≤_, _<_}
 use native.Mathlib.Omega.{arith}
 use borrow.Author.Tests.{lt-ltb, le-ltb}
@@ -16,6 +17,7 @@ use Rattle.height.specs.Work.{workWords}
 use Rattle.sheet.specs.Check.{refusalOf, checkOf}
 use Rattle.sheet.specs.declared.Refusal.{Refusal}
 use Rattle.sheet.specs.Notes.{FirstRecord, withNotes}
+use Rattle.sheet.proofs.Numbers.{Numbered, numbered}
 use Rattle.sheet.proofs.OtherNotes.{check-same, tables-same}
 use Rattle.sheet.specs.declared.Checked.{Checked}
 use Rattle.sheet.specs.declared.Checked.the-variants as checked
@@ -31,9 +33,11 @@ use Rattle.demands.proofs.Demands.{raised-alone, raised-accepted, raised-plan-s
 use Rattle.demands.proofs.Entries.{unknown-entry-no}
 use Rattle.demands.proofs.Notes.{bound-same, plan-same, replay-same}
 use Rattle.planner.specs.Answers.{Stage, refused, searching, withWork, planStage, replayStage, planChecked, replayChecked}
-use Rattle.planner.specs.Answers.{answerAs, planAt, traced, traceAt, workAt, answerOf, traceOf, planWork, reply, replayAt, replyOf, replayWork}
+use Rattle.planner.specs.Answers.{answerAs, planAt, traced, traceAt, workAt, indexAt, answerOf, traceOf, planWork, indexOf, Called}
+use Rattle.planner.specs.Answers.{reply, replayAt, replyOf, replayWork}
 use Rattle.planner.specs.Numbers.{planNumber, planMoves, planTransitions, replyNumber, replyYes, sizesBound}
 use Rattle.planner.specs.Sizes.{sizedAs, sizesOf}
+use Rattle.planner.specs.declared.Planned.{Planned}
 use Rattle.planner.specs.declared.Planned.the-variants as planned
 use Rattle.planner.specs.declared.Replayed.the-variants as replayed
 use Rattle.planner.specs.declared.Sized.the-variants as sized
@@ -53,11 +57,13 @@ module _ (s : List ℕ) (why : Refusal) (cause : checkOf s ≡ checked.Refused w
   unfolding replyOf
   sheet-refused-reply h work = ap (λ (c : Stage). replayAt s h c) (ap (replayChecked work) cause)
 
-  pub sheet-untouched : (work trace : List ℕ) → (traceOf s (length work) trace ≡ trace) × (planWork s work (length trace) ≡ work) × (replayWork s work ≡ work)
-  unfolding traceOf planWork replayWork
-  sheet-untouched work trace = (
+  pub sheet-untouched : (work trace index : List ℕ) → (traceOf s (length work) trace ≡ trace) × (planWork s work (length trace) ≡ work) ×
+      (indexOf s (length work) (length trace) index ≡ index) × (replayWork s work ≡ work)
+  unfolding traceOf planWork indexOf replayWork
+  sheet-untouched work trace index = (
     ap (λ (c : Stage). traceAt s c trace) (sheet-stage (length work) (length trace)),
     ap (λ (c : Stage). workAt c work) (sheet-stage (length work) (length trace)),
+    ap (λ (c : Stage). indexAt c index) (sheet-stage (length work) (length trace)),
     ap (λ (c : Stage). workAt c work) (ap (replayChecked (length work)) cause),
   )
 
@@ -73,9 +79,15 @@ module _ (s : List ℕ) (w : ℕ) (accepted : checkOf s ≡ checked.Accepted w) 
     stage-ten : planStage s (length work) (length trace) ≡ refused (refusalOf 10 0)
     stage-ten = ap (planChecked s (length work) (length trace)) accepted ∙ simp (lt-ltb (length trace) (boundOf s) short)
 
-    pub ten : (answerOf s (length work) (length trace) ≡ planned.Refused (refusalOf 10 0)) × (traceOf s (length work) trace ≡ trace) × (planWork s work (length trace) ≡ work)
-    unfolding answerOf traceOf planWork
-    ten = (ap (planAt s) stage-ten, ap (λ (c : Stage). traceAt s c trace) stage-ten, ap (λ (c : Stage). workAt c work) stage-ten)
+    pub ten : (index : List ℕ) → (answerOf s (length work) (length trace) ≡ planned.Refused (refusalOf 10 0)) × (traceOf s (length work) trace ≡ trace) ×
+        (planWork s work (length trace) ≡ work) × (indexOf s (length work) (length trace) index ≡ index)
+    unfolding answerOf traceOf planWork indexOf
+    ten index = (
+      ap (planAt s) stage-ten,
+      ap (λ (c : Stage). traceAt s c trace) stage-ten,
+      ap (λ (c : Stage). workAt c work) stage-ten,
+      ap (λ (c : Stage). indexAt c index) stage-ten,
+    )
 
   -- 11, where the work area is shorter than required
   module _ (work : List ℕ) (short : length work < w) where
@@ -87,12 +99,16 @@ module _ (s : List ℕ) (w : ℕ) (accepted : checkOf s ≡ checked.Accepted w) 
         ap (planChecked s (length work) (length trace)) accepted
         ∙ simp (le-ltb (length trace) (boundOf s) long, lt-ltb (length work) w short)
 
-    pub eleven : (trace : List ℕ) → boundOf s ≤ length trace → (answerOf s (length work) (length trace) ≡ planned.Refused (refusalOf 11 0)) × (traceOf s (length work) trace ≡ trace) ×
-        (planWork s work (length trace) ≡ work)
-    unfolding answerOf traceOf planWork
-    eleven trace long =
-        let e = plan-stage-eleven trace long in
-        (ap (planAt s) e, ap (λ (c : Stage). traceAt s c trace) e, ap (λ (c : Stage). workAt c work) e)
+    pub eleven : (trace index : List ℕ) → boundOf s ≤ length trace → (answerOf s (length work) (length trace) ≡ planned.Refused (refusalOf 11 0)) ×
+        (traceOf s (length work) trace ≡ trace) × (planWork s work (length trace) ≡ work) × (indexOf s (length work) (length trace) index ≡ index)
+    unfolding answerOf traceOf planWork indexOf
+    eleven trace index long =
+        let e = plan-stage-eleven trace long in (
+          ap (planAt s) e,
+          ap (λ (c : Stage). traceAt s c trace) e,
+          ap (λ (c : Stage). workAt c work) e,
+          ap (λ (c : Stage). indexAt c index) e,
+        )
 
     pub eleven-reply : (h : List ℕ) → (replyOf s h (length work) ≡ replayed.Refused (refusalOf 11 0)) × (replayWork s work ≡ work)
     unfolding replyOf replayWork
@@ -157,9 +173,10 @@ module _ (s : List ℕ) (w : ℕ) (accepted : checkOf s ≡ checked.Accepted w) 
           ap (planChecked s (length work) (length trace)) accepted
           ∙ simp (le-ltb (length trace) (boundOf s) long, le-ltb (length work) w enough)
 
-      pub plan-cleared : planWork s work (length trace) ≡ replicate w 0 ++ drop w work
-      unfolding planWork
-      plan-cleared = ap (λ (c : Stage). workAt c work) stage-plan
+      -- and the whole index is 0
+      pub plan-cleared : (index : List ℕ) → (planWork s work (length trace) ≡ replicate w 0 ++ drop w work) × (indexOf s (length work) (length trace) index ≡ replicate (length index) 0)
+      unfolding planWork indexOf
+      plan-cleared index = (ap (λ (c : Stage). workAt c work) stage-plan, ap (λ (c : Stage). indexAt c index) stage-plan)
 
       pub answer-is : answerOf s (length work) (length trace) ≡ answerAs (planOf s)
       unfolding answerOf
@@ -270,6 +287,69 @@ module _ (s : List ℕ) (w : ℕ) (accepted : checkOf s ≡ checked.Accepted w) 
       pub trace-untouched : (k : ℕ) → 1 ≤ k → planNumber (answerOf s (length work) (length trace)) ≡ k → traceOf s (length work) trace ≡ trace
       trace-untouched k l e = trace-is ∙ ap (λ (a : meant.PlanAnswer). traced a trace) (number-iff k l .0 e)
 
+-- Document 02, F-4, about every call of `plan`, whatever it was lent
+
+-- numbers 1 to 11 turn a call away; without one, or under 13 and 14, it searched
+abbrev NumberedAt : (number : ℕ) → Stage → Type 0
+NumberedAt k (refused why) = (1 ≤ k) × (k ≤ 11)
+NumberedAt k (searching w) = (k ≡ 0) ⊎ (11 < k)
+
+stage-numbered : (s : List ℕ) (work trace : ℕ) → NumberedAt (planNumber (answerOf s work trace)) (planStage s work trace)
+unfolding answerOf
+stage-numbered s work trace = go (checkOf s) refl (numbered s)
+  where
+    searched : (v : Verdict) → (planNumber (answerAs (answer v)) ≡ 0) ⊎ (11 < planNumber (answerAs (answer v)))
+    searched (plan h t) = inl refl
+    searched nothing = inr (omega arith)
+    searched more = inr (omega arith)
+
+    lent : (w : ℕ) → checkOf s ≡ checked.Accepted w → (b c : Bool)
+        → (let g = cond b (refused (refusalOf 10 0)) (cond c (refused (refusalOf 11 0)) (searching w)) in NumberedAt (planNumber (planAt s g)) g)
+    lent w e true c = (omega arith, omega arith)
+    lent w e false true = (omega arith, omega arith)
+    lent w e false false =
+        subst (λ (a : meant.PlanAnswer). (planNumber (answerAs a) ≡ 0) ⊎ (11 < planNumber (answerAs a))) (sym (plan-is s (w, e))) (searched (verdictOf s))
+
+    go : (x : Checked) → checkOf s ≡ x → Numbered x → NumberedAt (planNumber (planAt s (planChecked s work trace x))) (planChecked s work trace x)
+    go (checked.Accepted w) e n = lent w e (ltb trace (boundOf s)) (ltb work w)
+    go (checked.Refused why) e n = (n .0, omega (arith, n .1))
+
+module _ (s work trace index : List ℕ) (a : Planned) (work′ trace′ index′ : List ℕ) (call : Called s work trace index a work′ trace′ index′) where
+  call-numbered : NumberedAt (planNumber a) (planStage s (length work) (length trace))
+  call-numbered =
+      subst (λ (b : Planned). NumberedAt (planNumber b) (planStage s (length work) (length trace))) (sym (call .answered))
+      (stage-numbered s (length work) (length trace))
+
+  -- "After a search the whole index is 0": where a plan, 13 or 14 came out
+  pub index-cleared : (planNumber a ≡ 0) ⊎ ((planNumber a ≡ 13) ⊎ (planNumber a ≡ 14)) → index′ ≡ replicate (length index) 0
+  unfolding indexOf
+  index-cleared e = call .in-index ∙ go (planStage s (length work) (length trace)) call-numbered
+    where
+      none : (1 ≤ planNumber a) × (planNumber a ≤ 11) → ⊥
+      none l = ⊎-elim (λ e. omega (arith, l)) (⊎-elim (λ e. omega (arith, l)) (λ e. omega (arith, l))) e
+
+      go : (c : Stage) → NumberedAt (planNumber a) c → indexAt c index ≡ replicate (length index) 0
+      go (refused why) l = absurd (none l)
+      go (searching w) l = refl
+
+  -- "under 1 to 11 it is untouched"
+  pub index-untouched : 1 ≤ planNumber a → planNumber a ≤ 11 → index′ ≡ index
+  unfolding indexOf
+  index-untouched low high = call .in-index ∙ go (planStage s (length work) (length trace)) call-numbered
+    where
+      go : (c : Stage) → NumberedAt (planNumber a) c → indexAt c index ≡ index
+      go (refused why) l = refl
+      go (searching w) l = absurd (⊎-elim (λ e. omega (arith, low)) (λ e. omega (arith, high)) l)
+
+  -- "On every sheet the verdict and trace with an index of any length equal those with length 0", and so is what is left in work
+  pub index-changes-nothing : (a₀ : Planned) (work₀ trace₀ index₀ : List ℕ) → Called s work trace [] a₀ work₀ trace₀ index₀
+      → (a ≡ a₀) × (trace′ ≡ trace₀) × (work′ ≡ work₀)
+  index-changes-nothing a₀ work₀ trace₀ index₀ without = (
+    call .answered ∙ sym (without .answered),
+    call .in-trace ∙ sym (without .in-trace),
+    call .in-work ∙ sym (without .in-work),
+  )
+
 -- "Raising D alone keeps a plan a plan and 13 a 13": an accepted sheet, with a higher D put in; the areas lent for writing are long
 -- enough for each call and hold anything
 module _
@@ -347,6 +427,10 @@ module _ (s other : List ℕ) (first : FirstRecord s) where
     ap (λ (c : Stage). workAt c work) (stage-same (length work) trace),
     ap (λ (c : Checked). workAt (replayChecked (length work) c) work) (check-same s other first),
   )
+
+  pub index-same : (work trace : ℕ) (index : List ℕ) → indexOf (withNotes s other) work trace index ≡ indexOf s work trace index
+  unfolding indexOf
+  index-same work trace index = ap (λ (c : Stage). indexAt c index) (stage-same work trace)
 
   pub sizes-same : sizesOf (withNotes s other) ≡ sizesOf s
   unfolding sizesOf

@@ -1,7 +1,8 @@
--- To be believed: what planning and replay answer and leave, for every input (document 01, "Work area" and "Who can cause which number"),
--- over what `demands` says of the sheet alone. Which plan and which t come out document 02 decides (F-1): the first plan's, by
--- proofs/Demands.antt. Assumes nothing.
+-- To be believed: what planning and replay answer and leave, for every input (document 01, "Work area" and "Who can cause which number";
+-- document 02, F-4, for the index), over what `demands` says of the sheet alone. Which plan and which t come out document 02 decides (F-1):
+-- the first plan's, by proofs/Demands.antt. Assumes nothing.
 use Prim.Native.Nat.{ℕ}
+use mathlib.Core.Path.{_≡_}
 use mathlib.Core.Bool.{true, false, cond}
 use mathlib.Core.List.{List, _++_}
 use lib.ListN.{length, drop, replicate}
@@ -66,6 +67,11 @@ abbrev pub workAt : Stage → List ℕ → List ℕ
 workAt (refused why) work = work
 workAt (searching w) work = replicate w 0 ++ drop w work
 
+-- the index: "After a search the whole index is 0; under 1 to 11 it is untouched" (document 02, F-4)
+abbrev pub indexAt : Stage → List ℕ → List ℕ
+indexAt (refused why) index = index
+indexAt (searching w) index = replicate (length index) 0
+
 -- what `plan` answers and leaves
 unfoldable pub answerOf : List ℕ → (work trace : ℕ) → Planned
 answerOf s work trace = planAt s (planStage s work trace)
@@ -75,6 +81,16 @@ traceOf s work trace = traceAt s (planStage s work (length trace)) trace
 
 unfoldable pub planWork : List ℕ → List ℕ → (trace : ℕ) → List ℕ
 planWork s work trace = workAt (planStage s (length work) trace) work
+
+unfoldable pub indexOf : List ℕ → (work trace : ℕ) → List ℕ → List ℕ
+indexOf s work trace index = indexAt (planStage s work trace) index
+
+-- a call of `plan` that was lent sheet, work, trace and index gave this answer and left the last three so: the four clauses of its contract
+pub record Called (s work trace index : List ℕ) (answer : Planned) (work′ trace′ index′ : List ℕ) : Type 0 where
+  pub answered : answer ≡ answerOf s (length work) (length trace)
+  pub in-trace : trace′ ≡ traceOf s (length work) trace
+  pub in-work : work′ ≡ planWork s work (length trace)
+  pub in-index : index′ ≡ indexOf s (length work) (length trace) index
 
 -- what `replay` answers and leaves
 abbrev pub reply : meant.ReplayAnswer → Replayed

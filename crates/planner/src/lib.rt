@@ -6,7 +6,7 @@ ghost use Rattle.sheet.specs.Check.{refusalOf, checkOf, numberOf, placeOf};
 ghost use Rattle.sheet.specs.Notes.{notesOf};
 ghost use Rattle.sheet.specs.Inspection.{Of};
 ghost use Rattle.lookup.specs.LookUp.{lookOf};
-ghost use Rattle.planner.specs.Answers.{answerOf, traceOf, planWork, replyOf, replayWork};
+ghost use Rattle.planner.specs.Answers.{answerOf, traceOf, planWork, indexOf, replyOf, replayWork};
 ghost use Rattle.planner.specs.declared.Planned.the-variants.{Refused};
 ghost use Rattle.planner.specs.Reports.{plannedAs, repliedAs};
 ghost use Rattle.planner.specs.Sizes.{sizesOf};
@@ -107,11 +107,18 @@ fn reply_of(accepted: bool) -> Replayed
 }
 
 // Plans on a sheet of which so much was found.
-fn plan_found(s: &[u8], found: Inspection, work: &mut [u32], trace: &mut [u16]) -> Planned
+fn plan_found(
+    s: &[u8],
+    found: Inspection,
+    work: &mut [u32],
+    trace: &mut [u16],
+    index: &mut [u32],
+) -> Planned
     requires { ⌜ Of (now s) found ⌝ }
     ensures answer { λ r. ⌜ r ≡ answerOf (now (s .entry)) (length (now (work .entry))) (length (now (trace .entry))) ⌝ }
     ensures trace { λ _. ⌜ now (trace .exit) ≡ traceOf (now (s .entry)) (length (now (work .entry))) (now (trace .entry)) ⌝ }
     ensures work { λ _. ⌜ now (work .exit) ≡ planWork (now (s .entry)) (now (work .entry)) (length (now (trace .entry))) ⌝ }
+    ensures index { λ _. ⌜ now (index .exit) ≡ indexOf (now (s .entry)) (length (now (work .entry))) (length (now (trace .entry))) (now (index .entry)) ⌝ }
 {
     let l = found.layout;
     let d = l.d;
@@ -122,18 +129,19 @@ fn plan_found(s: &[u8], found: Inspection, work: &mut [u32], trace: &mut [u16]) 
     if work.len() < words {
         return refused(11);
     }
-    answer_of(first::plan(s, found, &mut work[..words], trace))
+    answer_of(first::plan(s, found, &mut work[..words], trace, index))
 }
 
 // Plans: the first plan, or why there is none: of the runs of at most D transitions that end final those of fewest transitions, and of their
 // histories the smallest.
-pub fn plan(s: &[u8], work: &mut [u32], trace: &mut [u16]) -> Planned
+pub fn plan(s: &[u8], work: &mut [u32], trace: &mut [u16], index: &mut [u32]) -> Planned
     ensures answer { λ r. ⌜ r ≡ answerOf (now (s .entry)) (length (now (work .entry))) (length (now (trace .entry))) ⌝ }
     ensures trace { λ _. ⌜ now (trace .exit) ≡ traceOf (now (s .entry)) (length (now (work .entry))) (now (trace .entry)) ⌝ }
     ensures work { λ _. ⌜ now (work .exit) ≡ planWork (now (s .entry)) (now (work .entry)) (length (now (trace .entry))) ⌝ }
+    ensures index { λ _. ⌜ now (index .exit) ≡ indexOf (now (s .entry)) (length (now (work .entry))) (length (now (trace .entry))) (now (index .entry)) ⌝ }
 {
     match sheet::inspect(s) {
-        Inspected::Accepted { found } => plan_found(s, found, work, trace),
+        Inspected::Accepted { found } => plan_found(s, found, work, trace, index),
         Inspected::Refused { why } => Planned::Refused { why },
     }
 }

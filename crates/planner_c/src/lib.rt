@@ -5,7 +5,7 @@ ghost use mathlib.Core.Path.{_≡_};
 ghost use lib.ListN.{length};
 ghost use Rattle.sheet.specs.Check.{checkOf, numberOf, placeOf, wordsOf};
 ghost use Rattle.sheet.specs.Notes.{notesOf};
-ghost use Rattle.planner.specs.Answers.{answerOf, traceOf, planWork, replyOf, replayWork};
+ghost use Rattle.planner.specs.Answers.{answerOf, traceOf, planWork, indexOf, replyOf, replayWork};
 ghost use Rattle.lookup.specs.LookUp.{lookOf, lookNumber, lookPlace, lookSize, lookInitial};
 ghost use Rattle.planner.specs.Numbers.{planNumber, planPlace, planMoves, planTransitions, replyNumber, replyPlace, replyYes, sizesNumber, sizesPlace, sizesFluents, sizesBound};
 ghost use Rattle.planner.specs.Sizes.{sizesOf};
@@ -71,6 +71,7 @@ pub extern "C" fn planner_raw_plan(
     sheet: &[u8],
     work: &mut [u32],
     trace: &mut [u16],
+    index: &mut [u32],
     n: &mut usize,
     t: &mut usize,
     place: &mut usize,
@@ -81,8 +82,9 @@ pub extern "C" fn planner_raw_plan(
     ensures place { λ _. ⌜ now (place .exit) ≡ planPlace (answerOf (now (sheet .entry)) (length (now (work .entry))) (length (now (trace .entry)))) ⌝ }
     ensures trace { λ _. ⌜ now (trace .exit) ≡ traceOf (now (sheet .entry)) (length (now (work .entry))) (now (trace .entry)) ⌝ }
     ensures work { λ _. ⌜ now (work .exit) ≡ planWork (now (sheet .entry)) (now (work .entry)) (length (now (trace .entry))) ⌝ }
+    ensures index { λ _. ⌜ now (index .exit) ≡ indexOf (now (sheet .entry)) (length (now (work .entry))) (length (now (trace .entry))) (now (index .entry)) ⌝ }
 {
-    match planner::plan(sheet, work, trace) {
+    match planner::plan(sheet, work, trace, index) {
         Planned::Found {
             n: moves,
             t: transitions,

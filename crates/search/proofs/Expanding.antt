@@ -23,12 +23,14 @@ use Rattle.engine.proofs.Frames.{next-at, frame-kept}
 use Rattle.engine.proofs.Tables.{stands, filled-none, filled-then}
 use Rattle.search.specs.Outcome.{Reported, isFound, isMore, told}
 use Rattle.search.specs.Moves.{passes, noted}
-use Rattle.search.specs.Searching.{verdictFrom, branchesOf, Ready, configured, guideOf, verdictAt, branchesAt, Unknown, LookedAt, Going, Preserves, Expanded, Follows}
+use Rattle.search.specs.Searching.{verdictFrom, branchesOf, Ready, configured, guideOf, verdictAt, branchesAt, SearchedAs, Unknown, LookedAt, Going, Preserves}
+use Rattle.search.specs.Searching.{Expanded, Follows}
 use Rattle.search.specs.declared.Task.{Task}
 use Rattle.search.specs.declared.Visit.{Visit}
 use Rattle.search.specs.declared.Seen.{Seen}
 use Rattle.search.specs.declared.Outcome.{Outcome}
 use Rattle.search.proofs.Rows.{tried-found, tried-more, tried-none, flag-reported, told-more}
+use Rattle.search.proofs.Noting.{unfound-flag}
 use Rattle.search.proofs.Trying.{First, ahead-same, first, leads, back, forth}
 
 -- what came of where a transition of q led, the visit v: looked at, or searched on from there
@@ -46,6 +48,17 @@ pub as-left :
     → Searched s w w″ moves trace trace″ t q v cut p flags flags″ numbers numbers″ o′ stale′
     → Searched s w w′ moves trace trace′ t q v cut p flags flags′ numbers numbers′ o stale
 as-left ew et ef en es eo Q = rw (ew, et, ef, en, es, eo) Q
+
+-- what the index may be told of it
+pub searched-as :
+    {s w w′ moves trace trace′ : List ℕ} {n : ℕ} {t : Task} {q v : Visit} {cut : Bool} {p : Prog} {flags flags′ : List Bool} {numbers numbers′ : List ℕ} {o : Outcome} {stale : Bool}
+    → Ready s w moves n t v p → Searched s w w′ moves trace trace′ t q v cut p flags flags′ numbers numbers′ o stale → SearchedAs s w′ moves t v cut o
+searched-as {w′ = w′} {p = p} R Q = record {
+  program = p;
+  visited = record { of = R .visited .of; frame = frame-kept (R .visited .frame) w′ (Q .preserves .kept); used-up = R .visited .used-up };
+  few-left = omega (arith, R .deep);
+  tells = λ e. unfound-flag _ _ _ _ _ _ (Q .reported .says) e;
+}
 
 module _
     (trace : List ℕ) {s w moves : List ℕ} {t : Task} {q v : Visit} {x : Taken} {cut : Bool} {p : Prog} {flags flags₂ : List Bool} {numbers numbers₂ : List ℕ} {a : Seen}

@@ -5,3 +5,4 @@ pub mod Trying
 pub mod Expanding
 pub mod Starting
 pub mod Reporting
+pub mod Noting

@@ -26,12 +26,12 @@ use Rattle.search.specs.declared.Outcome.{Outcome}
 abbrev starting : Question → State → Visit
 starting a st = record { depth = 0; left = a .left; given = record { used = 0; free = a .free }; n = 0; state = st }
 
-abbrev asked : Inspection → Question → Task
-asked found a = record { found = found; window = a .window }
+abbrev pub asked : Inspection → Question → (round : ℕ) → Task
+asked found a r = record { found = found; window = a .window; round = r }
 
-module _ (moves trace : List ℕ) (a : Question) {s w : List ℕ} {found : Inspection} {st : State} {flags : List Bool} {numbers : List ℕ}
+module _ (moves trace : List ℕ) (a : Question) (r : ℕ) {s w : List ℕ} {found : Inspection} {st : State} {flags : List Bool} {numbers : List ℕ}
     (S : Standing s w found flags numbers) (l : a .left ≤ boundOf s) (m : a .left ≤ length trace) (i : st ≡ initialOf s) where
-  pub at-first : Ready s w moves (length trace) (asked found a) (starting a st) (firstOf s .0)
+  pub at-first : Ready s w moves (length trace) (asked found a r) (starting a st) (firstOf s .0)
   at-first =
       let f = laid s (S .of .accepted) in
       record {
@@ -42,21 +42,21 @@ module _ (moves trace : List ℕ) (a : Question) {s w : List ℕ} {found : Inspe
       }
 
   on-first :
-      {trace′ : List ℕ} {o : Outcome} → Reported 0 0 trace trace′ o (verdictAt s moves (asked found a) (starting a st) (a .cut) (firstOf s .0))
+      {trace′ : List ℕ} {o : Outcome} → Reported 0 0 trace trace′ o (verdictAt s moves (asked found a r) (starting a st) (a .cut) (firstOf s .0))
       → Reported 0 0 trace trace′ o (verdictOn s moves a)
   on-first {trace′} {o} =
       subst (λ (x : State). Reported 0 0 trace trace′ o (join (flagged (a .cut)) (verdictFrom s (a .left) ((firstOf s .0, x), guideAs (a .free) moves (a .window))))) i
 
-  module _ {flags′ : List Bool} {numbers′ : List ℕ} {x : Seen} (A : LookedAt s w moves (asked found a) (starting a st) (a .cut) flags flags′ numbers numbers′ x) where
+  module _ {flags′ : List Bool} {numbers′ : List ℕ} {x : Seen} (A : LookedAt s w moves (asked found a r) (starting a st) (a .cut) flags flags′ numbers numbers′ x) where
     -- it was told by a look
     pub seen-first : x .known ≡ true → Reported 0 0 trace trace (x .outcome) (verdictOn s moves a) × Standing s w found flags′ numbers′
     seen-first e = (on-first (A .known (firstOf s .0) (at-first .visited) e trace), record { of = S .of; frame = S .frame; prepared = A .prepared })
 
     module _ (e : x .known ≡ false) where
-      abbrev unknown : Unknown s moves (asked found a) (starting a st) (a .cut) (firstOf s .0) flags′ numbers′ x
+      abbrev unknown : Unknown s moves (asked found a r) (starting a st) (a .cut) (firstOf s .0) flags′ numbers′ x
       unknown = A .unknown (firstOf s .0) (at-first .visited) e
 
-      abbrev pub from-first : Going s w moves (length trace) (asked found a) (starting a st) (x .cursor) flags′ numbers′
+      abbrev pub from-first : Going s w moves (length trace) (asked found a r) (starting a st) (x .cursor) flags′ numbers′
       from-first = record {
         program = firstOf s .0;
         ready = at-first;
@@ -69,7 +69,7 @@ module _ (moves trace : List ℕ) (a : Question) {s w : List ℕ} {found : Inspe
       -- its transitions were tried
       pub tried-first :
           {w″ trace″ : List ℕ} {flags″ : List Bool} {numbers″ : List ℕ} {o : Outcome}
-          → Expanded s w moves trace trace″ (asked found a) (starting a st) (a .cut) (x .cursor) flags′ numbers′ o
+          → Expanded s w moves trace trace″ (asked found a r) (starting a st) (a .cut) (x .cursor) flags′ numbers′ o
           → Preserves s w w″ (starting a st) flags′ flags″ numbers′ numbers″
           → Reported 0 0 trace trace″ o (verdictOn s moves a) × Standing s w″ found flags″ numbers″
       tried-first {w″} {trace″} {o = o} E P = (

@@ -16,10 +16,11 @@ use Rattle.sheet.specs.Inspection.{Of}
 use Rattle.sheet.specs.declared.Inspection.{Inspection}
 use Rattle.engine.specs.Frames.{Frame, KeptFrames}
 use Rattle.engine.specs.Going.{transitionsOf, Ahead, moveOf}
+use Rattle.explored.specs.Known.{Known}
 use Rattle.engine.specs.declared.Cursor.{Cursor}
 use Rattle.engine.specs.declared.Taken.{Taken}
-use Rattle.search.specs.Outcome.{Reported}
-use Rattle.search.specs.Moves.{guideAs, guideAt, leftOver, entries}
+use Rattle.search.specs.Outcome.{Reported, isFound, isMore}
+use Rattle.search.specs.Moves.{guideAs, guideAt, guideFor, leftOver, entries}
 use Rattle.search.specs.declared.Question.{Question}
 use Rattle.search.specs.declared.Task.{Task}
 use Rattle.search.specs.declared.Visit.{Visit}
@@ -71,6 +72,18 @@ verdictAt s moves t q cut p = join (flagged cut) (verdictFrom s (q .left) (confi
 -- the verdict on its transitions xs, beside that
 abbrev pub branchesAt : List ℕ → List ℕ → Task → Visit → (cut : Bool) → List Transition → Verdict
 branchesAt s moves t q cut xs = join (flagged cut) (branchesOf s (q .left) (guideOf moves t q) xs)
+
+-- the index is true for what the search asks
+pub record Told (s moves : List ℕ) (t : Task) (index : List ℕ) : Type 0 where
+  pub few : length moves ≤ 64
+  pub known : Known s (guideFor moves (t .window)) (t .round) index
+
+-- a visit was searched on from: the verdict on it, where that is no plan, is what the outcome tells
+pub record SearchedAs (s w moves : List ℕ) (t : Task) (q : Visit) (cut : Bool) (o : Outcome) : Type 0 where
+  pub program : Prog
+  pub visited : Visited s w moves t q program
+  pub few-left : q .left ≤ 64
+  pub tells : isFound o ≡ false → verdictAt s moves t q cut program ≡ flagged (isMore o)
 
 -- looked at without a transition: the outcome is known, or the verdict is that on all transitions, which are ahead of the cursor
 pub record Unknown (s moves : List ℕ) (t : Task) (q : Visit) (cut : Bool) (p : Prog) (flags : List Bool) (numbers : List ℕ) (r : Seen) : Type 0 where

@@ -9,7 +9,7 @@ ghost use Rattle.steps.specs.Laid.{testCode};
 ghost use Rattle.engine.specs.Going.{moveOf};
 ghost use Rattle.search.specs.Outcome.{isFound};
 ghost use Rattle.search.specs.declared.Window.{Window};
-ghost use Rattle.search.specs.Moves.{guideAt, passes, leftOver, entries, noted};
+ghost use Rattle.search.specs.Moves.{guideAt, labelOf, passes, leftOver, entries, noted};
 use crate::Given;
 use crate::Outcome;
 use crate::Window;
@@ -59,6 +59,14 @@ pub fn given_after(moves: &[u16], g: Given, entry: u32) -> Given
         };
     }
     Given { used, free: true }
+}
+
+// What is left of the guide, as a number: 0 where nothing is asked any more, else one more than the moves used.
+pub fn label_of(g: Given) -> usize
+    requires { ⌜ g .used ≤ 64 ⌝ }
+    ensures { λ r. ⌜ r ≡ labelOf g ⌝ }
+{
+    if g.free { 0 } else { g.used + 1 }
 }
 
 // How many entries a transition puts into a history.

@@ -9,10 +9,13 @@ ghost use Rattle.demands.specs.Planning.{acceptsOf};
 ghost use Rattle.engine.specs.Tables.{flagPlaces, numberPlaces, Prepared, Surveyed, Filled};
 ghost use Rattle.sheet.specs.Inspection.{Of};
 ghost use Rattle.engine.specs.Frames.{Frame};
+ghost use Rattle.explored.specs.Known.{Lasting};
 ghost use Rattle.search.specs.Outcome.{Reported, isFound, isMore, told};
-ghost use Rattle.search.specs.Searching.{verdictOn, Standing, Visited, LookedAt, Going, Preserves, Expanded, Follows};
+ghost use Rattle.search.specs.Moves.{subjectOf};
+ghost use Rattle.search.specs.Searching.{verdictOn, Standing, Visited, Told, SearchedAs, LookedAt, Going, Preserves, Expanded, Follows};
 use engine::Cursor;
 use engine::Taken;
+use explored::Subject;
 use golog::State;
 use sheet::Inspection;
 
@@ -47,10 +50,11 @@ pub struct Question {
     pub cut: bool,
 }
 
-// What stays the same throughout a search: what was found of the sheet, and the window.
+// What stays the same throughout a search: what was found of the sheet, the window, and the round in which the index is told.
 struct Task {
     found: Inspection,
     window: Window,
+    round: u32,
 }
 
 // A visit to a configuration: the transitions made, which number its frame, and those left; what is left of the guide, the moves made; the
@@ -67,6 +71,12 @@ struct Visit {
 struct Seen {
     known: bool,
     outcome: Outcome,
+    cursor: Cursor,
+}
+
+// Where the transitions of a visit are tried from: whether the bound ran out in some run before, and the first cursor.
+struct Start {
+    ran: bool,
     cursor: Cursor,
 }
 
@@ -158,6 +168,42 @@ fn look(
     }
 }
 
+// The configuration visited, as the index is asked of it.
+fn subject_of(q: Visit) -> Subject
+    requires { ⌜ q .given .used ≤ 64 ⌝ }
+    ensures { λ r. ⌜ r ≡ subjectOf q ⌝ }
+{
+    let state = q.state;
+    Subject {
+        depth: q.depth,
+        state,
+        label: guide::label_of(q.given),
+    }
+}
+
+// What is known of the configuration visited: by what the index says of it, or else by a look.
+fn see(
+    flags: &mut [bool],
+    numbers: &mut [u32],
+    work: &[u32],
+    index: &[u32],
+    s: &[u8],
+    moves: &[u16],
+    t: Task,
+    q: Visit,
+    cut: bool,
+) -> Seen
+    requires { ⌜ Prepared (now s) (now flags) (now numbers) × ((p : Prog) × Visited (now s) (now work) (now moves) t q p) × Told (now s) (now moves) t (now index) ⌝ }
+    ensures { λ r. ⌜ LookedAt (now (s .entry)) (now (work .entry)) (now (moves .entry)) t q cut (now (flags .entry)) (now (flags .exit)) (now (numbers .entry)) (now (numbers .exit)) r ⌝ }
+{
+    let c = subject_of(q);
+    let x = explored::recall(index, work, s, t.found, c, q.left, t.round, cut);
+    if x.served {
+        return known(unfound(x.more));
+    }
+    look(flags, numbers, work, s, moves, t, q, cut)
+}
+
 // The visit that a transition leads to.
 fn follow(moves: &[u16], q: Visit, x: Taken) -> Visit
     requires { ⌜ (1 ≤ q .left) × (q .given .used ≤ length (now moves)) × (q .n ≤ 64) × (q .depth ≤ 64) ⌝ }
@@ -171,6 +217,27 @@ fn follow(moves: &[u16], q: Visit, x: Taken) -> Visit
         given,
         n: q.n + guide::entries_of(x.entry),
         state,
+    }
+}
+
+// Notes in the index what came of a visit that was searched on from, unless that is a plan.
+fn remember(
+    index: &mut [u32],
+    work: &[u32],
+    s: &[u8],
+    moves: &[u16],
+    t: Task,
+    q: Visit,
+    cut: bool,
+    o: Outcome,
+)
+    requires { ⌜ Told (now s) (now moves) t (now index) × SearchedAs (now s) (now work) (now moves) t q cut o ⌝ }
+    ensures { λ _. ⌜ Told (now (s .entry)) (now (moves .entry)) t (now (index .exit)) ⌝ }
+{
+    if !is_found(o) {
+        let c = subject_of(q);
+        let flag = explored::flag_of(cut, is_more(o));
+        explored::note(index, work, s, t.found, c, q.left, t.round, flag);
     }
 }
 
@@ -195,26 +262,27 @@ fn refresh(
 }
 
 // Tries the transitions ahead of a cursor of the configuration visited, until a plan is found: each is made in the next frame and, if the
-// guide lets it pass, searched on from. `ran` is whether the bound ran out in some run before.
+// guide lets it pass, searched on from. What was searched on from without a plan is noted in the index.
 fn expand(
     work: &mut [u32],
     trace: &mut [u16],
     flags: &mut [bool],
     numbers: &mut [u32],
+    index: &mut [u32],
     s: &[u8],
     moves: &[u16],
     t: Task,
     q: Visit,
-    ran: bool,
-    first: Cursor,
+    start: Start,
 ) -> Outcome
-    requires { ⌜ Going (now s) (now work) (now moves) (length (now trace)) t q first (now flags) (now numbers) ⌝ }
-    ensures answer { λ r. ⌜ Expanded (now (s .entry)) (now (work .entry)) (now (moves .entry)) (now (trace .entry)) (now (trace .exit)) t q ran first (now (flags .entry))
+    requires { ⌜ Going (now s) (now work) (now moves) (length (now trace)) t q (start .cursor) (now flags) (now numbers) × Told (now s) (now moves) t (now index) ⌝ }
+    ensures answer { λ r. ⌜ Expanded (now (s .entry)) (now (work .entry)) (now (moves .entry)) (now (trace .entry)) (now (trace .exit)) t q (start .ran) (start .cursor) (now (flags .entry))
         (now (numbers .entry)) r ⌝ }
     ensures tables { λ _. ⌜ Preserves (now (s .entry)) (now (work .entry)) (now (work .exit)) q (now (flags .entry)) (now (flags .exit)) (now (numbers .entry)) (now (numbers .exit)) ⌝ }
+    ensures index { λ _. ⌜ Told (now (s .entry)) (now (moves .entry)) t (now (index .exit)) ⌝ }
 {
-    let mut cut = ran;
-    let mut k = first;
+    let mut cut = start.ran;
+    let mut k = start.cursor;
     let mut stale = false;
     while !engine::is_spent(k) {
         refresh(flags, numbers, work, s, t.found, q, stale);
@@ -223,10 +291,13 @@ fn expand(
         stale = false;
         if guide::lets_pass(moves, t.window, q.given, x.entry) {
             let v = follow(moves, q, x);
-            let a = look(flags, numbers, work, s, moves, t, v, cut);
+            let a = see(flags, numbers, work, index, s, moves, t, v, cut);
             let mut o = a.outcome;
             if !a.known {
-                o = expand(work, trace, flags, numbers, s, moves, t, v, cut, a.cursor);
+                let cursor = a.cursor;
+                let first = Start { ran: cut, cursor };
+                o = expand(work, trace, flags, numbers, index, s, moves, t, v, first);
+                remember(index, work, s, moves, t, v, cut, o);
                 stale = engine::SETS <= q.left;
             }
             if guide::note(trace, q.n, x.entry, o) {
@@ -248,28 +319,35 @@ pub fn stand(work: &mut [u32], flags: &mut [bool], numbers: &mut [u32], s: &[u8]
     engine::prepare(flags, numbers, s, found);
 }
 
-// Searches from the first configuration.
+// Searches from the first configuration, in a round of the index of its own.
 pub fn explore(
     work: &mut [u32],
     trace: &mut [u16],
     flags: &mut [bool],
     numbers: &mut [u32],
+    index: &mut [u32],
     s: &[u8],
     found: Inspection,
     moves: &[u16],
     a: Question,
 ) -> Outcome
-    requires { ⌜ Standing (now s) (now work) found (now flags) (now numbers) × (a .left ≤ boundOf (now s)) × (a .left ≤ length (now trace)) ⌝ }
+    requires { ⌜ Standing (now s) (now work) found (now flags) (now numbers) × (a .left ≤ boundOf (now s)) × (a .left ≤ length (now trace)) × (length (now moves) ≤ 64) × Lasting (now s) (now index) ⌝ }
     ensures answer { λ r. ⌜ Reported 0 0 (now (trace .entry)) (now (trace .exit)) r (verdictOn (now (s .entry)) (now (moves .entry)) a) ⌝ }
     ensures stands { λ _. ⌜ Standing (now (s .entry)) (now (work .exit)) found (now (flags .exit)) (now (numbers .exit)) ⌝ }
+    ensures index { λ _. ⌜ Lasting (now (s .entry)) (now (index .exit)) ⌝ }
 {
     let state = engine::initial_of(s, found);
+    let round = index::next_round(index);
     let window = a.window;
     let given = Given {
         used: 0,
         free: a.free,
     };
-    let t = Task { found, window };
+    let t = Task {
+        found,
+        window,
+        round,
+    };
     let q = Visit {
         depth: 0,
         left: a.left,
@@ -282,12 +360,17 @@ pub fn explore(
     if x.known {
         return seen;
     }
-    expand(work, trace, flags, numbers, s, moves, t, q, a.cut, x.cursor)
+    let cursor = x.cursor;
+    let first = Start { ran: a.cut, cursor };
+    expand(work, trace, flags, numbers, index, s, moves, t, q, first)
 }
+
+// The words of the index that a replay lends its search.
+const OWN_INDEX: usize = 2048;
 
 // Whether some run of at most D transitions makes exactly these moves and ends final; the work area is as long as required.
 pub fn accepts(s: &[u8], found: Inspection, history: &[u16], work: &mut [u32]) -> bool
-    requires { ⌜ Of (now s) found × (length (now work) ≡ found .words) ⌝ }
+    requires { ⌜ Of (now s) found × (length (now work) ≡ found .words) × (length (now history) ≤ 64) ⌝ }
     ensures answer { λ r. ⌜ r ≡ acceptsOf (now (s .entry)) (now (history .entry)) ⌝ }
     ensures work { λ _. ⌜ now (work .exit) ≡ replicate (length (now (work .entry))) 0 ⌝ }
 {
@@ -302,11 +385,14 @@ pub fn accepts(s: &[u8], found: Inspection, history: &[u16], work: &mut [u32]) -
         cut: true,
     };
     let mut trace = [0u16; sheet::MOST_TRANSITIONS];
+    let mut index = [0u32; OWN_INDEX];
+    index::begin(&mut index);
     let o = explore(
         work,
         &mut trace,
         &mut flags,
         &mut numbers,
+        &mut index,
         s,
         found,
         history,

@@ -9,7 +9,7 @@
 //!     let [words] = library::check(sheet).into_result()?;
 //!     let [_, bound] = library::sizes(sheet).into_result()?;
 //!     let (mut work, mut trace) = (vec![0; words], vec![0; bound]);
-//!     let [n, _] = library::plan(sheet, &mut work, &mut trace).into_result()?;
+//!     let [n, _] = library::plan(sheet, &mut work, &mut trace, &mut []).into_result()?;
 //!     trace.truncate(n);
 //!     Ok(trace)
 //! }
@@ -96,6 +96,8 @@ mod c {
             work_len: usize,
             trace: *mut u16,
             trace_len: usize,
+            index: *mut u32,
+            index_len: usize,
             n: *mut usize,
             t: *mut usize,
             place: *mut usize,
@@ -141,8 +143,8 @@ pub fn sizes(sheet: &[u8]) -> Answer<2> {
     Answer { number, place, results: [fluents, bound] }
 }
 
-/// Results: n and t.
-pub fn plan(sheet: &[u8], work: &mut [u32], trace: &mut [u16]) -> Answer<2> {
+/// Results: n and t. The index may have any length, and no result depends on it.
+pub fn plan(sheet: &[u8], work: &mut [u32], trace: &mut [u16], index: &mut [u32]) -> Answer<2> {
     let [mut n, mut t, mut place] = [UNWRITTEN; 3];
     // SAFETY: above.
     let number = unsafe {
@@ -153,6 +155,8 @@ pub fn plan(sheet: &[u8], work: &mut [u32], trace: &mut [u16]) -> Answer<2> {
             work.len(),
             trace.as_mut_ptr(),
             trace.len(),
+            index.as_mut_ptr(),
+            index.len(),
             &mut n,
             &mut t,
             &mut place,

@@ -1,6 +1,6 @@
 //! Document 01's edges of the lent areas, on case 3: "272 words give 11, trace of 1 gives 10, both give 10". That its
-//! plan stays under a higher bound. Case 13 by F-2. What is told of a sheet's sizes and notes. What a refusal says in
-//! words.
+//! plan stays under a higher bound, and with an index of any length. Case 13 by F-2. What is told of a sheet's sizes and
+//! notes. What a refusal says in words.
 
 use library::{check, notes, plan, replay, sizes, Answer, Refusal};
 use model::sheet::Program::Act;
@@ -11,11 +11,19 @@ fn case_3() -> Vec<u8> {
     three_sections(&CASE_3, 2).bytes()
 }
 
-/// Plans in areas of these lengths that hold ones: the answer, the trace and the work area.
-fn planned(words: usize, entries: usize) -> (Answer<2>, Vec<u16>, Vec<u32>) {
-    let (mut work, mut trace) = (vec![1; words], vec![1; entries]);
-    let answer = plan(&case_3(), &mut work, &mut trace);
-    (answer, trace, work)
+/// What planning answers and leaves.
+struct Planned {
+    answer: Answer<2>,
+    trace: Vec<u16>,
+    work: Vec<u32>,
+    index: Vec<u32>,
+}
+
+/// Plans in areas of these lengths that hold ones.
+fn planned(words: usize, entries: usize, index: usize) -> Planned {
+    let (mut work, mut trace, mut index) = (vec![1; words], vec![1; entries], vec![1; index]);
+    let answer = plan(&case_3(), &mut work, &mut trace, &mut index);
+    Planned { answer, trace, work, index }
 }
 
 #[test]
@@ -25,13 +33,14 @@ fn figure() {
 
 #[test]
 fn found_in_areas_of_any_content_and_length() {
-    for (words, entries) in [(273, 2), (273, 64), (300, 2), (16_384, 64)] {
-        let (answer, trace, work) = planned(words, entries);
+    for (words, entries, index) in [(273, 2, 0), (273, 64, 1), (300, 2, 9), (16_384, 64, 4_096)] {
+        let Planned { answer, trace, work, index } = planned(words, entries, index);
         assert_eq!(answer, Answer { number: 0, place: 0, results: [2, 2] });
         assert_eq!(trace[..2], [0, 1]);
         assert!(trace[2..].iter().all(|&entry| entry == 1));
         assert!(work[..273].iter().all(|&word| word == 0));
         assert!(work[273..].iter().all(|&word| word == 1));
+        assert!(index.iter().all(|&word| word == 0));
     }
 }
 
@@ -42,7 +51,7 @@ fn the_plan_stays_under_a_higher_bound() {
         let sheet = three_sections(&CASE_3, bound).bytes();
         let [words] = check(&sheet).into_result().expect("the sheet is accepted");
         let (mut work, mut trace) = (vec![1; words], vec![1; 64]);
-        assert_eq!(plan(&sheet, &mut work, &mut trace), Answer { number: 0, place: 0, results: [2, 2] });
+        assert_eq!(plan(&sheet, &mut work, &mut trace, &mut []), Answer { number: 0, place: 0, results: [2, 2] });
         assert_eq!(trace[..2], [0, 1]);
         assert!(trace[2..].iter().all(|&entry| entry == 1));
     }
@@ -51,10 +60,11 @@ fn the_plan_stays_under_a_higher_bound() {
 #[test]
 fn short_areas_stay_untouched() {
     for (words, entries, number) in [(272, 2, 11), (273, 1, 10), (272, 1, 10)] {
-        let (answer, trace, work) = planned(words, entries);
+        let Planned { answer, trace, work, index } = planned(words, entries, 9);
         assert_eq!(answer, Answer { number, place: 0, results: [0, 0] });
         assert!(trace.iter().all(|&entry| entry == 1));
         assert!(work.iter().all(|&word| word == 1));
+        assert!(index.iter().all(|&word| word == 1));
     }
 }
 
@@ -76,7 +86,7 @@ fn case_13_is_not_replayed() {
         let sheet = records.bytes();
         let [words] = check(&sheet).into_result().expect("the sheet is accepted");
         let (mut work, mut trace) = (vec![1; words], vec![1; 1]);
-        assert_eq!(plan(&sheet, &mut work, &mut trace).number, number);
+        assert_eq!(plan(&sheet, &mut work, &mut trace, &mut []).number, number);
         assert_eq!(replay(&sheet, &[2], &mut work), Answer { number: 0, place: 0, results: [yes] });
     }
 }
@@ -94,10 +104,8 @@ fn sizes_and_notes_are_told_without_a_number() {
 
 #[test]
 fn a_number_is_an_error() {
-    let (answer, ..) = planned(273, 2);
-    assert_eq!(answer.into_result(), Ok([2, 2]));
-    let (answer, ..) = planned(272, 2);
-    assert_eq!(answer.into_result(), Err(Refusal { number: 11, place: 0 }));
+    assert_eq!(planned(273, 2, 0).answer.into_result(), Ok([2, 2]));
+    assert_eq!(planned(272, 2, 0).answer.into_result(), Err(Refusal { number: 11, place: 0 }));
 }
 
 #[test]

@@ -29,7 +29,7 @@ fn goes_down(deep: &Deep) {
     let [words] = library::check(&deep.sheet).into_result().expect("the sheet is accepted");
     let (mut work, mut trace) = (vec![0; words], vec![0; 64]);
     let found = Answer { number: 0, place: 0, results: [64, 64] };
-    assert_eq!(plan(&deep.sheet, &mut work, &mut trace), found, "{}", deep.name);
+    assert_eq!(plan(&deep.sheet, &mut work, &mut trace, &mut []), found, "{}", deep.name);
     assert_eq!(trace, deep.history, "{}", deep.name);
     let yes = Answer { number: 0, place: 0, results: [1] };
     assert_eq!(replay(&deep.sheet, &trace, &mut work), yes, "{}", deep.name);

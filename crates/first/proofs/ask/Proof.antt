@@ -18,32 +18,20 @@ array-share-prefix-given : tie.Need-array-share-prefix-given
 array-share-prefix-given c = search needs
 
 -- Places: what stands before a need, by name. Written by `named`: run it again when the code changes.
-abbrev given-from-slice-aggregate-explore-2 : tie.After-given2 → tie.After-given
-given-from-slice-aggregate-explore-2 c = c .before .before .before .before .before .before
-
 abbrev start-from-slice-aggregate-explore-2 : tie.After-given2 → tie.Start
-start-from-slice-aggregate-explore-2 c = given-from-slice-aggregate-explore-2 c .before .before .before .before .before
+start-from-slice-aggregate-explore-2 c = c .before .before .before .before .before .before .before .before .before .before .before .before .before
 
 abbrev start-from-explore : tie.After-explore → tie.Start
 start-from-explore c = start-from-slice-aggregate-explore-2 (c .before)
 
-abbrev flags-from-enum-told : tie.After-enum-told → tie.After-flags
-flags-from-enum-told c = c .before .before .before .before .before
-
 abbrev explore-from-enum-told : tie.After-enum-told → tie.After-explore
-explore-from-enum-told c = flags-from-enum-told c .before .before .before .before
-
-abbrev flags-from-enum-told2 : tie.After-enum-told2 → tie.After-flags
-flags-from-enum-told2 c = c .before .before .before .before .before
+explore-from-enum-told c = c .before .before .before .before .before .before .before .before .before .before .before
 
 abbrev explore-from-enum-told2 : tie.After-enum-told2 → tie.After-explore
-explore-from-enum-told2 c = flags-from-enum-told2 c .before .before .before .before
-
-abbrev flags-from-o : tie.After-o → tie.After-flags
-flags-from-o c = c .before .before .before .before .before
+explore-from-enum-told2 c = c .before .before .before .before .before .before .before .before .before .before .before
 
 abbrev explore-from-o : tie.After-o → tie.After-explore
-explore-from-o c = flags-from-o c .before .before .before .before
+explore-from-o c = c .before .before .before .before .before .before .before .before .before .before .before
 
 slice-aggregate-explore-2 : tie.Need-slice-aggregate-explore-2
 slice-aggregate-explore-2 c =
@@ -52,8 +40,10 @@ slice-aggregate-explore-2 c =
 
 explore-requires : tie.Need-explore-requires
 explore-requires c κs =
-    let p = start-from-slice-aggregate-explore-2 c .pre in
-    (p .0, p .1, omega (arith, p .1, laid _ (p .0 .of .accepted) .d, p .2 .places))
+    let at-start = start-from-slice-aggregate-explore-2 c in
+    let p = at-start .pre in
+    let e = length-take-le (at-start .args .i) (at-start .args .h .entries) (omega (arith, p .2 .places, p .2 .few, p .3)) in
+    (p .0, p .1, omega (arith, p .1, laid _ (p .0 .of .accepted) .d, p .2 .places), omega (arith, e, p .2 .few, p .3), p .4)
 
 enum-known-o : tie.Need-enum-known-o
 enum-known-o c = search needs
@@ -79,6 +69,9 @@ same-length-2 c = search needs
 same-length-3 : tie.Need-same-length-3
 same-length-3 c = search needs
 
+same-length-4 : tie.Need-same-length-4
+same-length-4 c = search needs
+
 returns : tie.Need-returns
 returns c =
     let at-explore = explore-from-o (c .before) in
@@ -90,14 +83,17 @@ returns c =
       at-explore .explore .ensures .1,
     )
 
-same-length-4 : tie.Need-same-length-4
-same-length-4 c = search needs
-
 same-length-5 : tie.Need-same-length-5
 same-length-5 c = search needs
 
 same-length-6 : tie.Need-same-length-6
 same-length-6 c = search needs
+
+same-length-7 : tie.Need-same-length-7
+same-length-7 c = search needs
+
+same-length-8 : tie.Need-same-length-8
+same-length-8 c = search needs
 
 returns-2 : tie.Need-returns-2
 returns-2 c =
@@ -109,14 +105,17 @@ returns-2 c =
     (ap isFound (c .before .enum-told .given .1)) in
     (subst (Answers (now (a .s)) (a .t) (a .h) (a .i) (a .window)) (sym (c .not-found .ensures)) none, at-explore .explore .ensures .1)
 
-same-length-7 : tie.Need-same-length-7
-same-length-7 c = search needs
-
-same-length-8 : tie.Need-same-length-8
-same-length-8 c = search needs
-
 same-length-9 : tie.Need-same-length-9
 same-length-9 c = search needs
+
+same-length-10 : tie.Need-same-length-10
+same-length-10 c = search needs
+
+same-length-11 : tie.Need-same-length-11
+same-length-11 c = search needs
+
+same-length-12 : tie.Need-same-length-12
+same-length-12 c = search needs
 
 returns-3 : tie.Need-returns-3
 returns-3 c =
@@ -144,12 +143,15 @@ ask-spec =
     same-length
     same-length-2
     same-length-3
-    returns
     same-length-4
+    returns
     same-length-5
     same-length-6
-    returns-2
     same-length-7
     same-length-8
+    returns-2
     same-length-9
+    same-length-10
+    same-length-11
+    same-length-12
     returns-3)

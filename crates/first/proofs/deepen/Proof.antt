@@ -20,15 +20,15 @@ use Rattle.first.proofs.deepen.Statement.{statement}
 use Rattle.first.proofs.deepen.Tie as tie
 
 abbrev Inv-loop : tie.InvT-loop
-Inv-loop work₀ best₀ flags₀ numbers₀ s found d none low₀ at-once₀ before₀ work best flags numbers low at-once before =
-    Kept s found work₀ flags₀ numbers₀ work flags numbers × Raising s best₀ best d low
+Inv-loop work₀ best₀ flags₀ numbers₀ index₀ s found d none low₀ at-once₀ before₀ work best flags numbers index low at-once before =
+    Kept s found work₀ flags₀ numbers₀ index₀ work flags numbers index × Raising s best₀ best d low
 
 abbrev μ-loop : tie.MeasureT-loop
-μ-loop work₀ best₀ flags₀ numbers₀ s found d none low₀ at-once₀ before₀ work best flags numbers low at-once before = d + 1 - low
+μ-loop work₀ best₀ flags₀ numbers₀ index₀ s found d none low₀ at-once₀ before₀ work best flags numbers index low at-once before = d + 1 - low
 
 -- Places: what stands before a need, by name. Written by `named`: run it again when the code changes.
 abbrev start-from-loop-holds : tie.After-l Inv-loop μ-loop → tie.Start Inv-loop μ-loop
-start-from-loop-holds c = c .before .before .before .before .before .before
+start-from-loop-holds c = c .before .before .before .before .before .before .before
 
 abbrev start-from-loop : tie.At-loop Inv-loop μ-loop → tie.Start Inv-loop μ-loop
 start-from-loop c = start-from-loop-holds (c .before)
@@ -37,7 +37,7 @@ abbrev start-from-next-bound : tie.After-next-bound Inv-loop μ-loop → tie.Sta
 start-from-next-bound c = start-from-loop (c .before .before)
 
 abbrev any-run-from-explore-requires : tie.After-none Inv-loop μ-loop → tie.After-any-run Inv-loop μ-loop
-any-run-from-explore-requires c = c .before .before .before .before .before
+any-run-from-explore-requires c = c .before .before .before .before .before .before
 
 abbrev any-run-from-explore : tie.After-explore Inv-loop μ-loop → tie.After-any-run Inv-loop μ-loop
 any-run-from-explore c = any-run-from-explore-requires (c .before)
@@ -48,11 +48,8 @@ next-bound-from-explore c = (any-run-from-explore c) .before .before .before
 abbrev loop-from-explore : tie.After-explore Inv-loop μ-loop → tie.At-loop Inv-loop μ-loop
 loop-from-explore c = (next-bound-from-explore c) .before .before
 
-abbrev slice-known6-from-is-more : tie.After-is-more Inv-loop μ-loop → tie.After-slice-known6 Inv-loop μ-loop
-slice-known6-from-is-more c = c .before .before .before .before .before
-
 abbrev explore-from-is-more : tie.After-is-more Inv-loop μ-loop → tie.After-explore Inv-loop μ-loop
-explore-from-is-more c = slice-known6-from-is-more c .before .before .before .before
+explore-from-is-more c = c .before .before .before .before .before .before .before .before .before .before .before
 
 abbrev explore-from-else1 : tie.Else1 Inv-loop μ-loop → tie.After-explore Inv-loop μ-loop
 explore-from-else1 c = explore-from-is-more (c .before)
@@ -60,21 +57,21 @@ explore-from-else1 c = explore-from-is-more (c .before)
 abbrev next-bound-from-else1 : tie.Else1 Inv-loop μ-loop → tie.After-next-bound Inv-loop μ-loop
 next-bound-from-else1 c = next-bound-from-explore (explore-from-else1 c)
 
+abbrev if1-from-lower-requires : tie.After-lower-arg5 Inv-loop μ-loop → tie.Then1 Inv-loop μ-loop
+if1-from-lower-requires c = c .before .before .before .before .before
+
 abbrev explore-from-lower : tie.After-lower Inv-loop μ-loop → tie.After-explore Inv-loop μ-loop
-explore-from-lower c = explore-from-is-more (c .before .before .before .before .before .before)
+explore-from-lower c = explore-from-is-more ((if1-from-lower-requires (c .before)) .before)
 
-abbrev slice-known10-from-same-length : tie.After-slice-known12 Inv-loop μ-loop → tie.After-slice-known10 Inv-loop μ-loop
-slice-known10-from-same-length c = c .before .before .before .before
-
-abbrev lower-from-same-length : tie.After-slice-known12 Inv-loop μ-loop → tie.After-lower Inv-loop μ-loop
-lower-from-same-length c = slice-known10-from-same-length c .before .before .before .before
+abbrev lower-from-same-length : tie.After-slice-known15 Inv-loop μ-loop → tie.After-lower Inv-loop μ-loop
+lower-from-same-length c = c .before .before .before .before .before .before .before .before .before .before
 
 loop-holds : tie.Need-loop-holds Inv-loop μ-loop
 loop-holds c =
     let at-start = start-from-loop-holds c in
     let p = at-start .pre in
     let e = ap (λ (l : Layout). l .d) (p .0 .of .layout-is) in (
-      kept-first (p .0),
+      kept-first (p .0) (p .2),
       record { best-long = refl; bound = e; room = omega (arith, e, p .1); tried = tried-none (now (at-start .args .s)); inside = omega arith },
     )
 
@@ -101,7 +98,7 @@ explore-requires c κs =
     let v = at-loop .loop .inv in
     let e = ap (λ (a : Question). a .left) (at-any-run .any-run .ensures) in
     let few = at-next-bound .next-bound .ensures .1 in
-    (v .0 .standing, omega (arith, e, few, v .1 .bound), omega (arith, e, few, v .1 .room))
+    (v .0 .standing, omega (arith, e, few, v .1 .bound), omega (arith, e, few, v .1 .room), omega arith, v .0 .lasting)
 
 is-more-requires : tie.Need-is-more-requires Inv-loop μ-loop
 is-more-requires c κs = search needs
@@ -122,7 +119,7 @@ asked c =
 
 lower-requires : tie.Need-lower-requires Inv-loop μ-loop
 lower-requires c κs =
-    let at-if1 = c .before .before .before .before in
+    let at-if1 = if1-from-lower-requires c in
     let at-is-more = at-if1 .before in
     let at-explore = explore-from-is-more at-is-more in
     let at-next-bound = next-bound-from-explore at-explore in
@@ -132,7 +129,7 @@ lower-requires c κs =
     let few = at-next-bound .next-bound .ensures .1 in
     let stops = sym (at-is-more .is-more .ensures) ∙ not-true _ (at-if1 .if1 .taken) in
     let out = tried-out (B .tried) t (omega (arith, few, B .bound)) (asked at-explore) (omega (arith, few, B .room)) stops in
-    (at-explore .explore .ensures .1, omega (arith, at-explore .explore .kept .1 .0, B .bound, B .room), out)
+    (at-explore .explore .ensures .1 .0, omega (arith, at-explore .explore .kept .1 .0, B .bound, B .room), out, at-explore .explore .ensures .1 .1)
 
 same-length : tie.Need-same-length Inv-loop μ-loop
 same-length c =
@@ -162,11 +159,18 @@ same-length-4 c =
     let at-loop = loop-from-explore at-explore in
     at-lower .lower .kept .1 .1 .1 .0 ∙ at-explore .explore .kept .1 .1 .1 .0 ∙ at-loop .loop .inv .0 .numbers-long
 
+same-length-5 : tie.Need-same-length-5 Inv-loop μ-loop
+same-length-5 c =
+    let at-lower = lower-from-same-length c in
+    let at-explore = explore-from-lower at-lower in
+    let at-loop = loop-from-explore at-explore in
+    at-lower .lower .kept .1 .1 .1 .1 .0 ∙ at-explore .explore .kept .1 .1 .1 .1 .0 ∙ at-loop .loop .inv .0 .index-long
+
 returns : tie.Need-returns Inv-loop μ-loop
 returns c = lower-from-same-length c .lower .ensures
 
 surveys-requires-2 : tie.Need-surveys-requires-2 Inv-loop μ-loop
-surveys-requires-2 c κs = explore-from-else1 (c .before) .explore .ensures .1 .prepared .numbers-long
+surveys-requires-2 c κs = explore-from-else1 (c .before) .explore .ensures .1 .0 .prepared .numbers-long
 
 wrapping-sub-u32-requires : tie.Need-wrapping-sub-u32-requires Inv-loop μ-loop
 wrapping-sub-u32-requires c κs = search needs
@@ -200,7 +204,7 @@ loop-again c =
     let goes = sym (at-is-more .is-more .ensures) ∙ not-false _ (at-if1 .if1 .left) in
     let on = tried-on (B .tried) t (omega (arith, few, B .bound)) (asked at-explore) goes in
     let k = at-explore .explore .kept in (
-      kept-on (at-loop .loop .inv .0) (k .0) (k .1 .1 .0) (k .1 .1 .1 .0) (at-explore .explore .ensures .1),
+      kept-on (at-loop .loop .inv .0) (k .0) (k .1 .1 .0) (k .1 .1 .1 .0) (k .1 .1 .1 .1 .0) (at-explore .explore .ensures .1),
       record {
         best-long = k .1 .0 ∙ B .best-long;
         bound = B .bound;
@@ -210,17 +214,20 @@ loop-again c =
       },
     )
 
-same-length-5 : tie.Need-same-length-5 Inv-loop μ-loop
-same-length-5 c = c .before .loop .inv .0 .work-long
-
 same-length-6 : tie.Need-same-length-6 Inv-loop μ-loop
-same-length-6 c = c .before .loop .inv .1 .best-long
+same-length-6 c = c .before .loop .inv .0 .work-long
 
 same-length-7 : tie.Need-same-length-7 Inv-loop μ-loop
-same-length-7 c = c .before .loop .inv .0 .flags-long
+same-length-7 c = c .before .loop .inv .1 .best-long
 
 same-length-8 : tie.Need-same-length-8 Inv-loop μ-loop
-same-length-8 c = c .before .loop .inv .0 .numbers-long
+same-length-8 c = c .before .loop .inv .0 .flags-long
+
+same-length-9 : tie.Need-same-length-9 Inv-loop μ-loop
+same-length-9 c = c .before .loop .inv .0 .numbers-long
+
+same-length-10 : tie.Need-same-length-10 Inv-loop μ-loop
+same-length-10 c = c .before .loop .inv .0 .index-long
 
 returns-2 : tie.Need-returns-2 Inv-loop μ-loop
 returns-2 c =
@@ -228,7 +235,7 @@ returns-2 c =
     let at-start = start-from-loop at-loop in
     let B = at-loop .loop .inv .1 in
     let e : at-loop .loop .low ≡ suc (boundOf (now (at-start .args .s))) = omega (arith, B .bound, B .inside, c .loop-test .left) in
-    (all-tried (at-loop .loop .best) (subst (Tried (now (at-start .args .s))) e (B .tried)), at-loop .loop .inv .0 .standing)
+    (all-tried (at-loop .loop .best) (subst (Tried (now (at-start .args .s))) e (B .tried)), (at-loop .loop .inv .0 .standing, at-loop .loop .inv .0 .lasting))
 
 pub deepen-spec : {M : Type 1} → statement M
 deepen-spec =
@@ -249,6 +256,7 @@ deepen-spec =
     same-length-2
     same-length-3
     same-length-4
+    same-length-5
     returns
     surveys-requires-2
     wrapping-sub-u32-requires
@@ -256,8 +264,9 @@ deepen-spec =
     add-low
     loop-less
     loop-again
-    same-length-5
     same-length-6
     same-length-7
     same-length-8
+    same-length-9
+    same-length-10
     returns-2)

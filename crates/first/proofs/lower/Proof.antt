@@ -19,15 +19,15 @@ use Rattle.first.proofs.lower.Statement.{statement}
 use Rattle.first.proofs.lower.Tie as tie
 
 abbrev Inv-loop : tie.InvT-loop
-Inv-loop work₀ best₀ flags₀ numbers₀ s found low none fewest₀ work best flags numbers fewest =
-    Kept s found work₀ flags₀ numbers₀ work flags numbers × Lowering s best₀ best low fewest
+Inv-loop work₀ best₀ flags₀ numbers₀ index₀ s found low none fewest₀ work best flags numbers index fewest =
+    Kept s found work₀ flags₀ numbers₀ index₀ work flags numbers index × Lowering s best₀ best low fewest
 
 abbrev μ-loop : tie.MeasureT-loop
-μ-loop work₀ best₀ flags₀ numbers₀ s found low none fewest₀ work best flags numbers fewest = transitionCount fewest
+μ-loop work₀ best₀ flags₀ numbers₀ index₀ s found low none fewest₀ work best flags numbers index fewest = transitionCount fewest
 
 -- Places: what stands before a need, by name. Written by `named`: run it again when the code changes.
 abbrev start-from-loop-holds : tie.After-shared-slice-known Inv-loop μ-loop → tie.Start Inv-loop μ-loop
-start-from-loop-holds c = c .before .before .before .before .before
+start-from-loop-holds c = c .before .before .before .before .before .before
 
 abbrev start-from-loop : tie.At-loop Inv-loop μ-loop → tie.Start Inv-loop μ-loop
 start-from-loop c = start-from-loop-holds (c .before)
@@ -36,7 +36,7 @@ abbrev start-from-transition-count2 : tie.After-transition-count2 Inv-loop μ-lo
 start-from-transition-count2 c = start-from-loop (c .before .before .before)
 
 abbrev any-run-from-explore-requires : tie.After-none Inv-loop μ-loop → tie.After-any-run Inv-loop μ-loop
-any-run-from-explore-requires c = c .before .before .before .before .before
+any-run-from-explore-requires c = c .before .before .before .before .before .before
 
 abbrev any-run-from-explore : tie.After-explore Inv-loop μ-loop → tie.After-any-run Inv-loop μ-loop
 any-run-from-explore c = any-run-from-explore-requires (c .before)
@@ -47,14 +47,11 @@ transition-count2-from-explore c = (any-run-from-explore c) .before
 abbrev loop-from-explore : tie.After-explore Inv-loop μ-loop → tie.At-loop Inv-loop μ-loop
 loop-from-explore c = (transition-count2-from-explore c) .before .before .before
 
-abbrev slice-known6-from-is-found : tie.After-is-found Inv-loop μ-loop → tie.After-slice-known6 Inv-loop μ-loop
-slice-known6-from-is-found c = c .before .before .before .before .before
-
 abbrev explore-from-is-found : tie.After-is-found Inv-loop μ-loop → tie.After-explore Inv-loop μ-loop
-explore-from-is-found c = slice-known6-from-is-found c .before .before .before .before
+explore-from-is-found c = c .before .before .before .before .before .before .before .before .before .before .before
 
 loop-holds : tie.Need-loop-holds Inv-loop μ-loop
-loop-holds c = let p = start-from-loop-holds c .pre in (kept-first (p .0), record { best-long = refl; room = p .1; so-far = p .2 })
+loop-holds c = let p = start-from-loop-holds c .pre in (kept-first (p .0) (p .3), record { best-long = refl; room = p .1; so-far = p .2 })
 
 transition-count-requires : tie.Need-transition-count-requires Inv-loop μ-loop
 transition-count-requires c κs = search needs
@@ -83,7 +80,7 @@ explore-requires c κs =
     let e = ap (λ (a : Question). a .left) (at-any-run .any-run .ensures) in
     let few = transitions-bounded (v .1 .so-far) in
     let same = at-transition-count2 .transition-count2 .ensures in
-    (v .0 .standing, omega (arith, e, few, same), omega (arith, e, few, same, v .1 .room))
+    (v .0 .standing, omega (arith, e, few, same), omega (arith, e, few, same, v .1 .room), omega arith, v .0 .lasting)
 
 is-found-requires : tie.Need-is-found-requires Inv-loop μ-loop
 is-found-requires c κs = search needs
@@ -111,6 +108,12 @@ same-length-4 c =
     let at-explore = explore-from-is-found (c .before) in
     let at-loop = loop-from-explore at-explore in
     at-explore .explore .kept .1 .1 .1 .0 ∙ at-loop .loop .inv .0 .numbers-long
+
+same-length-5 : tie.Need-same-length-5 Inv-loop μ-loop
+same-length-5 c =
+    let at-explore = explore-from-is-found (c .before) in
+    let at-loop = loop-from-explore at-explore in
+    at-explore .explore .kept .1 .1 .1 .1 .0 ∙ at-loop .loop .inv .0 .index-long
 
 asked : (c : tie.After-explore Inv-loop μ-loop) →
     let at-transition-count2 = transition-count2-from-explore c in
@@ -159,26 +162,29 @@ loop-again c =
     let at-loop = loop-from-explore at-explore in
     let L = at-loop .loop .inv .1 in
     let k = at-explore .explore .kept in (
-      kept-on (at-loop .loop .inv .0) (k .0) (k .1 .1 .0) (k .1 .1 .1 .0) (at-explore .explore .ensures .1),
+      kept-on (at-loop .loop .inv .0) (k .0) (k .1 .1 .0) (k .1 .1 .1 .0) (k .1 .1 .1 .1 .0) (at-explore .explore .ensures .1),
       record { best-long = k .1 .0 ∙ L .best-long; room = omega (arith, k .1 .0, L .room); so-far = fewer c .0 },
     )
 
-same-length-5 : tie.Need-same-length-5 Inv-loop μ-loop
-same-length-5 c = c .before .before .loop .inv .0 .work-long
-
 same-length-6 : tie.Need-same-length-6 Inv-loop μ-loop
-same-length-6 c = c .before .before .loop .inv .1 .best-long
+same-length-6 c = c .before .before .loop .inv .0 .work-long
 
 same-length-7 : tie.Need-same-length-7 Inv-loop μ-loop
-same-length-7 c = c .before .before .loop .inv .0 .flags-long
+same-length-7 c = c .before .before .loop .inv .1 .best-long
 
 same-length-8 : tie.Need-same-length-8 Inv-loop μ-loop
-same-length-8 c = c .before .before .loop .inv .0 .numbers-long
+same-length-8 c = c .before .before .loop .inv .0 .flags-long
+
+same-length-9 : tie.Need-same-length-9 Inv-loop μ-loop
+same-length-9 c = c .before .before .loop .inv .0 .numbers-long
+
+same-length-10 : tie.Need-same-length-10 Inv-loop μ-loop
+same-length-10 c = c .before .before .loop .inv .0 .index-long
 
 returns-2 : tie.Need-returns-2 Inv-loop μ-loop
 returns-2 c =
     let at-loop = c .before .before in
-    (lowest (at-loop .loop .inv .1 .so-far) (omega (arith, c .before .transition-count .ensures, c .if1 .left)), at-loop .loop .inv .0 .standing)
+    (lowest (at-loop .loop .inv .1 .so-far) (omega (arith, c .before .transition-count .ensures, c .if1 .left)), (at-loop .loop .inv .0 .standing, at-loop .loop .inv .0 .lasting))
 
 pub lower-spec : {M : Type 1} → statement M
 lower-spec =
@@ -199,11 +205,13 @@ lower-spec =
     same-length-2
     same-length-3
     same-length-4
+    same-length-5
     returns
     loop-less
     loop-again
-    same-length-5
     same-length-6
     same-length-7
     same-length-8
+    same-length-9
+    same-length-10
     returns-2)

@@ -14,30 +14,33 @@ enum-known-o c = search needs
 
 -- Places: what stands before a need, by name. Written by `named`: run it again when the code changes.
 abbrev start-from-returns-2 : tie.After-enum-told → tie.Start
-start-from-returns-2 c = c .before .before .before .before .before .before .before
+start-from-returns-2 c = c .before .before .before .before .before .before .before .before
 
 abbrev start-from-returns-3 : tie.After-enum-told2 → tie.Start
-start-from-returns-3 c = c .before .before .before .before .before .before .before
+start-from-returns-3 c = c .before .before .before .before .before .before .before .before
 
 abbrev start-from-o : tie.After-o → tie.Start
-start-from-o c = c .before .before .before .before .before .before .before
+start-from-o c = c .before .before .before .before .before .before .before .before
+
+abbrev o-from-grow-requires : tie.After-grow-arg4 → tie.After-o
+o-from-grow-requires c = c .before .before .before .before .before
 
 abbrev start-from-grow : tie.After-grow → tie.Start
-start-from-grow c = start-from-o (c .before .before .before .before .before)
+start-from-grow c = start-from-o (o-from-grow-requires (c .before))
 
 abbrev grow-from-hand-out-requires : tie.After-hand-out-arg → tie.After-grow
-grow-from-hand-out-requires c = c .before .before .before .before .before .before .before
+grow-from-hand-out-requires c = c .before .before .before .before .before .before .before .before .before
 
 abbrev grow-from-hand-out : tie.After-hand-out → tie.After-grow
 grow-from-hand-out c = grow-from-hand-out-requires (c .before)
 
 grow-requires : tie.Need-grow-requires
 grow-requires c κs =
-    let at-o = c .before .before .before .before in
+    let at-o = o-from-grow-requires c in
     let at-start = start-from-o at-o in
     let p = at-start .pre in
     let start = fewest-first (p .1 .0) _ _ (at-o .o .given .1) (p .1 .1) (laid _ (p .0 .0 .of .accepted) .d) in
-    (p .0 .0, start .0, start .1)
+    (p .0 .0, start .0, start .1, p .0 .2)
 
 hand-out-requires : tie.Need-hand-out-requires
 hand-out-requires c κs =
@@ -65,6 +68,9 @@ same-length-3 c = search needs
 
 same-length-4 : tie.Need-same-length-4
 same-length-4 c = search needs
+
+same-length-5 : tie.Need-same-length-5
+same-length-5 c = search needs
 
 returns : tie.Need-returns
 returns c =
@@ -98,6 +104,7 @@ settle-spec =
     same-length-2
     same-length-3
     same-length-4
+    same-length-5
     returns
     returns-2
     returns-3)

@@ -16,7 +16,7 @@ enum-known-found c = search needs
 
 plan-found-requires : tie.Need-plan-found-requires
 plan-found-requires c κs =
-    let at-found = c .before .before .before in
+    let at-found = c .before .before .before .before in
     let at-inspect = at-found .before .before in
     found-of _ (sym (at-found .found .given .1) ∙ at-inspect .inspect .ensures)
 
@@ -29,20 +29,26 @@ same-length c = search needs
 same-length-2 : tie.Need-same-length-2
 same-length-2 c = search needs
 
+same-length-3 : tie.Need-same-length-3
+same-length-3 c = search needs
+
 returns : tie.Need-returns
 returns c = search needs
 
+-- Places: what stands before a need, by name. Written by `named`: run it again when the code changes.
+abbrev start-from-inspect : tie.After-inspect → tie.Start
+start-from-inspect c = c .before .before .before .before .before
+
 returns-2 : tie.Need-returns-2
 returns-2 c =
-    let at-why = c .before in
-    let at-inspect = at-why .before .before in
-    let at-start = at-inspect .before .before .before .before in
+    let at-inspect = c .before .before .before in
+    let at-start = start-from-inspect at-inspect in
     let s = now (at-start .args .s) in
     let work = now (at-start .args .work) in
     let trace = now (at-start .args .trace) in
-    let q = refused-by s (sym (at-why .why .given .1) ∙ at-inspect .inspect .ensures) in
-    let u = sheet-untouched s _ q work trace in
-    (sym (sheet-refused s _ q (length work) (length trace)), (sym (u .0), sym (u .1)))
+    let q = refused-by s (sym (c .before .why .given .1) ∙ at-inspect .inspect .ensures) in
+    let u = sheet-untouched s _ q work trace (now (at-start .args .index)) in
+    (sym (sheet-refused s _ q (length work) (length trace)), (sym (u .0), (sym (u .1), sym (u .2))))
 
 pub plan-spec : {M : Type 1} → statement M
 plan-spec =
@@ -54,5 +60,6 @@ plan-spec =
     enum-known-why
     same-length
     same-length-2
+    same-length-3
     returns
     returns-2)

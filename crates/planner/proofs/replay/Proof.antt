@@ -37,8 +37,8 @@ returns-2 c =
     let h = now (at-start .args .history) in
     let work = now (at-start .args .work) in
     let q = refused-by s (sym (at-why .why .given .1) ∙ at-inspect .inspect .ensures) in
-    let u = sheet-untouched s _ q work work in
-    (sym (sheet-refused-reply s _ q h (length work)), sym (u .2))
+    let u = sheet-untouched s _ q work work work in
+    (sym (sheet-refused-reply s _ q h (length work)), sym (u .3))
 
 pub replay-spec : {M : Type 1} → statement M
 replay-spec =

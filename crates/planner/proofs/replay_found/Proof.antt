@@ -1,10 +1,13 @@
 -- The work is long enough or it is not; a history longer than the bound is refused; else whether it is accepted is replay's answer. The work
 -- is cleared. Assumes nothing.
 use denote.Ref.{now}
+use Prim.Native.Nat.{_≤_}
 use native.Mathlib.Omega.{arith}
 use mathlib.Core.Path.{sym, _∙_, ap}
+use lib.ListN.{length}
 use lib.Seq.{length-take-le}
 use Rattle.sheet.specs.declared.Layout.{Layout}
+use Rattle.sheet.proofs.Accepted.{laid}
 use Rattle.sheet.proofs.Found.{answered}
 use Rattle.planner.proofs.Demands.{eleven-reply, replay-cleared}
 use Rattle.planner.proofs.Reported.{replaying, longer, cleared}
@@ -66,8 +69,12 @@ slice-aggregate-accepts c =
 
 accepts-requires : tie.Need-accepts-requires
 accepts-requires c κs =
-    let at-start = start-from-else1 (c .before .before) in
-    (at-start .pre, length-take-le (at-start .args .found .words) (now (at-start .args .work)) (c .before .before .if1 .left))
+    let at-if2 = c .before in
+    let at-start = start-from-else1 (at-if2 .before) in
+    let O = at-start .pre in
+    let e = ap (λ (l : Layout). l .d) (O .layout-is) in
+    let few : length (now (at-start .args .history)) ≤ 64 = omega (arith, e, laid _ (O .accepted) .d, at-if2 .if2 .left) in
+    (O, length-take-le (at-start .args .found .words) (now (at-start .args .work)) (at-if2 .before .if1 .left), few)
 
 reply-of-requires : tie.Need-reply-of-requires
 reply-of-requires c κs = search needs

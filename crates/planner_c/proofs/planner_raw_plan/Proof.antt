@@ -20,12 +20,15 @@ same-length c = search needs
 same-length-2 : tie.Need-same-length-2
 same-length-2 c = search needs
 
--- Places: what stands before a need, by name. Written by `named`: run it again when the code changes.
-abbrev plan-from-why : tie.After-why → tie.After-plan
-plan-from-why c = c .before .before .before .before .before .before
+same-length-3 : tie.Need-same-length-3
+same-length-3 c = search needs
 
+-- Places: what stands before a need, by name. Written by `named`: run it again when the code changes.
 abbrev plan-from-moves : tie.After-moves → tie.After-plan
-plan-from-moves c = c .before .before .before .before .before .before
+plan-from-moves c = c .before .before .before .before .before .before .before .before
+
+abbrev plan-from-why : tie.After-why → tie.After-plan
+plan-from-why c = c .before .before .before .before .before .before .before .before
 
 returns : tie.Need-returns
 returns c =
@@ -33,11 +36,14 @@ returns c =
     let q = sym (at-plan .plan .ensures .0) ∙ c .before .moves .given .1 in
     (sym (ap planNumber q), (sym (ap planMoves q), (sym (ap planTransitions q), (sym (ap planPlace q), at-plan .plan .ensures .1))))
 
-same-length-3 : tie.Need-same-length-3
-same-length-3 c = search needs
-
 same-length-4 : tie.Need-same-length-4
 same-length-4 c = search needs
+
+same-length-5 : tie.Need-same-length-5
+same-length-5 c = search needs
+
+same-length-6 : tie.Need-same-length-6
+same-length-6 c = search needs
 
 returns-2 : tie.Need-returns-2
 returns-2 c =
@@ -54,7 +60,9 @@ planner-raw-plan-spec =
     enum-known-why
     same-length
     same-length-2
-    returns
     same-length-3
+    returns
     same-length-4
+    same-length-5
+    same-length-6
     returns-2)

@@ -397,7 +397,7 @@ struct Areas {
 fn by_library(bytes: &[u8], Areas { work, trace }: &mut Areas) -> Measured {
     work.fill(0xa5a5_a5a5);
     trace.fill(0xa5a5);
-    let (answer, time) = timed(|| library::plan(black_box(bytes), work, trace));
+    let (answer, time) = timed(|| library::plan(black_box(bytes), work, trace, &mut []));
     let found = match answer.into_result() {
         Ok([n, transitions]) => Ok(Plan { history: trace[..n].to_vec(), transitions }),
         Err(refusal) => Err(Refusal { number: refusal.number as u8, place: refusal.place }),

@@ -1,10 +1,10 @@
 //! The verified library against the model, on random sheets and on the examples.
 //!
-//! `SEED` and `COUNT` (sheets) may be set. Compared for each sheet: every answer of every call, the whole work area and
-//! trace with what lies around them, and that sheet and history are as before. Areas hold garbage; they are long enough,
-//! longer, one short, both short, empty. A plan is judged by the model's layers, and is then compared with the model's
-//! first plan (document 02, F-1): n, t and the whole trace. The first disagreement ends the program with status 1 and
-//! the sheet in hex.
+//! `SEED` and `COUNT` (sheets) may be set. Compared for each sheet: every answer of every call, the whole work area,
+//! trace and index with what lies around them, and that sheet and history are as before. Areas hold garbage; they are
+//! long enough, longer, one short, both short, empty; an index has any length. A plan is judged by the model's layers,
+//! and is then compared with the model's first plan (document 02, F-1): n, t and the whole trace. The first disagreement
+//! ends the program with status 1 and the sheet in hex.
 
 #![forbid(unsafe_code)]
 
@@ -25,6 +25,9 @@ use std::process::ExitCode;
 const COUNT: usize = 120_000;
 /// Of a sheet that is planned, the most runs of at most D + 1 transitions.
 const MOST_RUNS: usize = 3_000;
+
+/// An index has fewer words than this.
+const MOST_INDEX: usize = 400;
 
 /// What differs, in words.
 type Outcome = Result<(), String>;
@@ -95,7 +98,7 @@ fn garbage_word(random: &mut Random) -> u32 {
     random.between(1, u32::MAX as usize) as u32
 }
 
-/// A trace or work area of garbage.
+/// A trace, work area or index of garbage.
 fn lent_area<T: Copy + PartialEq + Debug>(
     random: &mut Random,
     length: usize,
@@ -171,7 +174,9 @@ impl Compare {
     fn plan(&mut self, given: &Given, found: &Result<Plan, Refusal>, words: usize, entries: usize) -> Outcome {
         let mut work = lent_area(&mut self.random, words, garbage_word);
         let mut trace = lent_area(&mut self.random, entries, garbage_entry);
-        let got = library::plan(given.bytes.read(), work.lend(), trace.lend());
+        let length = self.random.below(MOST_INDEX);
+        let mut index = lent_area(&mut self.random, length, garbage_word);
+        let got = library::plan(given.bytes.read(), work.lend(), trace.lend(), index.lend());
 
         let lent = given.sheet().and_then(|sheet| {
             planner::lent(sheet, Some(entries), words)?;
@@ -180,6 +185,7 @@ impl Compare {
         if let Ok(sheet) = lent {
             self.judge(sheet, got, trace.read())?;
             work.must_begin_with(&vec![0; sheet.work()]);
+            index.must_begin_with(&vec![0; length]);
             if let Ok(plan) = found {
                 trace.must_begin_with(&plan.history);
             }
@@ -189,10 +195,11 @@ impl Compare {
             Err(refusal) => Err(*refusal),
         };
         let expected = lent.and(expected);
-        let call = format!("plan with {words} words and {entries} entries");
+        let call = format!("plan with {words} words, {entries} entries and {length} words of index");
         same(&call, answer(expected), got)?;
         work.compare(&format!("{call}: work"))?;
         trace.compare(&format!("{call}: trace"))?;
+        index.compare(&format!("{call}: index"))?;
         given.bytes.compare(&format!("{call}: the sheet"))
     }
 

@@ -24,6 +24,7 @@ enum { GARBAGE = 0x5a5a };
 static size_t first, second, place;
 static uint32_t yes;
 static uint32_t work[67];
+static uint32_t index_words[3];
 static int failures;
 
 static void expect(const char *what, int holds)
@@ -45,7 +46,7 @@ static void null_sheet(void)
 {
     answers("check", planner_check(NULL, 0, &first, &place), 1, 0, GARBAGE);
     answers("sizes", planner_sizes(NULL, 0, &first, &second, &place), 1, 0, 0);
-    answers("plan", planner_plan(NULL, 0, NULL, 0, NULL, 0, &first, &second, &place), 1, 0, 0);
+    answers("plan", planner_plan(NULL, 0, NULL, 0, NULL, 0, NULL, 0, &first, &second, &place), 1, 0, 0);
     yes = GARBAGE;
     answers("replay", planner_replay(NULL, 0, NULL, 0, NULL, 0, &yes, &place), 1, GARBAGE, GARBAGE);
     expect("replay: yes", yes == 0);
@@ -57,13 +58,20 @@ static void null_areas(void)
 {
     const uint8_t *sheet = nil_sheet;
     size_t len = COUNT(nil_sheet);
-    answers("null trace", planner_plan(sheet, len, work, 67, NULL, 0, &first, &second, &place), 0, 0, 0);
-    answers("null work, plan", planner_plan(sheet, len, NULL, 0, NULL, 0, &first, &second, &place), 11, 0, 0);
+    index_words[0] = index_words[1] = index_words[2] = GARBAGE;
+    answers("null work, plan", planner_plan(sheet, len, NULL, 0, NULL, 0, index_words, 3, &first, &second, &place), 11,
+            0, 0);
+    expect("index untouched", index_words[0] == GARBAGE && index_words[1] == GARBAGE && index_words[2] == GARBAGE);
+    answers("null trace", planner_plan(sheet, len, work, 67, NULL, 0, index_words, 2, &first, &second, &place), 0, 0,
+            0);
+    expect("index cleared", index_words[0] == 0 && index_words[1] == 0 && index_words[2] == GARBAGE);
+    answers("null index", planner_plan(sheet, len, work, 67, NULL, 0, NULL, 0, &first, &second, &place), 0, 0, 0);
     answers("null work, replay", planner_replay(sheet, len, NULL, 0, NULL, 0, &yes, &place), 11, GARBAGE, GARBAGE);
     answers("null history", planner_replay(sheet, len, NULL, 0, work, 67, &yes, &place), 0, GARBAGE, GARBAGE);
     expect("null history: yes", yes == 1);
     sheet = bounded_sheet;
-    answers("null trace, D 1", planner_plan(sheet, len, work, 67, NULL, 0, &first, &second, &place), 10, 0, 0);
+    answers("null trace, D 1", planner_plan(sheet, len, work, 67, NULL, 0, NULL, 0, &first, &second, &place), 10, 0,
+            0);
 }
 
 /* Fifteen stars, one around the other, around nil, and an interrupt around them: height 16, and D 64. */

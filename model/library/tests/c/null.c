@@ -26,10 +26,10 @@ uint32_t planner_raw_sizes(const uint8_t *sheet, size_t sheet_len, size_t *fluen
 }
 
 uint32_t planner_raw_plan(const uint8_t *sheet, size_t sheet_len, uint32_t *work, size_t work_len, uint16_t *trace,
-                          size_t trace_len, size_t *n, size_t *t, size_t *where)
+                          size_t trace_len, uint32_t *index, size_t index_len, size_t *n, size_t *t, size_t *where)
 {
-    return empty(sheet, 1, sheet_len) && empty(work, 4, work_len) && empty(trace, 2, trace_len) && n == &first
-           && t == &second && where == &place;
+    return empty(sheet, 1, sheet_len) && empty(work, 4, work_len) && empty(trace, 2, trace_len)
+           && empty(index, 4, index_len) && n == &first && t == &second && where == &place;
 }
 
 uint32_t planner_raw_replay(const uint8_t *sheet, size_t sheet_len, const uint16_t *history, size_t history_len,
@@ -62,7 +62,7 @@ int main(void)
 {
     int failures = failed("check", planner_check(NULL, 0, &first, &place))
                    + failed("sizes", planner_sizes(NULL, 0, &first, &second, &place))
-                   + failed("plan", planner_plan(NULL, 0, NULL, 0, NULL, 0, &first, &second, &place))
+                   + failed("plan", planner_plan(NULL, 0, NULL, 0, NULL, 0, NULL, 0, &first, &second, &place))
                    + failed("replay", planner_replay(NULL, 0, NULL, 0, NULL, 0, &yes, &place))
                    + failed("look_up", planner_look_up(NULL, 0, 7, &first, &second, &place))
                    + failed("notes", planner_notes(NULL, 0, &first, &place));

@@ -22,6 +22,7 @@ static uint16_t history[MOST_BYTES];
 static size_t history_len;
 static uint32_t work[PLANNER_WORK_MAX];
 static uint16_t trace[PLANNER_TRACE_MAX];
+static uint32_t index_words[MOST_BYTES];
 static size_t first, second, place;
 static uint32_t yes;
 
@@ -37,7 +38,8 @@ static uint32_t sizes(void)
 
 static uint32_t plan(void)
 {
-    return planner_plan(sheet, sheet_len, work, PLANNER_WORK_MAX, trace, PLANNER_TRACE_MAX, &first, &second, &place);
+    return planner_plan(sheet, sheet_len, work, PLANNER_WORK_MAX, trace, PLANNER_TRACE_MAX, index_words, MOST_BYTES,
+                        &first, &second, &place);
 }
 
 static uint32_t replay(void)

@@ -1,0 +1,80 @@
+-- What is found under the key of a configuration is true of it, where it serves. Assumes nothing.
+use native.Mathlib.Omega.{arith}
+use mathlib.Core.Bool.{true≢false}
+use mathlib.Core.Path.{sym, _∙_, ap, subst}
+use lib.Seq.{length-take-le}
+use Rattle.runs.specs.Bounded.{flagged}
+use Rattle.index.specs.Content.{Tells}
+use Rattle.explored.proofs.Recalling.{recalled}
+use borrow.Author.Needs.{needs}
+use Rattle.explored.proofs.recall.Statement.{statement}
+use Rattle.explored.proofs.recall.Tie as tie
+
+not-served-requires : tie.Need-not-served-requires
+not-served-requires c κs = search needs
+
+returns : tie.Need-returns
+returns c = λ guides k p N F e. absurd (true≢false (sym e ∙ c .not-served .ensures))
+
+slice-aggregate-key-of : tie.Need-slice-aggregate-key-of
+slice-aggregate-key-of c = search needs
+
+key-of-requires : tie.Need-key-of-requires
+key-of-requires c κs = search needs
+
+not-served-requires-2 : tie.Need-not-served-requires-2
+not-served-requires-2 c κs = search needs
+
+returns-2 : tie.Need-returns-2
+returns-2 c = λ guides k p N F e. absurd (true≢false (sym e ∙ c .not-served2 .ensures))
+
+array-share-prefix-key : tie.Need-array-share-prefix-key
+array-share-prefix-key c = search needs
+
+slice-aggregate-find : tie.Need-slice-aggregate-find
+slice-aggregate-find c = sym (length-take-le (c .before .before .before .key-of .result) (c .before .before .before .key-of .last .0) (omega (arith, c .before .before .before .key-of .ensures .0, c .before .before .before .key-of .kept)))
+
+find-requires : tie.Need-find-requires
+find-requires c κs = search needs
+
+enum-known-answer : tie.Need-enum-known-answer
+enum-known-answer c = search needs
+
+weigh-requires : tie.Need-weigh-requires
+weigh-requires c κs = search needs
+
+enum-told : tie.Need-enum-told
+enum-told c = search needs
+
+not-served-requires-3 : tie.Need-not-served-requires-3
+not-served-requires-3 c κs = search needs
+
+returns-3 : tie.Need-returns-3
+returns-3 c =
+    λ guides k p N F e.
+    let W = c .weigh .ensures in
+    recalled (p, c .before .before .before .before .before .before .before .before .before .before .before .before .before .before .args .c .state) (c .before .before .before .before .before .before .before .before .before .before .before .before .before .before .args .cut) (c .before .before .before .before .before .before .before .before .before .before .before .before .before .before .args .left) _ N (c .before .before .before .before .before .before .before .before .key-of .ensures .1 k p F (omega (arith, c .before .before .before .before .before .before .if2 .left)))
+    (λ es S. subst (Tells es _) (c .before .before .answer .given .1) (c .before .before .before .before .find .ensures es S)) (W .0 e) (W .1 .0 e) ∙ sym (ap flagged (W .1 .1))
+
+returns-4 : tie.Need-returns-4
+returns-4 c = λ guides k p N F e. absurd (true≢false (sym e ∙ c .not-served3 .ensures))
+
+pub recall-spec : {M : Type 1} → statement M
+recall-spec =
+    tie.close
+    (tie.spec
+    not-served-requires
+    returns
+    slice-aggregate-key-of
+    key-of-requires
+    not-served-requires-2
+    returns-2
+    array-share-prefix-key
+    slice-aggregate-find
+    find-requires
+    enum-known-answer
+    weigh-requires
+    enum-told
+    not-served-requires-3
+    returns-3
+    returns-4)

@@ -1,0 +1,4 @@
+pub mod Joined
+pub mod Written
+pub mod Unpacked
+pub mod Same
