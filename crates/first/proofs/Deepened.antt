@@ -2,16 +2,17 @@
 -- fewest transitions once no search for fewer finds one. Assumes nothing.
 use Prim.Native.Nat.{ℕ, suc, _+_, _≤_, _<_}
 use native.Mathlib.Omega.{arith}
+use native.Mathlib.Decide.{decLe}
 use mathlib.Core.Bool.{Bool, true, false, true≢false}
 use mathlib.Core.List.{List}
 use mathlib.Core.Path.{_≡_, refl, sym, _∙_, ap, subst}
 use lib.ListN.{length, take}
 use Rattle.runs.specs.Search.{Verdict, plan, nothing, more, Means}
-use Rattle.runs.specs.First.{NoneBelow}
+use Rattle.runs.specs.First.{FinalAt, NoneBelow}
 use Rattle.runs.specs.Guide.{unguided}
 use Rattle.runs.specs.Bounded.{join, flagged}
 use Rattle.runs.specs.Growing.{SoFar}
-use Rattle.runs.proofs.Deepening.{so-far-none, so-far-nothing, so-far-more, so-far-all, fewest-met, fewest-alone}
+use Rattle.runs.proofs.Deepening.{so-far-none, so-far-nothing, so-far-more, so-far-all, fewest-met}
 use Rattle.demands.specs.Decoded.{worldOf, firstOf, boundOf}
 use Rattle.demands.specs.Planning.{Goes, Ends}
 use Rattle.search.specs.Outcome.{ReportsVerdict, Reported, isFound, isMore}
@@ -121,38 +122,42 @@ module _ {s : List ℕ} {low : ℕ} {trace : List ℕ} {o : Outcome} (F : FoundS
       go nothing q m = record { verdict = nothing; holds = q; means = m }
       go more q m = absurd (true≢false (sym (ap isMore q) ∙ F .not-more))
 
-  -- fewer were tried
-  module _ (left : ℕ) (e : transitionCount o ≡ suc left) {trace′ : List ℕ} {x : Outcome}
+  -- at most `left` were asked for, fewer than those at hand
+  module _ (left : ℕ) (l : left < transitionCount o) {trace′ : List ℕ} {x : Outcome}
       (R : Reported 0 0 trace trace′ x (join (flagged true) (verdictFrom s left (firstOf s, unguided)))) where
-    pub lowered-out : isFound x ≡ false → FewestFound s trace′ o
-    lowered-out z =
+    -- there is none
+    pub lowered-none : isFound x ≡ false → (trace′ ≡ trace) × FoundSoFar s (left + 1) trace′ o
+    lowered-none z =
         let kept = unfound-kept 0 0 trace trace′ x (join (flagged true) (verdictFrom s left (firstOf s, unguided))) (R .says) z in
-        subst (λ (r : List ℕ). FewestFound s r o) (sym kept) (go (F .verdict) (F .holds) (F .means))
+        (kept, subst (λ (r : List ℕ). FoundSoFar s (left + 1) r o) (sym kept) (go (F .verdict) (F .holds) (F .means)))
       where
-        go : (v : Verdict) → Holds trace o v → SoFarOf v → FewestFound s trace o
+        above : (n : ℕ) (g : List ℕ) → FinalAt (Goes (worldOf s)) (Ends (worldOf s)) n (firstOf s) g → Dec (n ≤ left) → left + 1 ≤ n
+        above n g f (yes y) = absurd (no-run s left unguided true R z n g y f tt)
+        above n g f (no y) = omega arith
+
+        go : (v : Verdict) → Holds trace o v → SoFarOf v → FoundSoFar s (left + 1) trace o
         go (plan h t) (q, k) m =
-            let y : transitionCount o ≡ t = ap transitionCount q in
             record {
               verdict = plan h t;
               holds = (q, k);
-              means = fewest-alone (Goes (worldOf s)) (Ends (worldOf s)) m (λ n g l f. no-run s left unguided true R z n g (omega arith) f tt);
+              means = record { within = m .within; plan = m .plan; none-below = λ n g f. above n g f (decLe n left) };
+              not-more = F .not-more;
             }
-        go nothing q m = absurd (omega (arith, e, ap transitionCount q))
-        go more q m = absurd (omega (arith, e, ap transitionCount q))
+        go nothing q m = absurd (omega (arith, l, ap transitionCount q))
+        go more q m = absurd (omega (arith, l, ap transitionCount q))
 
-    pub lowered : boundOf s ≤ length trace → isFound x ≡ true → FoundSoFar s low trace′ x × (transitionCount x < transitionCount o)
+    -- there is one
+    pub lowered : boundOf s ≤ length trace → isFound x ≡ true → FoundSoFar s low trace′ x × (transitionCount x ≤ left)
     lowered room z = go (F .verdict) (F .holds) (F .means) x refl
       where
-        found :
-            NoneBelow (Goes (worldOf s)) (Ends (worldOf s)) low (firstOf s) → left ≤ boundOf s → (y : Outcome) → x ≡ y
-            → FoundSoFar s low trace′ x × (transitionCount x < transitionCount o)
+        found : NoneBelow (Goes (worldOf s)) (Ends (worldOf s)) low (firstOf s) → left ≤ boundOf s → (y : Outcome) → x ≡ y → FoundSoFar s low trace′ x × (transitionCount x ≤ left)
         found few l (Found n u) q =
             let (X, m) = found-so-far low left true few l R (omega arith) n u q in
-            (X, omega (arith, e, ap transitionCount q))
+            (X, omega (arith, m, ap transitionCount q))
         found few l Nothing q = absurd (true≢false (sym z ∙ ap isFound q))
         found few l More q = absurd (true≢false (sym z ∙ ap isFound q))
 
-        go : (v : Verdict) → Holds trace o v → SoFarOf v → (y : Outcome) → x ≡ y → FoundSoFar s low trace′ x × (transitionCount x < transitionCount o)
-        go (plan h t) (q, k) m y p = found (m .none-below) (omega (arith, e, ap transitionCount q, m .within)) y p
-        go nothing q m y p = absurd (omega (arith, e, ap transitionCount q))
-        go more q m y p = absurd (omega (arith, e, ap transitionCount q))
+        go : (v : Verdict) → Holds trace o v → SoFarOf v → (y : Outcome) → x ≡ y → FoundSoFar s low trace′ x × (transitionCount x ≤ left)
+        go (plan h t) (q, k) m y p = found (m .none-below) (omega (arith, l, ap transitionCount q, m .within)) y p
+        go nothing q m y p = absurd (omega (arith, l, ap transitionCount q))
+        go more q m y p = absurd (omega (arith, l, ap transitionCount q))

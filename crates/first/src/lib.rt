@@ -39,8 +39,16 @@ fn transition_count(o: Outcome) -> usize
     }
 }
 
-// The fewest transitions, where no run of fewer than `low` ends final and what was found is a plan or not: one of fewer is sought, until
-// there is none.
+// Half way between two bounds.
+fn half_way(low: usize, high: usize) -> usize
+    requires { ⌜ low < high ⌝ }
+    ensures { λ r. ⌜ (low ≤ r) × (r < high) ⌝ }
+{
+    low + (high - low) / 2
+}
+
+// The fewest transitions, where no run of fewer than `low` ends final and what was found is a plan or not: one of fewer is sought, by
+// halves, until there is none.
 fn lower(
     work: &mut [u32],
     best: &mut [u16],
@@ -59,14 +67,16 @@ fn lower(
 {
     let none = [0u16; 1];
     let mut fewest = o;
-    while low < transition_count(fewest) {
-        let left = transition_count(fewest) - 1;
+    let mut tried = low;
+    while tried < transition_count(fewest) {
+        let left = half_way(tried, transition_count(fewest));
         let a = any_run(left, true);
         let x = search::explore(work, best, flags, numbers, index, s, found, &none[..0], a);
-        if !search::is_found(x) {
-            return fewest;
+        if search::is_found(x) {
+            fewest = x;
+        } else {
+            tried = left + 1;
         }
-        fewest = x;
     }
     fewest
 }
@@ -82,15 +92,32 @@ fn doubles(before: u32, cost: u32) -> bool {
     (8 <= b) & (3 * b <= 2 * c) & (5 * c <= 11 * b)
 }
 
-// The bound to try where those below `low` are done: D itself where that is one of the last, to be tried at once.
-fn next_bound(low: usize, d: usize, at_once: bool) -> usize
+// How many bounds to pass over next, so many having been passed over between two searches that cost so much: about twice as many where the
+// second cost little more, half as many where it cost much more. No answer depends on it.
+fn leap(ahead: usize, before: u32, cost: u32) -> usize {
+    let b = before as u64;
+    let c = cost as u64;
+    if 3 * c <= 4 * b {
+        return 2 * (ahead % 32) + 1;
+    }
+    if 5 * b <= 2 * c {
+        return ahead / 2;
+    }
+    ahead
+}
+
+// The bound to try where those below `low` are done, so many being passed over: D itself where that is one of the last, to be tried at once.
+fn next_bound(low: usize, d: usize, at_once: bool, ahead: usize) -> usize
     requires { ⌜ low ≤ d ⌝ }
     ensures { λ r. ⌜ (low ≤ r) × (r ≤ d) ⌝ }
 {
     if at_once & (d - low < LAST) {
         return d;
     }
-    low
+    if d - low <= ahead {
+        return d;
+    }
+    low + ahead
 }
 
 // What is asked where any run will do.
@@ -125,9 +152,10 @@ fn deepen(
     let none = [0u16; 1];
     let mut low = 0;
     let mut at_once = false;
+    let mut ahead = 0;
     let mut before = 0u32;
     while low <= d {
-        let t = next_bound(low, d, at_once);
+        let t = next_bound(low, d, at_once, ahead);
         let begun = engine::surveys(numbers);
         let a = any_run(t, false);
         let o = search::explore(work, best, flags, numbers, index, s, found, &none[..0], a);
@@ -136,6 +164,7 @@ fn deepen(
         }
         let cost = std::num::wrapping_sub_u32(engine::surveys(numbers), begun);
         at_once = doubles(before, cost);
+        ahead = leap(ahead, before, cost);
         before = cost;
         low = t + 1;
     }

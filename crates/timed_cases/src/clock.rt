@@ -15,3 +15,13 @@ pub fn since(then: u64) -> u64 {
     let now = microseconds();
     if now < then { 0 } else { now - then }
 }
+
+// The less of two times.
+pub fn least(a: u64, b: u64) -> u64 {
+    if a < b { a } else { b }
+}
+
+// Whether a time is at most so long: no, where the clock told nothing.
+pub fn at_most(time: u64, limit: u64) -> bool {
+    time > 0 && time <= limit
+}

@@ -3,9 +3,12 @@
 mod clock;
 mod each_fluent;
 mod performing;
+mod planning;
 mod report;
+mod sheets;
 mod writing;
 
 fn main() {
     performing::cases();
+    planning::cases();
 }

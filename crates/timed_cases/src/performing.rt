@@ -75,10 +75,6 @@ fn perform_often(
     }
 }
 
-fn least(a: u64, b: u64) -> u64 {
-    if a < b { a } else { b }
-}
-
 fn is_same(a: [u8; 32], b: [u8; 32]) -> bool {
     let mut x = 0;
     while x < 32 {
@@ -101,8 +97,8 @@ fn measure(effects: &[u8], r: Action, n: usize, truths: &[bool], values: [u8; 32
     while i < ROUNDS {
         let a = perform_often(true, effects, r, n, truths, values);
         let b = perform_often(false, effects, r, n, truths, values);
-        one_pass = least(one_pass, a.time);
-        each_fluent = least(each_fluent, b.time);
+        one_pass = clock::least(one_pass, a.time);
+        each_fluent = clock::least(each_fluent, b.time);
         let by_one_pass = a.values;
         let by_each_fluent = b.values;
         same = same & is_same(by_one_pass, by_each_fluent);
@@ -115,12 +111,12 @@ fn measure(effects: &[u8], r: Action, n: usize, truths: &[bool], values: [u8; 32
     }
 }
 
-// Writes whether one pass takes at most half as long: no, where the clock tells nothing. Times go to standard error.
+// Writes whether one pass takes at most half as long. Times go to standard error.
 fn tell_times(t: Times) {
     report::answer(b"  the same values in every round", t.same);
     report::answer(
         b"  one pass takes at most half as long",
-        t.one_pass > 0 && t.one_pass <= t.each_fluent / 2,
+        clock::at_most(t.one_pass, t.each_fluent / 2),
     );
     report::time(b"one pass, a thousand times", t.one_pass);
     report::time(b"a pass for each fluent, a thousand times", t.each_fluent);

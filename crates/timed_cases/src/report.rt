@@ -21,6 +21,11 @@ pub fn answer(question: &[u8], yes: bool) {
     }
 }
 
+pub fn number(x: u64) {
+    text(b" ");
+    io::print_decimal(OUT, x);
+}
+
 fn wide(x: u8) -> u64 {
     x as u64
 }
@@ -33,9 +38,26 @@ pub fn values(n: usize, v: &[u8]) {
         if x >= v.len() {
             break;
         }
-        text(b" ");
-        io::print_decimal(OUT, wide(v[x]));
+        number(wide(v[x]));
         x += 1;
+    }
+    text(b"\n");
+}
+
+fn wide_entry(x: u16) -> u64 {
+    x as u64
+}
+
+// The first n entries, all where there are not so many.
+pub fn entries(n: usize, trace: &[u16]) {
+    text(b"  entries");
+    let mut i = 0;
+    while i < n {
+        if i >= trace.len() {
+            break;
+        }
+        number(wide_entry(trace[i]));
+        i += 1;
     }
     text(b"\n");
 }

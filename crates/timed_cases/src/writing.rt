@@ -2,7 +2,7 @@
 // sixteen times, each time with another value. No rule of the sheet is applied here.
 // The action is impossible where formula 0, its precondition, fails, and where two effects of one fluent hold (document 02, F-2); what its
 // effects give is defined all the same.
-ghost use Prim.Native.Nat.{_<_};
+ghost use Prim.Native.Nat.{_<_, _≤_};
 
 pub const BYTES: usize = 5216;
 
@@ -15,9 +15,20 @@ const EFFECTS: usize = 3136;
 const LAST: usize = 5184;
 
 // Writes a byte, if there is room.
-fn byte(s: &mut [u8], at: usize, v: u8) {
+pub fn byte(s: &mut [u8], at: usize, v: u8) {
     if at < s.len() {
         s[at] = v;
+    }
+}
+
+// Writes bytes from a place on, as far as there is room.
+pub fn copy(s: &mut [u8], at: usize, bytes: &[u8])
+    requires { ⌜ at ≤ 65536 ⌝ }
+{
+    let mut i = 0;
+    while i < bytes.len() {
+        byte(s, at + i, bytes[i]);
+        i += 1;
     }
 }
 
@@ -55,13 +66,11 @@ fn effects(s: &mut [u8], from: usize) {
 
 // The action has the whole range, the program performs it.
 fn rest(s: &mut [u8]) {
-    let bytes =
-        b"\x00\x00\x00\x00\x00\x02\x01\x00\x00\x00\x00\x00\x00\x00\x20\x00\x00\x02\x00\x02\x01\x00\x01\x00\x01\x00\x4e\x14\x00\x00\x42\x51";
-    let mut i = 0;
-    while i < 32 {
-        byte(s, LAST + i, bytes[i]);
-        i += 1;
-    }
+    copy(
+        s,
+        LAST,
+        b"\x00\x00\x00\x00\x00\x02\x01\x00\x00\x00\x00\x00\x00\x00\x20\x00\x00\x02\x00\x02\x01\x00\x01\x00\x01\x00\x4e\x14\x00\x00\x42\x51",
+    );
 }
 
 // The sheet, over bytes that are 0: the effects from number `from` on hold.

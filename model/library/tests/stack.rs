@@ -1,5 +1,5 @@
 //! How much stack each call takes on sheets that take a search as deep as it goes: no more than the header allows.
-//! Every call is made by c/stack.c, in a process of its own.
+//! Every call is made by c/stack.c, in a process of its own; `indexed` is planning with a lent index.
 
 #![forbid(unsafe_code)]
 
@@ -10,7 +10,10 @@ use sheets::deep::{deep, Deep};
 use std::path::Path;
 use std::process::ExitCode;
 
-const CALLS: [&str; 6] = ["check", "sizes", "notes", "look_up", "plan", "replay"];
+const CALLS: [&str; 7] = ["check", "sizes", "notes", "look_up", "plan", "indexed", "replay"];
+
+/// The words of index that `indexed` lends.
+const INDEX: usize = 4_096;
 
 /// The bytes that a call takes, and the most that it may take.
 fn measured(program: &Path, call: &str, deep: &Deep) -> [usize; 2] {
@@ -24,15 +27,21 @@ fn measured(program: &Path, call: &str, deep: &Deep) -> [usize; 2] {
     [bytes, limit]
 }
 
-/// That the search does make 64 transitions: the plan has as many, and its history is replayed.
+/// That searches do make 64 transitions: the plan has as many, with an index and without, and its history is replayed.
 fn goes_down(deep: &Deep) {
     let [words] = library::check(&deep.sheet).into_result().expect("the sheet is accepted");
-    let (mut work, mut trace) = (vec![0; words], vec![0; 64]);
-    let found = Answer { number: 0, place: 0, results: [64, 64] };
-    assert_eq!(plan(&deep.sheet, &mut work, &mut trace, &mut []), found, "{}", deep.name);
-    assert_eq!(trace, deep.history, "{}", deep.name);
+    let mut work = vec![0; words];
+    for length in [0, INDEX] {
+        let (mut trace, mut index) = (vec![0; 64], vec![1; length]);
+        let found = Answer { number: 0, place: 0, results: [64, 64] };
+        assert_eq!(plan(&deep.sheet, &mut work, &mut trace, &mut index), found, "{}", deep.name);
+        assert_eq!(trace, deep.history, "{}", deep.name);
+        assert!(index.iter().all(|&word| word == 0), "{}", deep.name);
+    }
     let yes = Answer { number: 0, place: 0, results: [1] };
-    assert_eq!(replay(&deep.sheet, &trace, &mut work), yes, "{}", deep.name);
+    assert_eq!(replay(&deep.sheet, &deep.history, &mut work), yes, "{}", deep.name);
+    let no = Answer { number: 0, place: 0, results: [0] };
+    assert_eq!(replay(&deep.sheet, &deep.history[..63], &mut work), no, "{}", deep.name);
 }
 
 fn main() -> ExitCode {

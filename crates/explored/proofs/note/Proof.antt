@@ -24,7 +24,9 @@ array-share-prefix-key : tie.Need-array-share-prefix-key
 array-share-prefix-key c = search needs
 
 slice-aggregate-note : tie.Need-slice-aggregate-note
-slice-aggregate-note c = sym (length-take-le (c .before .before .before .before .key-of .result) (c .before .before .before .before .key-of .last .0) (omega (arith, c .before .before .before .before .key-of .ensures .0, c .before .before .before .before .key-of .kept)))
+slice-aggregate-note c =
+    let at-key-of = c .before .before .before .before in
+    sym (length-take-le (at-key-of .key-of .result) (at-key-of .key-of .last .0) (omega (arith, at-key-of .key-of .ensures .0, at-key-of .key-of .kept)))
 
 value-of-requires : tie.Need-value-of-requires
 value-of-requires c κs = search needs
@@ -35,12 +37,21 @@ note-requires c κs = search needs
 same-length : tie.Need-same-length
 same-length c = search needs
 
+-- Places: what stands before a need, by name. Written by `named`: run it again when the code changes.
+abbrev start-from-key-of : tie.After-key-of → tie.Start
+start-from-key-of c = c .before .before .before .before .before .before
+
 returns-3 : tie.Need-returns-3
 returns-3 c =
+    let at-value-of = c .before .before .before in
+    let at-if2 = at-value-of .before .before .before in
+    let at-key-of = at-if2 .before .before in
+    let at-start = start-from-key-of at-key-of in
     λ guides N E.
-    let r = c .before .before .before .before .before .before .before .before .before .before .before .before .before .before .pre in
-    noted (E .program, c .before .before .before .before .before .before .before .before .before .before .before .before .before .before .args .c .state) (c .before .before .before .before .before .before .before .before .before .before .before .before .before .before .args .left) (c .before .before .before .before .before .before .before .before .before .before .before .before .before .before .args .flag) (r .4) (r .5) (c .before .before .before .before .before .before .before .before .key-of .ensures .1 (E .room) (E .program) (E .frame) (omega (arith, c .before .before .before .before .before .before .if2 .left)))
-    (E .claim) (rw (c .before .before .before .value-of .ensures .0) at (c .before .before .note .ensures)) N
+    let r = at-start .pre in
+    noted (E .program, at-start .args .c .state) (at-start .args .left) (at-start .args .flag) (r .4) (r .5)
+    (at-key-of .key-of .ensures .1 (E .room) (E .program) (E .frame) (omega (arith, at-if2 .if2 .left)))
+    (E .claim) (rw (at-value-of .value-of .ensures .0) at (c .before .before .note .ensures)) N
 
 pub note-spec : {M : Type 1} → statement M
 note-spec =

@@ -32,7 +32,9 @@ array-share-prefix-key : tie.Need-array-share-prefix-key
 array-share-prefix-key c = search needs
 
 slice-aggregate-find : tie.Need-slice-aggregate-find
-slice-aggregate-find c = sym (length-take-le (c .before .before .before .key-of .result) (c .before .before .before .key-of .last .0) (omega (arith, c .before .before .before .key-of .ensures .0, c .before .before .before .key-of .kept)))
+slice-aggregate-find c =
+    let at-key-of = c .before .before .before in
+    sym (length-take-le (at-key-of .key-of .result) (at-key-of .key-of .last .0) (omega (arith, at-key-of .key-of .ensures .0, at-key-of .key-of .kept)))
 
 find-requires : tie.Need-find-requires
 find-requires c κs = search needs
@@ -49,12 +51,20 @@ enum-told c = search needs
 not-served-requires-3 : tie.Need-not-served-requires-3
 not-served-requires-3 c κs = search needs
 
+-- Places: what stands before a need, by name. Written by `named`: run it again when the code changes.
+abbrev start-from-key-of : tie.After-key-of → tie.Start
+start-from-key-of c = c .before .before .before .before .before .before
+
 returns-3 : tie.Need-returns-3
 returns-3 c =
+    let at-find = c .before .before .before .before in
+    let at-if2 = at-find .before .before in
+    let at-key-of = at-if2 .before .before in
+    let at-start = start-from-key-of at-key-of in
     λ guides k p N F e.
     let W = c .weigh .ensures in
-    recalled (p, c .before .before .before .before .before .before .before .before .before .before .before .before .before .before .args .c .state) (c .before .before .before .before .before .before .before .before .before .before .before .before .before .before .args .cut) (c .before .before .before .before .before .before .before .before .before .before .before .before .before .before .args .left) _ N (c .before .before .before .before .before .before .before .before .key-of .ensures .1 k p F (omega (arith, c .before .before .before .before .before .before .if2 .left)))
-    (λ es S. subst (Tells es _) (c .before .before .answer .given .1) (c .before .before .before .before .find .ensures es S)) (W .0 e) (W .1 .0 e) ∙ sym (ap flagged (W .1 .1))
+    recalled (p, at-start .args .c .state) (at-start .args .cut) (at-start .args .left) _ N (at-key-of .key-of .ensures .1 k p F (omega (arith, at-if2 .if2 .left)))
+    (λ es S. subst (Tells es _) (c .before .before .answer .given .1) (at-find .find .ensures es S)) (W .0 e) (W .1 .0 e) ∙ sym (ap flagged (W .1 .1))
 
 returns-4 : tie.Need-returns-4
 returns-4 c = λ guides k p N F e. absurd (true≢false (sym e ∙ c .not-served3 .ensures))

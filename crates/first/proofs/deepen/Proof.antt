@@ -20,11 +20,11 @@ use Rattle.first.proofs.deepen.Statement.{statement}
 use Rattle.first.proofs.deepen.Tie as tie
 
 abbrev Inv-loop : tie.InvT-loop
-Inv-loop work₀ best₀ flags₀ numbers₀ index₀ s found d none low₀ at-once₀ before₀ work best flags numbers index low at-once before =
+Inv-loop work₀ best₀ flags₀ numbers₀ index₀ s found d none low₀ at-once₀ ahead₀ before₀ work best flags numbers index low at-once ahead before =
     Kept s found work₀ flags₀ numbers₀ index₀ work flags numbers index × Raising s best₀ best d low
 
 abbrev μ-loop : tie.MeasureT-loop
-μ-loop work₀ best₀ flags₀ numbers₀ index₀ s found d none low₀ at-once₀ before₀ work best flags numbers index low at-once before = d + 1 - low
+μ-loop work₀ best₀ flags₀ numbers₀ index₀ s found d none low₀ at-once₀ ahead₀ before₀ work best flags numbers index low at-once ahead before = d + 1 - low
 
 -- Places: what stands before a need, by name. Written by `named`: run it again when the code changes.
 abbrev start-from-loop-holds : tie.After-l Inv-loop μ-loop → tie.Start Inv-loop μ-loop
@@ -54,8 +54,11 @@ explore-from-is-more c = c .before .before .before .before .before .before .befo
 abbrev explore-from-else1 : tie.Else1 Inv-loop μ-loop → tie.After-explore Inv-loop μ-loop
 explore-from-else1 c = explore-from-is-more (c .before)
 
-abbrev next-bound-from-else1 : tie.Else1 Inv-loop μ-loop → tie.After-next-bound Inv-loop μ-loop
-next-bound-from-else1 c = next-bound-from-explore (explore-from-else1 c)
+abbrev if1-from-add-low : tie.After-leap Inv-loop μ-loop → tie.Else1 Inv-loop μ-loop
+if1-from-add-low c = c .before .before .before .before .before
+
+abbrev next-bound-from-add-low : tie.After-leap Inv-loop μ-loop → tie.After-next-bound Inv-loop μ-loop
+next-bound-from-add-low c = next-bound-from-explore (explore-from-else1 (if1-from-add-low c))
 
 abbrev if1-from-lower-requires : tie.After-lower-arg5 Inv-loop μ-loop → tie.Then1 Inv-loop μ-loop
 if1-from-lower-requires c = c .before .before .before .before .before
@@ -178,21 +181,24 @@ wrapping-sub-u32-requires c κs = search needs
 doubles-requires : tie.Need-doubles-requires Inv-loop μ-loop
 doubles-requires c κs = search needs
 
+leap-requires : tie.Need-leap-requires Inv-loop μ-loop
+leap-requires c κs = search needs
+
 add-low : tie.Need-add-low Inv-loop μ-loop
 add-low c =
-    let at-next-bound = next-bound-from-else1 (c .before .before .before .before) in
+    let at-next-bound = next-bound-from-add-low c in
     let at-loop = at-next-bound .before .before in
     omega (arith, at-loop .loop .inv .1 .bound, laid _ (at-loop .loop .inv .0 .standing .of .accepted) .d, at-next-bound .next-bound .ensures .1)
 
 loop-less : tie.Need-loop-less Inv-loop μ-loop
 loop-less c =
-    let at-next-bound = next-bound-from-else1 (c .before .before .before .before) in
+    let at-next-bound = next-bound-from-add-low c in
     let at-loop-test = at-next-bound .before in
     omega (arith, at-next-bound .next-bound .ensures .0, at-loop-test .loop-test .taken)
 
 loop-again : tie.Need-loop-again Inv-loop μ-loop
 loop-again c =
-    let at-if1 = c .before .before .before .before in
+    let at-if1 = if1-from-add-low c in
     let at-is-more = at-if1 .before in
     let at-explore = explore-from-is-more at-is-more in
     let at-next-bound = next-bound-from-explore at-explore in
@@ -261,6 +267,7 @@ deepen-spec =
     surveys-requires-2
     wrapping-sub-u32-requires
     doubles-requires
+    leap-requires
     add-low
     loop-less
     loop-again

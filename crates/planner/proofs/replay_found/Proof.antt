@@ -22,6 +22,9 @@ start-from-else1 c = c .before .before .before .before .before
 abbrev start-from-returns : tie.Then1 → tie.Start
 start-from-returns c = c .before .before .before .before .before
 
+abbrev start-from-else2 : tie.Else2 → tie.Start
+start-from-else2 c = start-from-else1 (c .before)
+
 abbrev start-from-then2 : tie.Then2 → tie.Start
 start-from-then2 c = start-from-else1 (c .before)
 
@@ -64,17 +67,16 @@ slice-relend-prefix-accepts c = search needs
 
 slice-aggregate-accepts : tie.Need-slice-aggregate-accepts
 slice-aggregate-accepts c =
-    let at-start = start-from-else1 (c .before .before) in
+    let at-start = start-from-else2 (c .before) in
     sym (length-take-le (at-start .args .found .words) (now (at-start .args .work)) (c .before .before .if1 .left))
 
 accepts-requires : tie.Need-accepts-requires
 accepts-requires c κs =
-    let at-if2 = c .before in
-    let at-start = start-from-else1 (at-if2 .before) in
+    let at-start = start-from-else2 (c .before) in
     let O = at-start .pre in
     let e = ap (λ (l : Layout). l .d) (O .layout-is) in
-    let few : length (now (at-start .args .history)) ≤ 64 = omega (arith, e, laid _ (O .accepted) .d, at-if2 .if2 .left) in
-    (O, length-take-le (at-start .args .found .words) (now (at-start .args .work)) (at-if2 .before .if1 .left), few)
+    let few : length (now (at-start .args .history)) ≤ 64 = omega (arith, e, laid _ (O .accepted) .d, c .before .if2 .left) in
+    (O, length-take-le (at-start .args .found .words) (now (at-start .args .work)) (c .before .before .if1 .left), few)
 
 reply-of-requires : tie.Need-reply-of-requires
 reply-of-requires c κs = search needs

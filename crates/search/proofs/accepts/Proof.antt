@@ -20,8 +20,29 @@ slice-aggregate-stand c = search needs
 slice-aggregate-stand-2 : tie.Need-slice-aggregate-stand-2
 slice-aggregate-stand-2 c = search needs
 
+-- Places: what stands before a need, by name. Written by `named`: run it again when the code changes.
+abbrev start-from-stand-requires : tie.After-numbers → tie.Start
+start-from-stand-requires c = c .before .before .before .before .before .before
+
+abbrev start-from-stand : tie.After-stand → tie.Start
+start-from-stand c = start-from-stand-requires (c .before)
+
+abbrev stand-from-begin : tie.After-begin → tie.After-stand
+stand-from-begin c = c .before .before .before .before .before .before .before
+
+abbrev begin-from-explore-requires : tie.After-index3 → tie.After-begin
+begin-from-explore-requires c = c .before .before .before .before .before .before
+
+abbrev stand-from-explore : tie.After-explore → tie.After-stand
+stand-from-explore c = stand-from-begin (begin-from-explore-requires (c .before))
+
+abbrev explore-from-clear : tie.After-clear → tie.After-explore
+explore-from-clear c = c .before .before .before .before .before .before .before .before
+
 stand-requires : tie.Need-stand-requires
-stand-requires c κs = ((c .before .before .before .before .before .before .pre .0, c .before .before .before .before .before .before .pre .1), (refl, refl, blank))
+stand-requires c κs =
+    let at-start = start-from-stand-requires c in
+    ((at-start .pre .0, at-start .pre .1), (refl, refl, blank))
 
 slice-aggregate-begin : tie.Need-slice-aggregate-begin
 slice-aggregate-begin c = search needs
@@ -43,10 +64,13 @@ slice-aggregate-explore-4 c = search needs
 
 explore-requires : tie.Need-explore-requires
 explore-requires c κs =
-    let O = c .before .before .before .before .before .before .before .before .before .before .before .before .before .before .before .before .before .before .before .before .pre .0 in
+    let at-begin = begin-from-explore-requires c in
+    let at-stand = stand-from-begin at-begin in
+    let at-start = start-from-stand at-stand in
+    let O = at-start .pre .0 in
     let e = ap (λ (l : Layout). l .d) (O .layout-is) in
     let f = laid _ (O .accepted) in
-    (c .before .before .before .before .before .before .before .before .before .before .before .before .before .stand .ensures, omega (arith, e), omega (arith, e, f .d), c .before .before .before .before .before .before .before .before .before .before .before .before .before .before .before .before .before .before .before .before .pre .2, nothing-noted (now (c .before .before .before .before .before .before .before .before .before .before .before .before .before .before .before .before .before .before .before .before .args .s)) _ (c .before .before .before .before .before .before .begin .ensures))
+    (at-stand .stand .ensures, omega (arith, e), omega (arith, e, f .d), at-start .pre .2, nothing-noted (now (at-start .args .s)) _ (at-begin .begin .ensures))
 
 clear-requires : tie.Need-clear-requires
 clear-requires c κs = search needs
@@ -59,10 +83,14 @@ same-length c = search needs
 
 returns : tie.Need-returns
 returns c =
-    let O = c .before .before .before .before .before .before .before .before .before .before .before .before .before .before .before .before .before .before .before .before .before .before .before .before .before .before .before .before .before .before .before .before .pre .0 in (
-      c .is-found .ensures ∙ exactly-found (now (c .before .before .before .before .before .before .before .before .before .before .before .before .before .before .before .before .before .before .before .before .before .before .before .before .before .before .before .before .before .before .before .before .args .s)) (now (c .before .before .before .before .before .before .before .before .before .before .before .before .before .before .before .before .before .before .before .before .before .before .before .before .before .before .before .before .before .before .before .before .args .history)) _ _ (c .before .before .before .before .before .before .before .before .before .before .before .explore .result) _ (ap (λ (l : Layout). l .d) (O .layout-is))
-          (c .before .before .before .before .before .before .before .before .before .before .before .explore .ensures .0),
-      c .before .before .before .clear .ensures ∙ ap (λ (n : ℕ). replicate n 0) (c .before .before .before .before .before .before .before .before .before .before .before .explore .kept .0 ∙ c .before .before .before .before .before .before .before .before .before .before .before .before .before .before .before .before .before .before .before .before .before .before .before .before .before .stand .kept .0),
+    let at-clear = c .before .before .before in
+    let at-explore = explore-from-clear at-clear in
+    let at-stand = stand-from-explore at-explore in
+    let at-start = start-from-stand at-stand in
+    let O = at-start .pre .0 in (
+      c .is-found .ensures ∙ exactly-found (now (at-start .args .s)) (now (at-start .args .history)) _ _ (at-explore .explore .result) _ (ap (λ (l : Layout). l .d) (O .layout-is))
+          (at-explore .explore .ensures .0),
+      at-clear .clear .ensures ∙ ap (λ (n : ℕ). replicate n 0) (at-explore .explore .kept .0 ∙ at-stand .stand .kept .0),
     )
 
 pub accepts-spec : {M : Type 1} → statement M

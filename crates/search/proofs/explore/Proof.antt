@@ -13,11 +13,42 @@ initial-of-requires c κs = search needs
 next-round-requires : tie.Need-next-round-requires
 next-round-requires c κs = search needs
 
+-- Places: what stands before a need, by name. Written by `named`: run it again when the code changes.
+abbrev start-from-initial-of : tie.After-initial-of → tie.Start
+start-from-initial-of c = c .before .before .before .before .before .before .before .before
+
+abbrev next-round-from-look-requires : tie.After-look-arg3 → tie.After-next-round
+next-round-from-look-requires c = c .before .before .before .before .before .before
+
+abbrev next-round-from-look : tie.After-look → tie.After-next-round
+next-round-from-look c = next-round-from-look-requires (c .before)
+
+abbrev look-from-else1 : tie.Else1 → tie.After-look
+look-from-else1 c = c .before .before .before .before .before
+
+abbrev look-from-returns : tie.Then1 → tie.After-look
+look-from-returns c = c .before .before .before .before .before
+
+abbrev if1-from-expand-requires : tie.After-expand-arg5 → tie.Else1
+if1-from-expand-requires c = c .before .before .before .before .before .before
+
+abbrev if1-from-expand : tie.After-expand → tie.Else1
+if1-from-expand c = if1-from-expand-requires (c .before)
+
+abbrev next-round-from-expand : tie.After-expand → tie.After-next-round
+next-round-from-expand c = next-round-from-look (look-from-else1 (if1-from-expand c))
+
+abbrev expand-from-same-length-9 : tie.After-slice-known13 → tie.After-expand
+expand-from-same-length-9 c = c .before .before .before .before .before .before .before .before .before .before
+
 look-requires : tie.Need-look-requires
 look-requires c κs =
-    let p = c .before .before .before .before .before .before .before .before .before .before .before .before .before .before .before .before .pre in
-    let a = c .before .before .before .before .before .before .before .before .before .before .before .before .before .before .before .before .args in
-    (p .0 .prepared, (_, at-first (now (a .moves)) (now (a .trace)) (a .a) (c .before .before .before .before .before .before .next-round .result) (p .0) (p .1) (p .2) (c .before .before .before .before .before .before .before .before .initial-of .ensures) .visited))
+    let at-next-round = next-round-from-look-requires c in
+    let at-initial-of = at-next-round .before .before in
+    let at-start = start-from-initial-of at-initial-of in
+    let p = at-start .pre in
+    let a = at-start .args in
+    (p .0 .prepared, (_, at-first (now (a .moves)) (now (a .trace)) (a .a) (at-next-round .next-round .result) (p .0) (p .1) (p .2) (at-initial-of .initial-of .ensures) .visited))
 
 same-length : tie.Need-same-length
 same-length c = search needs
@@ -33,18 +64,29 @@ same-length-4 c = search needs
 
 returns : tie.Need-returns
 returns c =
-    let p = c .before .before .before .before .before .before .before .before .before .before .before .before .before .before .before .before .before .before .before .before .before .before .pre in
-    let a = c .before .before .before .before .before .before .before .before .before .before .before .before .before .before .before .before .before .before .before .before .before .before .args in
-    let S = seen-first (now (a .moves)) (now (a .trace)) (a .a) (c .before .before .before .before .before .before .before .before .before .before .before .before .next-round .result) (p .0) (p .1) (p .2) (c .before .before .before .before .before .before .before .before .before .before .before .before .before .before .initial-of .ensures) (c .before .before .before .before .before .look .ensures) (c .if1 .taken) in
-    let T = told-anew {moves = now (a .moves)} (asked (a .found) (a .a) (c .before .before .before .before .before .before .before .before .before .before .before .before .next-round .result)) (p .3) (c .before .before .before .before .before .before .before .before .before .before .before .before .next-round .ensures) (p .4) in
+    let at-look = look-from-returns c in
+    let at-next-round = next-round-from-look at-look in
+    let at-initial-of = at-next-round .before .before in
+    let at-start = start-from-initial-of at-initial-of in
+    let p = at-start .pre in
+    let a = at-start .args in
+    let S = seen-first (now (a .moves)) (now (a .trace)) (a .a) (at-next-round .next-round .result) (p .0) (p .1) (p .2) (at-initial-of .initial-of .ensures) (at-look .look .ensures)
+    (c .if1 .taken) in
+    let T = told-anew {moves = now (a .moves)} (asked (a .found) (a .a) (at-next-round .next-round .result)) (p .3) (at-next-round .next-round .ensures) (p .4) in
     (S .0, (S .1, still-lasting T))
 
 expand-requires : tie.Need-expand-requires
 expand-requires c κs =
-    let p = c .before .before .before .before .before .before .before .before .before .before .before .before .before .before .before .before .before .before .before .before .before .before .before .before .before .before .before .before .pre in
-    let a = c .before .before .before .before .before .before .before .before .before .before .before .before .before .before .before .before .before .before .before .before .before .before .before .before .before .before .before .before .args in (
-      from-first (now (a .moves)) (now (a .trace)) (a .a) (c .before .before .before .before .before .before .before .before .before .before .before .before .before .before .before .before .before .before .next-round .result) (p .0) (p .1) (p .2) (c .before .before .before .before .before .before .before .before .before .before .before .before .before .before .before .before .before .before .before .before .initial-of .ensures) (c .before .before .before .before .before .before .before .before .before .before .before .look .ensures) (c .before .before .before .before .before .before .if1 .left),
-      told-anew (asked (a .found) (a .a) (c .before .before .before .before .before .before .before .before .before .before .before .before .before .before .before .before .before .before .next-round .result)) (p .3) (c .before .before .before .before .before .before .before .before .before .before .before .before .before .before .before .before .before .before .next-round .ensures) (p .4),
+    let at-if1 = if1-from-expand-requires c in
+    let at-look = look-from-else1 at-if1 in
+    let at-next-round = next-round-from-look at-look in
+    let at-initial-of = at-next-round .before .before in
+    let at-start = start-from-initial-of at-initial-of in
+    let p = at-start .pre in
+    let a = at-start .args in (
+      from-first (now (a .moves)) (now (a .trace)) (a .a) (at-next-round .next-round .result) (p .0) (p .1) (p .2) (at-initial-of .initial-of .ensures) (at-look .look .ensures)
+          (at-if1 .if1 .left),
+      told-anew (asked (a .found) (a .a) (at-next-round .next-round .result)) (p .3) (at-next-round .next-round .ensures) (p .4),
     )
 
 same-length-5 : tie.Need-same-length-5
@@ -60,15 +102,25 @@ same-length-8 : tie.Need-same-length-8
 same-length-8 c = search needs
 
 same-length-9 : tie.Need-same-length-9
-same-length-9 c = c .before .before .before .before .before .before .before .before .before .before .expand .kept .1 .1 .1 .1 .0 ∙ c .before .before .before .before .before .before .before .before .before .before .before .before .before .before .before .before .before .before .before .before .before .before .before .before .before .before .before .before .before .next-round .kept .0
+same-length-9 c =
+    let at-expand = expand-from-same-length-9 c in
+    let at-next-round = next-round-from-expand at-expand in
+    at-expand .expand .kept .1 .1 .1 .1 .0 ∙ at-next-round .next-round .kept .0
 
 returns-2 : tie.Need-returns-2
 returns-2 c =
-    let p = c .before .before .before .before .before .before .before .before .before .before .before .before .before .before .before .before .before .before .before .before .before .before .before .before .before .before .before .before .before .before .before .before .before .before .before .before .before .before .before .pre in
-    let a = c .before .before .before .before .before .before .before .before .before .before .before .before .before .before .before .before .before .before .before .before .before .before .before .before .before .before .before .before .before .before .before .before .before .before .before .before .before .before .before .args in
-    let R = tried-first (now (a .moves)) (now (a .trace)) (a .a) (c .before .before .before .before .before .before .before .before .before .before .before .before .before .before .before .before .before .before .before .before .before .before .before .before .before .before .before .before .before .next-round .result) (p .0) (p .1) (p .2) (c .before .before .before .before .before .before .before .before .before .before .before .before .before .before .before .before .before .before .before .before .before .before .before .before .before .before .before .before .before .before .before .initial-of .ensures) (c .before .before .before .before .before .before .before .before .before .before .before .before .before .before .before .before .before .before .before .before .before .before .look .ensures) (c .before .before .before .before .before .before .before .before .before .before .before .before .before .before .before .before .before .if1 .left) (c .before .before .before .before .before .before .before .before .before .before .expand .ensures .0)
-    (c .before .before .before .before .before .before .before .before .before .before .expand .ensures .1 .0) in
-    (R .0, (R .1, still-lasting (c .before .before .before .before .before .before .before .before .before .before .expand .ensures .1 .1)))
+    let at-expand = expand-from-same-length-9 c in
+    let at-if1 = if1-from-expand at-expand in
+    let at-look = look-from-else1 at-if1 in
+    let at-next-round = next-round-from-look at-look in
+    let at-initial-of = at-next-round .before .before in
+    let at-start = start-from-initial-of at-initial-of in
+    let p = at-start .pre in
+    let a = at-start .args in
+    let R = tried-first (now (a .moves)) (now (a .trace)) (a .a) (at-next-round .next-round .result) (p .0) (p .1) (p .2) (at-initial-of .initial-of .ensures) (at-look .look .ensures)
+    (at-if1 .if1 .left) (at-expand .expand .ensures .0)
+    (at-expand .expand .ensures .1 .0) in
+    (R .0, (R .1, still-lasting (at-expand .expand .ensures .1 .1)))
 
 pub explore-spec : {M : Type 1} → statement M
 explore-spec =

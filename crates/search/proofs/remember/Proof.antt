@@ -14,8 +14,21 @@ use Rattle.search.proofs.remember.Tie as tie
 is-found-requires : tie.Need-is-found-requires
 is-found-requires c κs = search needs
 
+-- Places: what stands before a need, by name. Written by `named`: run it again when the code changes.
+abbrev start-from-is-found : tie.After-is-found → tie.Start
+start-from-is-found c = c .before .before .before .before .before
+
+abbrev start-from-then1 : tie.Then1 → tie.Start
+start-from-then1 c = start-from-is-found (c .before)
+
+abbrev start-from-subject-of : tie.After-subject-of → tie.Start
+start-from-subject-of c = start-from-then1 (c .before)
+
 subject-of-requires : tie.Need-subject-of-requires
-subject-of-requires c κs = let X = c .before .before .before .before .before .before .pre .1 in omega (arith, X .visited .used-up, c .before .before .before .before .before .before .pre .0 .few)
+subject-of-requires c κs =
+    let at-start = start-from-then1 c in
+    let X = at-start .pre .1 in
+    omega (arith, X .visited .used-up, at-start .pre .0 .few)
 
 is-more-requires : tie.Need-is-more-requires
 is-more-requires c κs = search needs
@@ -25,22 +38,31 @@ flag-of-requires c κs = search needs
 
 note-requires : tie.Need-note-requires
 note-requires c κs =
-    let T = c .before .before .before .before .before .before .before .before .before .before .pre .0 in
-    let X = c .before .before .before .before .before .before .before .before .before .before .pre .1 in
-    (known-sound (T .known), X .visited .of, (_, X .program, framed (c .before .before .before .subject-of .ensures) (X .visited)), T .known .small, X .few-left, c .before .flag-of .ensures .1)
+    let at-subject-of = c .before .before .before in
+    let at-start = start-from-subject-of at-subject-of in
+    let T = at-start .pre .0 in
+    let X = at-start .pre .1 in
+    (known-sound (T .known), X .visited .of, (_, X .program, framed (at-subject-of .subject-of .ensures) (X .visited)), T .known .small, X .few-left, c .before .flag-of .ensures .1)
 
 same-length : tie.Need-same-length
 same-length c = search needs
 
 returns : tie.Need-returns
 returns c =
-    let T = c .before .before .before .before .before .before .before .before .before .before .before .before .before .pre .0 in
-    let X = c .before .before .before .before .before .before .before .before .before .before .before .before .before .pre .1 in
-    let none = not-true _ (c .before .before .before .before .before .before .before .if1 .taken) in
+    let at-flag-of = c .before .before .before .before in
+    let at-is-more = at-flag-of .before in
+    let at-subject-of = at-is-more .before in
+    let at-if1 = at-subject-of .before in
+    let at-is-found = at-if1 .before in
+    let at-start = start-from-is-found at-is-found in
+    let T = at-start .pre .0 in
+    let X = at-start .pre .1 in
+    let none = not-true _ (at-if1 .if1 .taken) in
     record {
       few = T .few;
-      known = c .before .before .note .ensures (guideFor (now (c .before .before .before .before .before .before .before .before .before .before .before .before .before .args .moves)) (c .before .before .before .before .before .before .before .before .before .before .before .before .before .args .t .window)) (T .known)
-          (explored-as (c .before .before .before .before .before .before .subject-of .ensures) X (sym (c .before .before .before .before .before .before .before .before .is-found .ensures) ∙ none) (c .before .before .before .before .flag-of .ensures .0 ∙ ap (claimFlag (c .before .before .before .before .before .before .before .before .before .before .before .before .before .args .cut)) (c .before .before .before .before .before .is-more .ensures)));
+      known = c .before .before .note .ensures (guideFor (now (at-start .args .moves)) (at-start .args .t .window)) (T .known)
+          (explored-as (at-subject-of .subject-of .ensures) X (sym (at-is-found .is-found .ensures) ∙ none)
+          (at-flag-of .flag-of .ensures .0 ∙ ap (claimFlag (at-start .args .cut)) (at-is-more .is-more .ensures)));
     }
 
 returns-2 : tie.Need-returns-2

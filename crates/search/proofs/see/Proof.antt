@@ -9,12 +9,19 @@ use borrow.Author.Needs.{needs}
 use Rattle.search.proofs.see.Statement.{statement}
 use Rattle.search.proofs.see.Tie as tie
 
+-- Places: what stands before a need, by name. Written by `named`: run it again when the code changes.
+abbrev start-from-subject-of-requires : tie.After-shared-slice-known4 → tie.Start
+start-from-subject-of-requires c = c .before .before .before .before .before .before
+
+abbrev start-from-subject-of : tie.After-subject-of → tie.Start
+start-from-subject-of c = start-from-subject-of-requires (c .before)
+
 subject-of-requires : tie.Need-subject-of-requires
-subject-of-requires c κs = let p = c .before .before .before .before .before .before .pre in omega (arith, p .1 .1 .used-up, p .2 .few)
+subject-of-requires c κs = let p = start-from-subject-of-requires c .pre in omega (arith, p .1 .1 .used-up, p .2 .few)
 
 recall-requires : tie.Need-recall-requires
 recall-requires c κs =
-    let p = c .before .before .before .before .before .before .before .pre in
+    let p = start-from-subject-of c .pre in
     (known-sound (p .2 .known), p .1 .1 .of, (_, p .1 .0, framed (c .subject-of .ensures) (p .1 .1)))
 
 unfound-requires : tie.Need-unfound-requires
@@ -25,12 +32,15 @@ known-requires c κs = search needs
 
 returns : tie.Need-returns
 returns c =
-    let p = c .before .before .before .before .before .before .before .before .before .before .before .pre in
-    let a = c .before .before .before .before .before .before .before .before .before .before .before .args in
+    let at-recall = c .before .before .before in
+    let at-subject-of = at-recall .before in
+    let at-start = start-from-subject-of at-subject-of in
+    let p = at-start .pre in
+    let a = at-start .args in
     let k = c .known .ensures in
-    let is = c .before .before .before .before .subject-of .ensures in
-    passed-over is (a .cut) (c .before .before .before .recall .result .more) (p .0)
-    (λ g Y. c .before .before .before .recall .ensures (guideFor (now (a .moves)) (a .t .window)) _ g (p .2 .known) (framed is Y) (c .before .before .if1 .taken))
+    let is = at-subject-of .subject-of .ensures in
+    passed-over is (a .cut) (at-recall .recall .result .more) (p .0)
+    (λ g Y. at-recall .recall .ensures (guideFor (now (a .moves)) (a .t .window)) _ g (p .2 .known) (framed is Y) (c .before .before .if1 .taken))
     (k .0, k .1 ∙ c .before .unfound .ensures)
 
 look-requires : tie.Need-look-requires

@@ -2,9 +2,10 @@
 //!
 //! `SEED` and `COUNT` (sheets) may be set. Compared for each sheet: every answer of every call, the whole work area,
 //! trace and index with what lies around them, and that sheet and history are as before. Areas hold garbage; they are
-//! long enough, longer, one short, both short, empty; an index has any length. A plan is judged by the model's layers,
-//! and is then compared with the model's first plan (document 02, F-1): n, t and the whole trace. The first disagreement
-//! ends the program with status 1 and the sheet in hex.
+//! long enough, longer, one short, both short, empty. A plan is judged by the model's layers, and is then compared with
+//! the model's first plan (document 02, F-1): n, t and the whole trace. An index has any length (F-4): none, too short
+//! for an entry, for few entries, for all; some sheets are planned twice, with indexes of different lengths, and the two
+//! calls compared with each other. The first disagreement ends the program with status 1 and the sheet in hex.
 
 #![forbid(unsafe_code)]
 
@@ -18,6 +19,7 @@ use sheets::runs;
 use std::env;
 use std::fmt::Debug;
 use std::hint::black_box;
+use std::iter;
 use std::ops::Range;
 use std::process::ExitCode;
 
@@ -25,9 +27,8 @@ use std::process::ExitCode;
 const COUNT: usize = 120_000;
 /// Of a sheet that is planned, the most runs of at most D + 1 transitions.
 const MOST_RUNS: usize = 3_000;
-
-/// An index has fewer words than this.
-const MOST_INDEX: usize = 400;
+/// Of the sheets that are planned, how many of a hundred are planned twice.
+const TWICE: usize = 25;
 
 /// What differs, in words.
 type Outcome = Result<(), String>;
@@ -47,7 +48,20 @@ fn answer<const N: usize>(answer: Result<[usize; N], Refusal>) -> Answer<N> {
     }
 }
 
+/// The words of an index. Long ones are drawn rarely, since every word is filled and compared.
+fn index_length(random: &mut Random) -> usize {
+    match random.below(100) {
+        0..15 => 0,
+        15..20 => 1,
+        20..45 => random.between(2, 24),
+        45..92 => random.between(25, 800),
+        92..99 => 4_096,
+        _ => random.between(19_000, 21_000),
+    }
+}
+
 /// A part that is lent, with garbage on either side, and what all of it must be.
+#[derive(Clone)]
 struct Area<T> {
     is: Vec<T>,
     must_be: Vec<T>,
@@ -121,6 +135,8 @@ struct Counts {
     damaged: usize,
     yes: usize,
     no: usize,
+    /// Sheets that were planned twice.
+    twice: usize,
     examples: usize,
 }
 
@@ -174,7 +190,7 @@ impl Compare {
     fn plan(&mut self, given: &Given, found: &Result<Plan, Refusal>, words: usize, entries: usize) -> Outcome {
         let mut work = lent_area(&mut self.random, words, garbage_word);
         let mut trace = lent_area(&mut self.random, entries, garbage_entry);
-        let length = self.random.below(MOST_INDEX);
+        let length = index_length(&mut self.random);
         let mut index = lent_area(&mut self.random, length, garbage_word);
         let got = library::plan(given.bytes.read(), work.lend(), trace.lend(), index.lend());
 
@@ -201,6 +217,31 @@ impl Compare {
         trace.compare(&format!("{call}: trace"))?;
         index.compare(&format!("{call}: index"))?;
         given.bytes.compare(&format!("{call}: the sheet"))
+    }
+
+    /// Planning twice, with indexes of different lengths and else the same areas: the answers are the same, and all that
+    /// is left in trace and work.
+    fn twice(&mut self, given: &Given, words: usize, entries: usize) -> Outcome {
+        let work = lent_area(&mut self.random, words, garbage_word);
+        let trace = lent_area(&mut self.random, entries, garbage_entry);
+        let one = if self.random.percent(50) { 0 } else { index_length(&mut self.random) };
+        let mut lengths = iter::repeat_with(|| index_length(&mut self.random));
+        let other = lengths.find(|&length| length != one).expect("there are many lengths");
+
+        let mut planned = |length| {
+            let (mut work, mut trace) = (work.clone(), trace.clone());
+            let mut index = lent_area(&mut self.random, length, garbage_word);
+            let answer = library::plan(given.bytes.read(), work.lend(), trace.lend(), index.lend());
+            index.must_begin_with(&vec![0; length]);
+            index.compare(&format!("plan with {length} words of index: index"))?;
+            Ok::<_, String>((answer, trace.is, work.is))
+        };
+        let (with_one, with_other) = (planned(one)?, planned(other)?);
+        if with_one != with_other {
+            return Err(format!("plan with {one} words of index {with_one:?}, with {other} {with_other:?}"));
+        }
+        self.counts.twice += 1;
+        Ok(())
     }
 
     /// The verdict by the model's layers; and a plan, were it not the first, is the history of a run of t transitions,
@@ -256,6 +297,9 @@ impl Compare {
         let longer = [words, entries].map(|length| length + self.random.between(1, 40));
         self.plan(&given, &found, words, entries)?;
         self.plan(&given, &found, longer[0], longer[1])?;
+        if self.random.percent(TWICE) {
+            self.twice(&given, words, entries)?;
+        }
         match &found {
             Ok(_) => {
                 self.counts.plans += 1;
@@ -364,10 +408,11 @@ fn main() -> ExitCode {
     let seed = setting("SEED", 1);
     let mut compare = Compare { random: Random::new(seed as u64), counts: Counts::default() };
     let outcome = compare.all(setting("COUNT", COUNT));
-    let Counts { sheets, plans, others, nothing, more, large, damaged, yes, no, examples } = compare.counts;
+    let Counts { sheets, plans, others, nothing, more, large, damaged, yes, no, twice, examples } = compare.counts;
     println!("seed {seed}: {sheets} sheets and {examples} examples agree");
     println!("  planned: {plans} plans, {nothing} times 13, {more} times 14");
     println!("  plans that depth first in listed order does not give: {others}");
+    println!("  planned twice, with indexes of different lengths: {twice}");
     println!("  with large tables: {large}; damaged: {damaged}");
     println!("  histories: {yes} yes, {no} no");
     if let Err((what, sheet)) = outcome {

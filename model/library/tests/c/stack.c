@@ -13,7 +13,7 @@
 #include <string.h>
 
 /* Far more than any call may take, so that too much is measured and does not crash. */
-enum { STACK = 1 << 20, MOST_BYTES = 1 << 14 };
+enum { STACK = 1 << 20, MOST_BYTES = 1 << 14, INDEX = 4096 };
 #define PAINT UINT64_C(0xa55ac33c96695aa5)
 
 static uint8_t sheet[MOST_BYTES];
@@ -22,7 +22,7 @@ static uint16_t history[MOST_BYTES];
 static size_t history_len;
 static uint32_t work[PLANNER_WORK_MAX];
 static uint16_t trace[PLANNER_TRACE_MAX];
-static uint32_t index_words[MOST_BYTES];
+static uint32_t index_words[INDEX];
 static size_t first, second, place;
 static uint32_t yes;
 
@@ -36,10 +36,20 @@ static uint32_t sizes(void)
     return planner_sizes(sheet, sheet_len, &first, &second, &place);
 }
 
+static uint32_t plan_with(size_t words)
+{
+    return planner_plan(sheet, sheet_len, work, PLANNER_WORK_MAX, trace, PLANNER_TRACE_MAX, index_words, words, &first,
+                        &second, &place);
+}
+
 static uint32_t plan(void)
 {
-    return planner_plan(sheet, sheet_len, work, PLANNER_WORK_MAX, trace, PLANNER_TRACE_MAX, index_words, MOST_BYTES,
-                        &first, &second, &place);
+    return plan_with(0);
+}
+
+static uint32_t indexed(void)
+{
+    return plan_with(INDEX);
 }
 
 static uint32_t replay(void)
@@ -61,8 +71,8 @@ static const struct {
     const char *name;
     uint32_t (*function)(void);
 } calls[] = {
-    {"check", check},   {"sizes", sizes},     {"plan", plan},
-    {"replay", replay}, {"look_up", look_up}, {"notes", notes},
+    {"check", check}, {"sizes", sizes},     {"notes", notes},   {"look_up", look_up},
+    {"plan", plan},   {"indexed", indexed}, {"replay", replay},
 };
 
 static void must(int holds, const char *what)

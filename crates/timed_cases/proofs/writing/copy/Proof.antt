@@ -3,14 +3,14 @@ use mathlib.Core.Path.{_≡_}
 use Prim.Native.Nat.{_≤_, _-_}
 use lib.ListN.{length}
 use borrow.Author.Needs.{needs}
-use Rattle.timed_cases.proofs.writing.rest.Statement.{statement}
-use Rattle.timed_cases.proofs.writing.rest.Tie as tie
+use Rattle.timed_cases.proofs.writing.copy.Statement.{statement}
+use Rattle.timed_cases.proofs.writing.copy.Tie as tie
 
 abbrev Inv-loop : tie.InvT-loop
-Inv-loop s₀ bytes i₀ s i = (i ≤ 32) × (length s ≡ length s₀) × (length bytes ≡ 32)
+Inv-loop s₀ at bytes i₀ s i = (i ≤ length bytes) × (length s ≡ length s₀)
 
 abbrev μ-loop : tie.MeasureT-loop
-μ-loop s₀ bytes i₀ s i = 32 - i
+μ-loop s₀ at bytes i₀ s i = length bytes - i
 
 loop-holds : tie.Need-loop-holds Inv-loop μ-loop
 loop-holds c = search needs
@@ -18,8 +18,8 @@ loop-holds c = search needs
 add-byte : tie.Need-add-byte Inv-loop μ-loop
 add-byte c = search needs
 
-element-copy-out-byte : tie.Need-element-copy-out-byte Inv-loop μ-loop
-element-copy-out-byte c = search needs
+shared-slice-read-byte : tie.Need-shared-slice-read-byte Inv-loop μ-loop
+shared-slice-read-byte c = search needs
 
 byte-requires : tie.Need-byte-requires Inv-loop μ-loop
 byte-requires c κs = search needs
@@ -39,15 +39,15 @@ same-length c = search needs
 returns : tie.Need-returns Inv-loop μ-loop
 returns c = search needs
 
-pub rest-spec : {M : Type 1} → statement M
-rest-spec =
+pub copy-spec : {M : Type 1} → statement M
+copy-spec =
     tie.close
     (tie.spec
     Inv-loop
     μ-loop
     loop-holds
     add-byte
-    element-copy-out-byte
+    shared-slice-read-byte
     byte-requires
     add-i
     loop-less

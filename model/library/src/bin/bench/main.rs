@@ -2,23 +2,34 @@
 //! `cargo run --release --package library --bin bench`. Each takes a sheet's bytes, checks them and plans.
 //!
 //! - Plain is the model's depth-first search without memory (`depth_first`).
-//! - Sets is what a programmer would write instead, breadth first over sets of configurations (`plan`).
+//! - Sets is the model's search over sets of configurations, one for each number of transitions (`plan`).
+//! - Breadth, beside an index, is what a programmer would write instead (`breadth_first`).
 //!
 //! Sheets without a plan end in 14, so that all of the search is made. Where there is a plan, the library and sets give
 //! the same, the first (document 02, F-1): n, t and trace. There plain is left out: it gives another plan, mostly one
 //! of D transitions, and its time says only how soon it comes upon one in listed order.
 //!
-//! Last comes what the test program `timed_cases` measures of the verified code alone, one pass over an action's effects
-//! against its test copy.
+//! The families of `index` are measured at several lengths of the lent index (document 02, F-4), which the others do
+//! without; what does not end in time is left out there. Then comes replay. Last comes what the test program
+//! `timed_cases` measures of the verified code alone, as one pass over an action's effects against its test copy.
+//!
+//! Words behind `--` choose among the parts `searches`, `index`, `replay` and `timed`; without a word all are shown.
 
 #![forbid(unsafe_code)]
 
+mod breadth_first;
+mod in_time;
+mod index;
+mod replay;
+
+use library::Answer;
 use model::planner::{self, Plan};
 use model::refusal::Refusal;
 use model::sheet::{self, check, Formula, Sheet};
 use sheets::runs;
 use sheets::source::*;
 use sheets::write::Records;
+use std::env;
 use std::hint::black_box;
 use std::path::Path;
 use std::process::Command;
@@ -383,26 +394,45 @@ struct Measured {
 
 impl Measured {
     fn ms(&self) -> f64 {
-        self.time.as_secs_f64() * 1e3
+        ms(self.time)
     }
 }
 
-/// The library's areas.
+fn ms(time: Duration) -> f64 {
+    time.as_secs_f64() * 1e3
+}
+
+/// The library's areas. Filling them with garbage before a call is not timed.
 struct Areas {
     work: Vec<u32>,
     trace: Vec<u16>,
+    index: Vec<u32>,
 }
 
-/// A call of the library. Filling its areas with garbage is not timed.
-fn by_library(bytes: &[u8], Areas { work, trace }: &mut Areas) -> Measured {
-    work.fill(0xa5a5_a5a5);
-    trace.fill(0xa5a5);
-    let (answer, time) = timed(|| library::plan(black_box(bytes), work, trace, &mut []));
-    let found = match answer.into_result() {
-        Ok([n, transitions]) => Ok(Plan { history: trace[..n].to_vec(), transitions }),
-        Err(refusal) => Err(Refusal { number: refusal.number as u8, place: refusal.place }),
-    };
-    Measured { found, time }
+impl Areas {
+    fn new(sheet: &Sheet, index: usize) -> Self {
+        Areas { work: vec![0; sheet.work()], trace: vec![0; sheet.bound], index: vec![0; index] }
+    }
+
+    /// Planning with so many words of the index.
+    fn plan(&mut self, bytes: &[u8], length: usize) -> Measured {
+        let Areas { work, trace, index } = self;
+        let index = &mut index[..length];
+        work.fill(0xa5a5_a5a5);
+        trace.fill(0xa5a5);
+        index.fill(0xa5a5_a5a5);
+        let (answer, time) = timed(|| library::plan(black_box(bytes), work, trace, index));
+        let found = match answer.into_result() {
+            Ok([n, transitions]) => Ok(Plan { history: trace[..n].to_vec(), transitions }),
+            Err(refusal) => Err(Refusal { number: refusal.number as u8, place: refusal.place }),
+        };
+        Measured { found, time }
+    }
+
+    fn replay(&mut self, bytes: &[u8], history: &[u16]) -> (Answer<1>, Duration) {
+        self.work.fill(0xa5a5_a5a5);
+        timed(|| library::replay(black_box(bytes), history, &mut self.work))
+    }
 }
 
 fn by_model(bytes: &[u8], way: Way) -> Measured {
@@ -418,12 +448,12 @@ fn timed<T>(call: impl FnOnce() -> T) -> (T, Duration) {
 
 /// Calls the library and these ways of the model in turn until the time is up.
 fn measure<const N: usize>(bytes: &[u8], sheet: &Sheet, ways: [Way; N]) -> (Measured, [Measured; N]) {
-    let mut areas = Areas { work: vec![0; sheet.work()], trace: vec![0; sheet.bound] };
+    let mut areas = Areas::new(sheet, 0);
     let begun = Instant::now();
-    let mut library = by_library(bytes, &mut areas);
+    let mut library = areas.plan(bytes, 0);
     let mut model = ways.map(|way| by_model(bytes, way));
     while begun.elapsed() < TIME {
-        library.time = library.time.min(by_library(bytes, &mut areas).time);
+        library.time = library.time.min(areas.plan(bytes, 0).time);
         for (measured, way) in model.iter_mut().zip(ways) {
             measured.time = measured.time.min(by_model(bytes, way).time);
         }
@@ -481,18 +511,8 @@ fn print_with_plan(Family { name, sheets }: Family) {
     }
 }
 
-/// The times that the test program tells.
-fn print_timed_cases() {
-    let program = Path::new(env!("CARGO_MANIFEST_DIR")).join("../../target/bin/timed_cases");
-    match Command::new(program).output() {
-        Ok(output) => print!("{}", String::from_utf8_lossy(&output.stderr)),
-        Err(error) => println!("{error}: `rt check timed_cases` in the repository's root makes the program"),
-    }
-}
-
-fn main() {
-    println!("Buffers are not cleared before a call of the library: they hold garbage. Putting it there is not timed;");
-    println!("the zeros that the library leaves are its own work, and are timed. The least time of all calls counts.");
+/// Every family that is measured without an index.
+fn print_searches() {
     println!("/plain, /sets: the library's time over that of the model's plain search, and of the model's sets.");
     println!();
     println!("Without a plan: 14. Transitions: those that the plain search follows. Growth: the library's time for");
@@ -502,7 +522,39 @@ fn main() {
     println!("With a plan, the same by the library and by sets: n moves, t transitions, under the bound D. The plain");
     println!("search gives another and is left out. To first: the library's time, the family's first row being 1.");
     with_plan().into_iter().for_each(print_with_plan);
-    println!();
-    println!("Performing 512 effects, none of which holds, with 32 fluents, by the verified code in the test program:");
-    print_timed_cases();
+}
+
+/// The times that the test program tells.
+fn print_timed_cases() {
+    println!("What the test program measures of the verified code alone. Effects: 512, none of which holds, with 32");
+    println!("fluents.");
+    let program = Path::new(env!("CARGO_MANIFEST_DIR")).join("../../target/bin/timed_cases");
+    match Command::new(program).output() {
+        Ok(output) => print!("{}", String::from_utf8_lossy(&output.stderr)),
+        Err(error) => println!("{error}: `rt check timed_cases` in the repository's root makes the program"),
+    }
+}
+
+/// A part, and what prints it.
+type Part = (&'static str, fn());
+
+const PARTS: [Part; 4] =
+    [("searches", print_searches), ("index", index::print), ("replay", replay::print), ("timed", print_timed_cases)];
+
+fn main() {
+    let words: Vec<String> = env::args().skip(1).collect();
+    if let Some(("call", rest)) = words.split_first().map(|(word, rest)| (word.as_str(), rest)) {
+        return in_time::call(rest);
+    }
+    for word in &words {
+        assert!(PARTS.iter().any(|(name, _)| name == word), "no part is called {word}");
+    }
+    println!("Buffers are not cleared before a call of the library: they hold garbage. Putting it there is not timed;");
+    println!("the zeros that the library leaves are its own work, and are timed. The least time of all calls counts.");
+    for (name, print) in PARTS {
+        if words.is_empty() || words.iter().any(|word| word == name) {
+            println!();
+            print();
+        }
+    }
 }
