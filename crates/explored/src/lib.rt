@@ -35,6 +35,11 @@ pub struct Recalled {
 // The fewest words of an index that has room for an entry.
 const LEAST: usize = 16;
 
+// Whether an index may have entries at all: else there is no need to ask it.
+pub fn has_room(index: &[u32]) -> bool {
+    LEAST <= index.len()
+}
+
 fn not_served() -> Recalled
     ensures { λ r. ⌜ r .served ≡ false ⌝ }
 {
@@ -76,9 +81,6 @@ pub fn recall(
     ensures { λ r. ⌜ ((guides : ℕ → Guide) (k : ℕ) (p : Prog) → Known (now (s .entry)) guides round (now (index .entry)) → Frame (now (s .entry)) k (now (work .entry)) (c .depth) p → r .served ≡ true →
         join (flagged cut) (verdictIn (now (s .entry)) left ((p, c .state), guides (c .label))) ≡ flagged (r .more)) ⌝ }
 {
-    if index.len() < LEAST {
-        return not_served();
-    }
     let mut key = [0u32; keys::WORDS];
     let n = keys::key_of(&mut key, work, s, found, c.state, c.depth, c.label);
     if n == 0 {
@@ -123,9 +125,6 @@ pub fn note(
     ensures { λ _. ⌜ ((guides : ℕ → Guide) → Known (now (s .entry)) guides round (now (index .entry)) → Explored (now (s .entry)) (now (work .entry)) guides c left flag →
         Known (now (s .entry)) guides round (now (index .exit))) ⌝ }
 {
-    if index.len() < LEAST {
-        return;
-    }
     let mut key = [0u32; keys::WORDS];
     let n = keys::key_of(&mut key, work, s, found, c.state, c.depth, c.label);
     if n == 0 {

@@ -114,7 +114,10 @@ module _ {C : Type 0} (transitions : C → List (Option ℕ × C)) (final : C �
   -- n transitions fewer
   none-lower : (n k m : ℕ) (c : C × Guide) → m ≡ k + n → isPlan (verdictWithin transitions final m c) ≡ false → isPlan (verdictWithin transitions final k c) ≡ false
   none-lower zero k m c q e = let z : m ≡ k = omega arith in rw (← z) e
-  none-lower (suc n) k m c q e = let z : m ≡ suc (k + n) = omega arith in none-lower n k (k + n) c refl (fewer-none (verdictWithin transitions final (suc (k + n)) c) (verdictWithin transitions final (k + n) c) (fewer (k + n) c) (rw z at e))
+  none-lower (suc n) k m c q e =
+      let z : m ≡ suc (k + n) = omega arith in
+      none-lower n k (k + n) c refl
+      (fewer-none (verdictWithin transitions final (suc (k + n)) c) (verdictWithin transitions final (k + n) c) (fewer (k + n) c) (rw z at e))
 
   goes-on-lower : (n k m : ℕ) (c : C × Guide) → m ≡ k + n → verdictWithin transitions final m c ≡ more → verdictWithin transitions final k c ≡ more
   goes-on-lower zero k m c q e = let z : m ≡ k = omega arith in rw (← z) e

@@ -196,10 +196,12 @@ fn see(
     requires { ⌜ Prepared (now s) (now flags) (now numbers) × ((p : Prog) × Visited (now s) (now work) (now moves) t q p) × Told (now s) (now moves) t (now index) ⌝ }
     ensures { λ r. ⌜ LookedAt (now (s .entry)) (now (work .entry)) (now (moves .entry)) t q cut (now (flags .entry)) (now (flags .exit)) (now (numbers .entry)) (now (numbers .exit)) r ⌝ }
 {
-    let c = subject_of(q);
-    let x = explored::recall(index, work, s, t.found, c, q.left, t.round, cut);
-    if x.served {
-        return known(unfound(x.more));
+    if explored::has_room(index) {
+        let c = subject_of(q);
+        let x = explored::recall(index, work, s, t.found, c, q.left, t.round, cut);
+        if x.served {
+            return known(unfound(x.more));
+        }
     }
     look(flags, numbers, work, s, moves, t, q, cut)
 }
@@ -234,7 +236,7 @@ fn remember(
     requires { ⌜ Told (now s) (now moves) t (now index) × SearchedAs (now s) (now work) (now moves) t q cut o ⌝ }
     ensures { λ _. ⌜ Told (now (s .entry)) (now (moves .entry)) t (now (index .exit)) ⌝ }
 {
-    if !is_found(o) {
+    if explored::has_room(index) & !is_found(o) {
         let c = subject_of(q);
         let flag = explored::flag_of(cut, is_more(o));
         explored::note(index, work, s, t.found, c, q.left, t.round, flag);

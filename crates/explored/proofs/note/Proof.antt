@@ -8,17 +8,14 @@ use borrow.Author.Needs.{needs}
 use Rattle.explored.proofs.note.Statement.{statement}
 use Rattle.explored.proofs.note.Tie as tie
 
-returns : tie.Need-returns
-returns c = search needs
-
 slice-aggregate-key-of : tie.Need-slice-aggregate-key-of
 slice-aggregate-key-of c = search needs
 
 key-of-requires : tie.Need-key-of-requires
 key-of-requires c κs = search needs
 
-returns-2 : tie.Need-returns-2
-returns-2 c = search needs
+returns : tie.Need-returns
+returns c = search needs
 
 array-share-prefix-key : tie.Need-array-share-prefix-key
 array-share-prefix-key c = search needs
@@ -39,31 +36,30 @@ same-length c = search needs
 
 -- Places: what stands before a need, by name. Written by `named`: run it again when the code changes.
 abbrev start-from-key-of : tie.After-key-of → tie.Start
-start-from-key-of c = c .before .before .before .before .before .before
+start-from-key-of c = c .before .before .before .before .before
 
-returns-3 : tie.Need-returns-3
-returns-3 c =
+returns-2 : tie.Need-returns-2
+returns-2 c =
     let at-value-of = c .before .before .before in
-    let at-if2 = at-value-of .before .before .before in
-    let at-key-of = at-if2 .before .before in
+    let at-if1 = at-value-of .before .before .before in
+    let at-key-of = at-if1 .before .before in
     let at-start = start-from-key-of at-key-of in
     λ guides N E.
     let r = at-start .pre in
     noted (E .program, at-start .args .c .state) (at-start .args .left) (at-start .args .flag) (r .4) (r .5)
-    (at-key-of .key-of .ensures .1 (E .room) (E .program) (E .frame) (omega (arith, at-if2 .if2 .left)))
+    (at-key-of .key-of .ensures .1 (E .room) (E .program) (E .frame) (omega (arith, at-if1 .if1 .left)))
     (E .claim) (rw (at-value-of .value-of .ensures .0) at (c .before .before .note .ensures)) N
 
 pub note-spec : {M : Type 1} → statement M
 note-spec =
     tie.close
     (tie.spec
-    returns
     slice-aggregate-key-of
     key-of-requires
-    returns-2
+    returns
     array-share-prefix-key
     slice-aggregate-note
     value-of-requires
     note-requires
     same-length
-    returns-3)
+    returns-2)

@@ -18,20 +18,35 @@ array-share-prefix-given : tie.Need-array-share-prefix-given
 array-share-prefix-given c = search needs
 
 -- Places: what stands before a need, by name. Written by `named`: run it again when the code changes.
+abbrev explore-arg-from-slice-aggregate-explore-2 : tie.After-given2 → tie.After-explore-arg
+explore-arg-from-slice-aggregate-explore-2 c = c .before .before .before .before .before
+
+abbrev given-from-slice-aggregate-explore-2 : tie.After-given2 → tie.After-given
+given-from-slice-aggregate-explore-2 c = explore-arg-from-slice-aggregate-explore-2 c .before .before
+
 abbrev start-from-slice-aggregate-explore-2 : tie.After-given2 → tie.Start
-start-from-slice-aggregate-explore-2 c = c .before .before .before .before .before .before .before .before .before .before .before .before .before
+start-from-slice-aggregate-explore-2 c = given-from-slice-aggregate-explore-2 c .before .before .before .before .before .before
 
 abbrev start-from-explore : tie.After-explore → tie.Start
 start-from-explore c = start-from-slice-aggregate-explore-2 (c .before)
 
+abbrev numbers-from-enum-told : tie.After-enum-told → tie.After-numbers
+numbers-from-enum-told c = c .before .before .before .before .before
+
 abbrev explore-from-enum-told : tie.After-enum-told → tie.After-explore
-explore-from-enum-told c = c .before .before .before .before .before .before .before .before .before .before .before
+explore-from-enum-told c = numbers-from-enum-told c .before .before .before .before .before .before
+
+abbrev numbers-from-enum-told2 : tie.After-enum-told2 → tie.After-numbers
+numbers-from-enum-told2 c = c .before .before .before .before .before
 
 abbrev explore-from-enum-told2 : tie.After-enum-told2 → tie.After-explore
-explore-from-enum-told2 c = c .before .before .before .before .before .before .before .before .before .before .before
+explore-from-enum-told2 c = numbers-from-enum-told2 c .before .before .before .before .before .before
+
+abbrev numbers-from-o : tie.After-o → tie.After-numbers
+numbers-from-o c = c .before .before .before .before .before
 
 abbrev explore-from-o : tie.After-o → tie.After-explore
-explore-from-o c = c .before .before .before .before .before .before .before .before .before .before .before
+explore-from-o c = numbers-from-o c .before .before .before .before .before .before
 
 slice-aggregate-explore-2 : tie.Need-slice-aggregate-explore-2
 slice-aggregate-explore-2 c =

@@ -48,8 +48,11 @@ next-bound-from-explore c = (any-run-from-explore c) .before .before .before
 abbrev loop-from-explore : tie.After-explore Inv-loop μ-loop → tie.At-loop Inv-loop μ-loop
 loop-from-explore c = (next-bound-from-explore c) .before .before
 
+abbrev slice-known8-from-is-more : tie.After-is-more Inv-loop μ-loop → tie.After-slice-known8 Inv-loop μ-loop
+slice-known8-from-is-more c = c .before .before .before .before .before
+
 abbrev explore-from-is-more : tie.After-is-more Inv-loop μ-loop → tie.After-explore Inv-loop μ-loop
-explore-from-is-more c = c .before .before .before .before .before .before .before .before .before .before .before
+explore-from-is-more c = slice-known8-from-is-more c .before .before .before .before .before .before
 
 abbrev explore-from-else1 : tie.Else1 Inv-loop μ-loop → tie.After-explore Inv-loop μ-loop
 explore-from-else1 c = explore-from-is-more (c .before)
@@ -66,8 +69,11 @@ if1-from-lower-requires c = c .before .before .before .before .before
 abbrev explore-from-lower : tie.After-lower Inv-loop μ-loop → tie.After-explore Inv-loop μ-loop
 explore-from-lower c = explore-from-is-more ((if1-from-lower-requires (c .before)) .before)
 
+abbrev flags2-from-same-length : tie.After-slice-known15 Inv-loop μ-loop → tie.After-flags2 Inv-loop μ-loop
+flags2-from-same-length c = c .before .before .before .before .before
+
 abbrev lower-from-same-length : tie.After-slice-known15 Inv-loop μ-loop → tie.After-lower Inv-loop μ-loop
-lower-from-same-length c = c .before .before .before .before .before .before .before .before .before .before
+lower-from-same-length c = flags2-from-same-length c .before .before .before .before .before
 
 loop-holds : tie.Need-loop-holds Inv-loop μ-loop
 loop-holds c =

@@ -25,8 +25,11 @@ loop-from-then1 c = c .before .before
 abbrev if1-from-narrow : tie.After-narrow Inv-loop μ-loop → tie.Then1 Inv-loop μ-loop
 if1-from-narrow c = c .before .before .before .before .before
 
+abbrev flags-from-loop-less : tie.After-slice-known8 Inv-loop μ-loop → tie.After-flags Inv-loop μ-loop
+flags-from-loop-less c = c .before .before .before .before .before
+
 abbrev narrow-from-loop-less : tie.After-slice-known8 Inv-loop μ-loop → tie.After-narrow Inv-loop μ-loop
-narrow-from-loop-less c = c .before .before .before .before .before .before .before .before
+narrow-from-loop-less c = flags-from-loop-less c .before .before .before
 
 abbrev if1-from-loop-less : tie.After-slice-known8 Inv-loop μ-loop → tie.Then1 Inv-loop μ-loop
 if1-from-loop-less c = if1-from-narrow (narrow-from-loop-less c)

@@ -35,8 +35,11 @@ any-run-from-explore-requires c = c .before .before .before .before .before .bef
 abbrev any-run-from-explore : tie.After-explore Inv-loop μ-loop → tie.After-any-run Inv-loop μ-loop
 any-run-from-explore c = any-run-from-explore-requires (c .before)
 
+abbrev slice-known8-from-is-found : tie.After-is-found Inv-loop μ-loop → tie.After-slice-known8 Inv-loop μ-loop
+slice-known8-from-is-found c = c .before .before .before .before .before
+
 abbrev explore-from-is-found : tie.After-is-found Inv-loop μ-loop → tie.After-explore Inv-loop μ-loop
-explore-from-is-found c = c .before .before .before .before .before .before .before .before .before .before .before
+explore-from-is-found c = slice-known8-from-is-found c .before .before .before .before .before .before
 
 abbrev half-way-from-is-found : tie.After-is-found Inv-loop μ-loop → tie.After-half-way Inv-loop μ-loop
 half-way-from-is-found c = (any-run-from-explore (explore-from-is-found c)) .before

@@ -41,8 +41,11 @@ if1-from-ask c = c .before .before .before .before .before
 abbrev loop-from-ask : tie.After-ask Inv-loop μ-loop → tie.At-loop Inv-loop μ-loop
 loop-from-ask c = loop-from-then1 (if1-from-ask c)
 
+abbrev slice-known7-from-joined2 : tie.Joined2 Inv-loop μ-loop → tie.After-slice-known7 Inv-loop μ-loop
+slice-known7-from-joined2 c = c .before .before .before .before .before
+
 abbrev ask-from-joined2 : tie.Joined2 Inv-loop μ-loop → tie.After-ask Inv-loop μ-loop
-ask-from-joined2 c = c .before .before .before .before .before .before .before .before .before .before .before
+ask-from-joined2 c = slice-known7-from-joined2 c .before .before .before .before .before .before
 
 abbrev ask-from-rank-at3 : tie.After-rank-at3 Inv-loop μ-loop → tie.After-ask Inv-loop μ-loop
 ask-from-rank-at3 c = ask-from-joined2 (c .before)

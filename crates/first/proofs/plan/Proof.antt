@@ -39,14 +39,20 @@ stand-from-deepen c = stand-from-begin (begin-from-deepen c)
 abbrev start-from-deepen : tie.After-deepen → tie.Start
 start-from-deepen c = start-from-stand (stand-from-deepen c)
 
+abbrev slice-known7-from-settle-requires : tie.After-settle-arg3 → tie.After-slice-known7
+slice-known7-from-settle-requires c = c .before .before .before .before .before
+
 abbrev deepen-from-settle-requires : tie.After-settle-arg3 → tie.After-deepen
-deepen-from-settle-requires c = c .before .before .before .before .before .before .before .before .before .before .before .before
+deepen-from-settle-requires c = slice-known7-from-settle-requires c .before .before .before .before .before .before .before
 
 abbrev deepen-from-settle : tie.After-settle → tie.After-deepen
 deepen-from-settle c = deepen-from-settle-requires (c .before)
 
+abbrev flags6-from-clear : tie.After-clear → tie.After-flags6
+flags6-from-clear c = c .before .before .before .before .before
+
 abbrev settle-from-clear : tie.After-clear → tie.After-settle
-settle-from-clear c = c .before .before .before .before .before .before .before .before .before .before
+settle-from-clear c = flags6-from-clear c .before .before .before .before .before
 
 abbrev clear-from-clear2 : tie.After-clear2 → tie.After-clear
 clear-from-clear2 c = c .before .before .before .before

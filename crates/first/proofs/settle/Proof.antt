@@ -13,14 +13,23 @@ enum-known-o : tie.Need-enum-known-o
 enum-known-o c = search needs
 
 -- Places: what stands before a need, by name. Written by `named`: run it again when the code changes.
+abbrev slice-known3-from-returns-2 : tie.After-enum-told → tie.After-slice-known3
+slice-known3-from-returns-2 c = c .before .before .before .before .before
+
 abbrev start-from-returns-2 : tie.After-enum-told → tie.Start
-start-from-returns-2 c = c .before .before .before .before .before .before .before .before
+start-from-returns-2 c = slice-known3-from-returns-2 c .before .before .before
+
+abbrev slice-known3-from-returns-3 : tie.After-enum-told2 → tie.After-slice-known3
+slice-known3-from-returns-3 c = c .before .before .before .before .before
 
 abbrev start-from-returns-3 : tie.After-enum-told2 → tie.Start
-start-from-returns-3 c = c .before .before .before .before .before .before .before .before
+start-from-returns-3 c = slice-known3-from-returns-3 c .before .before .before
+
+abbrev slice-known3-from-o : tie.After-o → tie.After-slice-known3
+slice-known3-from-o c = c .before .before .before .before .before
 
 abbrev start-from-o : tie.After-o → tie.Start
-start-from-o c = c .before .before .before .before .before .before .before .before
+start-from-o c = slice-known3-from-o c .before .before .before
 
 abbrev o-from-grow-requires : tie.After-grow-arg4 → tie.After-o
 o-from-grow-requires c = c .before .before .before .before .before
@@ -28,8 +37,11 @@ o-from-grow-requires c = c .before .before .before .before .before
 abbrev start-from-grow : tie.After-grow → tie.Start
 start-from-grow c = start-from-o (o-from-grow-requires (c .before))
 
+abbrev slice-known7-from-hand-out-requires : tie.After-hand-out-arg → tie.After-slice-known7
+slice-known7-from-hand-out-requires c = c .before .before .before .before .before
+
 abbrev grow-from-hand-out-requires : tie.After-hand-out-arg → tie.After-grow
-grow-from-hand-out-requires c = c .before .before .before .before .before .before .before .before .before
+grow-from-hand-out-requires c = slice-known7-from-hand-out-requires c .before .before .before .before
 
 abbrev grow-from-hand-out : tie.After-hand-out → tie.After-grow
 grow-from-hand-out c = grow-from-hand-out-requires (c .before)

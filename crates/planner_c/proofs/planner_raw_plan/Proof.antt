@@ -24,11 +24,17 @@ same-length-3 : tie.Need-same-length-3
 same-length-3 c = search needs
 
 -- Places: what stands before a need, by name. Written by `named`: run it again when the code changes.
+abbrev trace-from-moves : tie.After-moves → tie.After-trace
+trace-from-moves c = c .before .before .before .before .before
+
 abbrev plan-from-moves : tie.After-moves → tie.After-plan
-plan-from-moves c = c .before .before .before .before .before .before .before .before
+plan-from-moves c = trace-from-moves c .before .before .before
+
+abbrev trace-from-why : tie.After-why → tie.After-trace
+trace-from-why c = c .before .before .before .before .before
 
 abbrev plan-from-why : tie.After-why → tie.After-plan
-plan-from-why c = c .before .before .before .before .before .before .before .before
+plan-from-why c = trace-from-why c .before .before .before
 
 returns : tie.Need-returns
 returns c =

@@ -36,8 +36,11 @@ begin-from-explore-requires c = c .before .before .before .before .before .befor
 abbrev stand-from-explore : tie.After-explore → tie.After-stand
 stand-from-explore c = stand-from-begin (begin-from-explore-requires (c .before))
 
+abbrev trace2-from-clear : tie.After-clear → tie.After-trace2
+trace2-from-clear c = c .before .before .before .before .before
+
 abbrev explore-from-clear : tie.After-clear → tie.After-explore
-explore-from-clear c = c .before .before .before .before .before .before .before .before
+explore-from-clear c = trace2-from-clear c .before .before .before
 
 stand-requires : tie.Need-stand-requires
 stand-requires c κs =

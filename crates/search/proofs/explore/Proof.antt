@@ -14,8 +14,11 @@ next-round-requires : tie.Need-next-round-requires
 next-round-requires c κs = search needs
 
 -- Places: what stands before a need, by name. Written by `named`: run it again when the code changes.
+abbrev slice-known3-from-initial-of : tie.After-initial-of → tie.After-slice-known3
+slice-known3-from-initial-of c = c .before .before .before .before .before
+
 abbrev start-from-initial-of : tie.After-initial-of → tie.Start
-start-from-initial-of c = c .before .before .before .before .before .before .before .before
+start-from-initial-of c = slice-known3-from-initial-of c .before .before .before
 
 abbrev next-round-from-look-requires : tie.After-look-arg3 → tie.After-next-round
 next-round-from-look-requires c = c .before .before .before .before .before .before
@@ -38,8 +41,11 @@ if1-from-expand c = if1-from-expand-requires (c .before)
 abbrev next-round-from-expand : tie.After-expand → tie.After-next-round
 next-round-from-expand c = next-round-from-look (look-from-else1 (if1-from-expand c))
 
+abbrev flags2-from-same-length-9 : tie.After-slice-known13 → tie.After-flags2
+flags2-from-same-length-9 c = c .before .before .before .before .before
+
 abbrev expand-from-same-length-9 : tie.After-slice-known13 → tie.After-expand
-expand-from-same-length-9 c = c .before .before .before .before .before .before .before .before .before .before
+expand-from-same-length-9 c = flags2-from-same-length-9 c .before .before .before .before .before
 
 look-requires : tie.Need-look-requires
 look-requires c κs =

@@ -9,9 +9,15 @@ use borrow.Author.Needs.{needs}
 use Rattle.search.proofs.see.Statement.{statement}
 use Rattle.search.proofs.see.Tie as tie
 
+has-room-requires : tie.Need-has-room-requires
+has-room-requires c κs = search needs
+
 -- Places: what stands before a need, by name. Written by `named`: run it again when the code changes.
-abbrev start-from-subject-of-requires : tie.After-shared-slice-known4 → tie.Start
-start-from-subject-of-requires c = c .before .before .before .before .before .before
+abbrev shared-slice-known-from-subject-of-requires : tie.Then1 → tie.After-shared-slice-known
+shared-slice-known-from-subject-of-requires c = c .before .before .before .before .before
+
+abbrev start-from-subject-of-requires : tie.Then1 → tie.Start
+start-from-subject-of-requires c = shared-slice-known-from-subject-of-requires c .before .before .before
 
 abbrev start-from-subject-of : tie.After-subject-of → tie.Start
 start-from-subject-of c = start-from-subject-of-requires (c .before)
@@ -40,7 +46,7 @@ returns c =
     let k = c .known .ensures in
     let is = at-subject-of .subject-of .ensures in
     passed-over is (a .cut) (at-recall .recall .result .more) (p .0)
-    (λ g Y. at-recall .recall .ensures (guideFor (now (a .moves)) (a .t .window)) _ g (p .2 .known) (framed is Y) (c .before .before .if1 .taken))
+    (λ g Y. at-recall .recall .ensures (guideFor (now (a .moves)) (a .t .window)) _ g (p .2 .known) (framed is Y) (c .before .before .if2 .taken))
     (k .0, k .1 ∙ c .before .unfound .ensures)
 
 look-requires : tie.Need-look-requires
@@ -59,6 +65,7 @@ pub see-spec : {M : Type 1} → statement M
 see-spec =
     tie.close
     (tie.spec
+    has-room-requires
     subject-of-requires
     recall-requires
     unfound-requires
