@@ -9,11 +9,15 @@ use mathlib.Core.List.{List, [], _∷_}
 use mathlib.Core.Option.{Option}
 use mathlib.Core.Path.{_≡_, refl, sym, _∙_, ap, subst}
 use lib.Dec.{leb, eqb, leb→le, eqb→eq, T}
-use Rattle.runs.specs.Runs.{add}
+use Rattle.runs.specs.Runs.{add, LongRun, FinalRun}
 use Rattle.runs.specs.Search.{Verdict, plan, nothing, more, isPlan, orMore, before, tries, anyTransition, unless}
-use Rattle.runs.specs.Guide.{Guide, guidedTransitions, guidedFinal, follow}
+use Rattle.runs.specs.Search.{search, Lists, DecidesFinal, Means}
+use Rattle.runs.specs.Guide.{Guide, unguided, guidedTransitions, guidedFinal, follow}
 use Rattle.runs.specs.Bounded.{verdictWithin, join, flagged}
 use Rattle.runs.specs.Claims.{Claim, claimFlag, serves}
+use Rattle.runs.proofs.Searched.{search-means}
+use Rattle.runs.proofs.Verdicts.{plan-iff, nothing-iff, more-iff}
+use Rattle.runs.proofs.Bounded.{outcome-unguided}
 use Rattle.runs.proofs.Joined.{flag-plan, no-plan}
 
 -- a verdict, and the one within one transition less
@@ -194,3 +198,26 @@ module _ {C : Type 0} (transitions : C → List (Option ℕ × C)) (final : C �
       over true b z e = absurd (omega arith)
       over false true z e = absurd (omega arith)
       over false false z e = e
+
+  -- document 02, F-4, in runs: where nothing is asked, a claim says "No run of at most k transitions from this configuration ends final", and of
+  -- runs of k + 1 that some exists, that none exists, or nothing
+  module _ (Trans : C → Option ℕ → C → Type 0) (Ends : C → Type 0) (listed : Lists transitions Trans) (decided : DecidesFinal final Ends) where
+    pub claim-says :
+        (left flag : ℕ) (c : C) → Claim transitions final left flag (c, unguided)
+        → (¬ FinalRun Trans Ends left c) × (flag ≡ 1 → LongRun Trans (suc left) c) × (flag ≡ 2 → ¬ LongRun Trans (suc left) c)
+    claim-says left flag c p = (none-ends, goes-on, is-over)
+      where
+        is : verdictWithin transitions final left (c, unguided) ≡ search transitions final left c
+        is = outcome-unguided transitions final left c
+
+        means : (k : ℕ) (d : C) → Means Trans Ends k d (search transitions final k d)
+        means = search-means Trans Ends transitions final listed decided
+
+        none-ends : ¬ FinalRun Trans Ends left c
+        none-ends r = let (h, t, e) = plan-iff Trans Ends (search transitions final) means left c .1 r in true≢false (sym (ap isPlan (is ∙ e)) ∙ p .none-ends)
+
+        goes-on : flag ≡ 1 → LongRun Trans (suc left) c
+        goes-on z = more-iff Trans Ends (search transitions final) means left c .0 (sym is ∙ p .goes-on z) .1
+
+        is-over : flag ≡ 2 → ¬ LongRun Trans (suc left) c
+        is-over z = nothing-iff Trans Ends (search transitions final) means left c .0 (sym is ∙ p .is-over z) .1

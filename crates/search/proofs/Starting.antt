@@ -4,7 +4,7 @@ use Prim.Native.Nat.{ℕ, _≤_}
 use native.Mathlib.Omega.{arith}
 use mathlib.Core.Bool.{Bool, true, false}
 use mathlib.Core.List.{List}
-use mathlib.Core.Path.{_≡_, sym, subst}
+use mathlib.Core.Path.{_≡_, sym, _∙_, subst}
 use lib.ListN.{length}
 use Rattle.golog.specs.declared.State.{State}
 use Rattle.runs.specs.Bounded.{join, flagged}
@@ -15,12 +15,13 @@ use Rattle.engine.specs.Going.{transitionsOf}
 use Rattle.engine.proofs.Frames.{frame-kept, frame-fewer}
 use Rattle.search.specs.Outcome.{Reported}
 use Rattle.search.specs.Moves.{guideAs}
-use Rattle.search.specs.Searching.{verdictFrom, verdictOn, Standing, Ready, configured, verdictAt, Unknown, LookedAt, Going, Preserves, Expanded}
+use Rattle.search.specs.Searching.{verdictFrom, verdictOn, Standing, Ready, configured, verdictAt, SearchedAs, Unknown, LookedAt, Going, Preserves, Expanded}
 use Rattle.search.specs.declared.Question.{Question}
 use Rattle.search.specs.declared.Task.{Task}
 use Rattle.search.specs.declared.Visit.{Visit}
 use Rattle.search.specs.declared.Seen.{Seen}
 use Rattle.search.specs.declared.Outcome.{Outcome}
+use Rattle.search.proofs.Noting.{unfound-flag}
 
 -- before the first transition
 abbrev starting : Question → State → Visit
@@ -76,3 +77,15 @@ module _ (moves trace : List ℕ) (a : Question) (r : ℕ) {s w : List ℕ} {fou
         on-first (subst (Reported 0 0 trace trace″ o) (sym (unknown .same)) (E from-first)),
         record { of = S .of; frame = frame-kept (S .frame) w″ (P .kept); prepared = P .prepared },
       )
+
+      -- and what may be noted of it
+      pub searched-first :
+          {w″ trace″ : List ℕ} {flags″ : List Bool} {numbers″ : List ℕ} {o : Outcome}
+          → Expanded s w moves trace trace″ (asked found a r) (starting a st) (a .cut) (x .cursor) flags′ numbers′ o
+          → Preserves s w w″ (starting a st) flags′ flags″ numbers′ numbers″ → SearchedAs s w″ moves (asked found a r) (starting a st) (a .cut) o
+      searched-first {w″} E P = record {
+        program = firstOf s .0;
+        visited = record { of = S .of; frame = frame-kept (at-first .visited .frame) w″ (P .kept); used-up = at-first .visited .used-up };
+        few-left = omega (arith, at-first .deep);
+        tells = λ e. unknown .same ∙ unfound-flag _ _ _ _ _ _ (E from-first .says) e;
+      }

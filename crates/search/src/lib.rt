@@ -357,14 +357,16 @@ pub fn explore(
         n: 0,
         state,
     };
-    let x = look(flags, numbers, work, s, moves, t, q, a.cut);
+    let x = see(flags, numbers, work, index, s, moves, t, q, a.cut);
     let seen = x.outcome;
     if x.known {
         return seen;
     }
     let cursor = x.cursor;
     let first = Start { ran: a.cut, cursor };
-    expand(work, trace, flags, numbers, index, s, moves, t, q, first)
+    let o = expand(work, trace, flags, numbers, index, s, moves, t, q, first);
+    remember(index, work, s, moves, t, q, a.cut, o);
+    o
 }
 
 // The words of the index that a replay lends its search.
