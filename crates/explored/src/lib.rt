@@ -78,8 +78,8 @@ pub fn recall(
     cut: bool,
 ) -> Recalled
     requires { ⌜ Sound (now index) × Of (now s) found × ((k : ℕ) × (p : Prog) × Frame (now s) k (now work) (c .depth) p) ⌝ }
-    ensures { λ r. ⌜ ((guides : ℕ → Guide) (k : ℕ) (p : Prog) → Known (now (s .entry)) guides round (now (index .entry)) → Frame (now (s .entry)) k (now (work .entry)) (c .depth) p → r .served ≡ true →
-        join (flagged cut) (verdictIn (now (s .entry)) left ((p, c .state), guides (c .label))) ≡ flagged (r .more)) ⌝ }
+    ensures { λ r. ⌜ ((guides : ℕ → Guide) (k : ℕ) (p : Prog) → Known (now (s .entry)) guides round (now (index .entry)) → Frame (now (s .entry)) k (now (work .entry)) (c .depth) p
+        → r .served ≡ true → join (flagged cut) (verdictIn (now (s .entry)) left ((p, c .state), guides (c .label))) ≡ flagged (r .more)) ⌝ }
 {
     let mut key = [0u32; keys::WORDS];
     let n = keys::key_of(&mut key, work, s, found, c.state, c.depth, c.label);

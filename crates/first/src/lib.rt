@@ -92,18 +92,11 @@ fn doubles(before: u32, cost: u32) -> bool {
     (8 <= b) & (3 * b <= 2 * c) & (5 * c <= 11 * b)
 }
 
-// How many bounds to pass over next, so many having been passed over between two searches that cost so much: about twice as many where the
-// second cost little more, half as many where it cost much more. No answer depends on it.
-fn leap(ahead: usize, before: u32, cost: u32) -> usize {
+// How many bounds to pass over next, after two searches that cost so much: one where the second cost little more. No answer depends on it.
+fn leap(before: u32, cost: u32) -> usize {
     let b = before as u64;
     let c = cost as u64;
-    if 3 * c <= 4 * b {
-        return 2 * (ahead % 32) + 1;
-    }
-    if 5 * b <= 2 * c {
-        return ahead / 2;
-    }
-    ahead
+    if 2 * c <= 3 * b { 1 } else { 0 }
 }
 
 // The bound to try where those below `low` are done, so many being passed over: D itself where that is one of the last, to be tried at once.
@@ -164,7 +157,7 @@ fn deepen(
         }
         let cost = std::num::wrapping_sub_u32(engine::surveys(numbers), begun);
         at_once = doubles(before, cost);
-        ahead = leap(ahead, before, cost);
+        ahead = leap(before, cost);
         before = cost;
         low = t + 1;
     }

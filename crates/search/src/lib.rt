@@ -333,7 +333,8 @@ pub fn explore(
     moves: &[u16],
     a: Question,
 ) -> Outcome
-    requires { ⌜ Standing (now s) (now work) found (now flags) (now numbers) × (a .left ≤ boundOf (now s)) × (a .left ≤ length (now trace)) × (length (now moves) ≤ 64) × Lasting (now s) (now index) ⌝ }
+    requires { ⌜ Standing (now s) (now work) found (now flags) (now numbers) × (a .left ≤ boundOf (now s)) × (a .left ≤ length (now trace)) × (length (now moves) ≤ 64)
+        × Lasting (now s) (now index) ⌝ }
     ensures answer { λ r. ⌜ Reported 0 0 (now (trace .entry)) (now (trace .exit)) r (verdictOn (now (s .entry)) (now (moves .entry)) a) ⌝ }
     ensures stands { λ _. ⌜ Standing (now (s .entry)) (now (work .exit)) found (now (flags .exit)) (now (numbers .exit)) ⌝ }
     ensures index { λ _. ⌜ Lasting (now (s .entry)) (now (index .exit)) ⌝ }
