@@ -16,15 +16,17 @@
  *    history. They may hold anything before the call.
  *
  * Index. planner_plan takes an index of configurations already explored (document 02, F-4), which may have any length
- * from 0. The answer does not depend on it, nor what is left in trace and work: only the time does. An entry takes some
- * 10 words; when the index is full nothing more is noted.
+ * from 0. The answer does not depend on it, nor what is left in trace and work: only the time does. An entry takes 3
+ * words, one for 8 fluents and one for 2 nodes of the remaining program, so some 7 to 12; when the index is full nothing
+ * more is noted. Clearing it is a part of the call: 4 MiB take some hundredths of a millisecond.
  *
  * Moves. An action is possible where its precondition holds and no two of its effects that hold give one fluent
  * different values (document 02, F-2); conditions are judged in the values before it.
  *
  * Time and stack. planner_plan and planner_replay search, which may take time exponential in D; planner_plan, where
- * there is a plan, in the number of its transitions. A call cannot be broken off. It takes at most PLANNER_STACK bytes
- * of stack.
+ * there is a plan, in the number of its transitions. With an index that has room for all configurations reached,
+ * planner_plan takes time in proportion to their transitions and to D. planner_replay has a small index of its own. A call
+ * cannot be broken off. It takes at most PLANNER_STACK bytes of stack.
  *
  * Answers. Every function returns a number; the place and the other results come through pointers.
  *  - 0: accepted, found, answered. The place is 0.

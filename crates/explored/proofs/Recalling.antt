@@ -1,11 +1,11 @@
 -- What the index says of a configuration is true of it: equal keys are those of equal configurations and labels. What is noted of one is what
 -- was explored. A new round leaves what is claimed where nothing is asked, and nothing else. Assumes nothing.
-use Prim.Native.Nat.{ℕ, _+_, _*_, _/_, _%_, _≤_, _<_}
+use Prim.Native.Nat.{ℕ, _≤_, _<_}
 use native.Mathlib.Omega.{arith}
 use mathlib.Core.Bool.{Bool, true, false, _&&_, _||_, true≢false}
 use mathlib.Core.List.{List}
 use mathlib.Core.Logic.{_⊎_, inl, ⊎-elim}
-use mathlib.Core.Path.{_≡_, refl, sym, _∙_, ap, subst}
+use mathlib.Core.Path.{_≡_, refl, sym, _∙_, subst}
 use lib.Dec.{T, eqb}
 use Rattle.golog.specs.Transitions.{Configuration}
 use Rattle.runs.specs.Guide.{Guide, unguided}

@@ -2,16 +2,16 @@
 -- fewest transitions once no search for fewer finds one. Assumes nothing.
 use Prim.Native.Nat.{ℕ, suc, _+_, _≤_, _<_}
 use native.Mathlib.Omega.{arith}
-use native.Mathlib.Decide.{decLe}
 use mathlib.Core.Bool.{Bool, true, false, true≢false}
 use mathlib.Core.List.{List}
 use mathlib.Core.Path.{_≡_, refl, sym, _∙_, ap, subst}
 use lib.ListN.{length, take}
 use Rattle.runs.specs.Search.{Verdict, plan, nothing, more, Means}
-use Rattle.runs.specs.First.{FinalAt, NoneBelow}
+use Rattle.runs.specs.First.{NoneBelow}
 use Rattle.runs.specs.Guide.{unguided}
 use Rattle.runs.specs.Bounded.{join, flagged}
 use Rattle.runs.specs.Growing.{SoFar}
+use Rattle.runs.proofs.Firsts.{none-below}
 use Rattle.runs.proofs.Deepening.{so-far-none, so-far-nothing, so-far-more, so-far-all, fewest-met}
 use Rattle.demands.specs.Decoded.{worldOf, firstOf, boundOf}
 use Rattle.demands.specs.Planning.{Goes, Ends}
@@ -131,16 +131,15 @@ module _ {s : List ℕ} {low : ℕ} {trace : List ℕ} {o : Outcome} (F : FoundS
         let kept = unfound-kept 0 0 trace trace′ x (join (flagged true) (verdictFrom s left (firstOf s, unguided))) (R .says) z in
         (kept, subst (λ (r : List ℕ). FoundSoFar s (left + 1) r o) (sym kept) (go (F .verdict) (F .holds) (F .means)))
       where
-        above : (n : ℕ) (g : List ℕ) → FinalAt (Goes (worldOf s)) (Ends (worldOf s)) n (firstOf s) g → Dec (n ≤ left) → left + 1 ≤ n
-        above n g f (yes y) = absurd (no-run s left unguided true R z n g y f tt)
-        above n g f (no y) = omega arith
+        few : NoneBelow (Goes (worldOf s)) (Ends (worldOf s)) (left + 1) (firstOf s)
+        few = none-below (Goes (worldOf s)) (Ends (worldOf s)) (left + 1) (firstOf s) (λ n g y f. no-run s left unguided true R z n g (omega arith) f tt)
 
         go : (v : Verdict) → Holds trace o v → SoFarOf v → FoundSoFar s (left + 1) trace o
         go (plan h t) (q, k) m =
             record {
               verdict = plan h t;
               holds = (q, k);
-              means = record { within = m .within; plan = m .plan; none-below = λ n g f. above n g f (decLe n left) };
+              means = record { within = m .within; plan = m .plan; none-below = few };
               not-more = F .not-more;
             }
         go nothing q m = absurd (omega (arith, l, ap transitionCount q))

@@ -11,7 +11,7 @@ use native.Mathlib.Omega.{arith}
 use native.Mathlib.Decide.{decLt}
 use lib.ListN.{getD, length, take, drop, List·getD-eq-default}
 use lib.Seq.{ext-getD, getD-take, getD-drop}
-use Rattle.index.specs.Written.{Laid}
+use Rattle.records.specs.Laid.{Laid}
 use Rattle.index.specs.Content.{Entry, entryAt, stop, headsOf, endOf, Stands, Linked, Says, Begun, Has, Matches, Located}
 
 -- an index that has heads has room for them

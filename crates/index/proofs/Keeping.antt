@@ -18,9 +18,6 @@ every-noted P key v {es} (added at) E p = each-more (λ k e. P (e .key) (e .valu
 every-none : (P : List ℕ → ℕ → Type 0) → Every P []
 every-none P j h = absurd (omega arith)
 
-pub sound-noted : (key : List ℕ) (v : ℕ) (w w′ : List ℕ) → Notes key v w w′ → Sound w → Sound w′
-sound-noted key v w w′ N (es, S) = let (es′, S′, n) = N .says es S in (es′, S′)
-
 module _ (P : List ℕ → ℕ → Type 0) where
   pub sound : (w : List ℕ) → Keeps P w → Sound w
   sound w (es, S, E) = (es, S)

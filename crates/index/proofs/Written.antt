@@ -1,31 +1,12 @@
--- A store changes its own word and no other, so a loop that writes one word after the other lays them all, and two stores before a laid
--- key make an entry. Assumes nothing.
-use Prim.Native.Nat.{ℕ, _+_, _≤_, _<_}
-use mathlib.Core.Path.{_≡_, refl, sym, ap, _∙_}
+-- Two stores before a laid key make an entry. Assumes nothing.
+use Prim.Native.Nat.{ℕ, _+_, _≤_}
+use mathlib.Core.Path.{refl, _∙_}
 use mathlib.Core.List.{List}
 use native.Mathlib.Omega.{arith}
-use native.Mathlib.Decide.{decLt}
 use lib.ListN.{getD, length, set, length-set}
 use lib.Seq.{getD-set-same, getD-set-other}
-use Rattle.index.specs.Written.{Laid, Entered}
-
-module _ (to : ℕ) (g : ℕ → ℕ) (w : List ℕ) where
-  pub laid-none : Laid to g w w 0
-  laid-none = record { len = refl; laid = λ k h. absurd (omega arith); below = λ k h. refl; above = λ k h. refl }
-
-  pub laid-more : {w′ : List ℕ} {x : ℕ} → Laid to g w w′ x → {i v : ℕ} → i ≡ to + x → i < length w → v ≡ g x → Laid to g w (set w′ i v) (x + 1)
-  laid-more {w′} {x} L {i} {v} p l e = record {
-    len = length-set w′ i v ∙ L .len;
-    laid = λ k h. pick k (decLt k x) h;
-    below = λ k h. getD-set-other w′ i k v 0 (omega arith) ∙ L .below k h;
-    above = λ k h. getD-set-other w′ i k v 0 (omega arith) ∙ L .above k (omega arith);
-  }
-    where
-      pick : (k : ℕ) → Dec (k < x) → k < x + 1 → getD (set w′ i v) (to + k) 0 ≡ g k
-      pick k (yes q) h = getD-set-other w′ i (to + k) v 0 (omega arith) ∙ L .laid k q
-      pick k (no q) h =
-          let n : k ≡ x = omega arith in
-          ap (λ (j : ℕ). getD (set w′ i v) j 0) (omega arith) ∙ getD-set-same w′ i v 0 (omega (arith, L .len)) ∙ e ∙ ap g (sym n)
+use Rattle.records.specs.Laid.{Laid}
+use Rattle.index.specs.Written.{Entered}
 
 -- two words, and a key behind them
 pub entered : (at next header : ℕ) (key w w′ : List ℕ) → at + 2 + length key ≤ length w

@@ -5,11 +5,12 @@ ghost use mathlib.Core.Bool.{true};
 ghost use mathlib.Core.List.{List};
 ghost use Prim.Native.Nat.{ℕ, _+_, _-_, _*_, _/_, _^_, _≤_, _<_, min};
 ghost use lib.ListN.{length, getD};
-ghost use Rattle.index.specs.Written.{Laid, Entered};
+ghost use Rattle.records.specs.Laid.{Laid};
+ghost use Rattle.index.specs.Written.{Entered};
 ghost use Rattle.index.specs.Content.{Entry, headsOf, Says, Sound, Begun, Opened, Linked, Located, Matches, Tells, Notes};
 
 // Rounds are below this number.
-pub const ROUNDS: u32 = 65536;
+const ROUNDS: u32 = 65536;
 
 // A value is below this number: in an entry's second word the key's length stands above it.
 const VALUES: u32 = 33554432;

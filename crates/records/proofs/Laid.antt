@@ -1,18 +1,12 @@
--- Places of a list written one after the other by a loop: x of them from `to` on hold g 0, g 1, .., all others are as they were.
--- One law for every such loop. Assumes nothing.
-use Prim.Native.Nat.{ℕ, _+_, _≤_, _<_}
+-- A store changes its own place and no other: one law for every loop that writes places one after the other. Assumes nothing.
+use Prim.Native.Nat.{ℕ, _+_, _<_}
 use mathlib.Core.Path.{_≡_, refl, sym, ap, _∙_}
 use mathlib.Core.List.{List}
 use native.Mathlib.Omega.{arith}
 use native.Mathlib.Decide.{decLt}
 use lib.ListN.{getD, length, set, length-set}
 use lib.Seq.{getD-set-same, getD-set-other}
-
-pub record Laid (to : ℕ) (g : ℕ → ℕ) (w w′ : List ℕ) (x : ℕ) : Type 0 where
-  pub len : length w′ ≡ length w
-  pub laid : (k : ℕ) → k < x → getD w′ (to + k) 0 ≡ g k
-  pub below : (k : ℕ) → k < to → getD w′ k 0 ≡ getD w k 0
-  pub above : (k : ℕ) → to + x ≤ k → getD w′ k 0 ≡ getD w k 0
+use Rattle.records.specs.Laid.{Laid}
 
 module _ (to : ℕ) (g : ℕ → ℕ) (w : List ℕ) where
   pub laid-none : Laid to g w w 0

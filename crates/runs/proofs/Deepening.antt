@@ -1,13 +1,12 @@
 -- Deepening: where no run of fewer than so many transitions ends final, a higher bound finds a plan, or none ends final up to it; and where
--- no run goes on past a bound, none does past a higher one. A plan has the fewest transitions where none ends final with one less.
+-- no run goes on past a bound, none does past a higher one. A plan has the fewest transitions where no lower bound is untried.
 -- Assumes nothing.
-use Prim.Native.Nat.{ℕ, suc, _≤_, _<_, zero-le}
+use Prim.Native.Nat.{ℕ, suc, _≤_, zero-le}
 use native.Mathlib.Omega.{arith}
 use mathlib.Core.List.{List, []}
 use mathlib.Core.Option.{Option}
 use mathlib.Core.Path.{refl}
 use Rattle.runs.specs.Search.{nothing, more, Means}
-use Rattle.runs.specs.First.{FinalAt}
 use Rattle.runs.specs.Growing.{FoundFrom, SoFar, MeansFewest}
 use Rattle.runs.proofs.Raised.{none-raised}
 use Rattle.runs.proofs.Firsts.{none-below}
@@ -31,6 +30,3 @@ module _ {C : Type 0} (Trans : C → Option ℕ → C → Type 0) (Ends : C → 
   module _ {k low : ℕ} {c : C} {h : List ℕ} {t : ℕ} (F : FoundFrom Trans Ends low k c h t) where
     pub fewest-met : t ≤ low → FoundFrom Trans Ends t k c h t
     fewest-met l = record { within = F .within; plan = F .plan; none-below = λ n g f. omega (arith, F .none-below n g f) }
-
-    pub fewest-alone : ((n : ℕ) (g : List ℕ) → n < t → ¬ FinalAt Trans Ends n c g) → FoundFrom Trans Ends t k c h t
-    fewest-alone no-run = record { within = F .within; plan = F .plan; none-below = none-below Trans Ends t c no-run }

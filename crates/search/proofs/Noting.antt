@@ -1,8 +1,7 @@
 -- What the index says of a visit is the verdict on it, a label being what is left of the guide; and what came of a visit that was searched on
 -- from without a plan may be claimed of it. A search in a round of its own knows what lasts from the rounds before. Assumes nothing.
-use Prim.Native.Nat.{ℕ, suc, _+_, _≤_}
+use Prim.Native.Nat.{ℕ, _+_, _≤_}
 use native.Mathlib.Numerals.{add-one}
-use native.Mathlib.Omega.{arith}
 use mathlib.Core.Bool.{Bool, true, false, cond, true≢false}
 use mathlib.Core.List.{List}
 use mathlib.Core.Path.{_≡_, refl, sym, _∙_, ap, subst}
@@ -20,9 +19,9 @@ use Rattle.engine.specs.Frames.{Frame}
 use Rattle.engine.proofs.Tables.{filled-none}
 use Rattle.index.specs.Content.{Opened}
 use Rattle.explored.specs.declared.Subject.{Subject}
-use Rattle.explored.specs.Known.{verdictIn, ClaimOf, Known, Lasting, Explored}
+use Rattle.explored.specs.Known.{verdictIn, ClaimOf, Lasting, Explored}
 use Rattle.explored.proofs.Recalling.{opened, lasting}
-use Rattle.search.specs.Outcome.{ReportsVerdict, Reported, isFound, isMore, told}
+use Rattle.search.specs.Outcome.{ReportsVerdict, isFound, isMore, told}
 use Rattle.search.specs.Moves.{guideAs, guideAt, labelOf, guideFor, subjectOf}
 use Rattle.search.specs.Searching.{configured, guideOf, verdictAt, Told, SearchedAs, Visited, LookedAt}
 use Rattle.search.specs.declared.Given.{Given}

@@ -1,8 +1,7 @@
 -- What was explored is noted under the key of its configuration. Assumes nothing.
 use native.Mathlib.Omega.{arith}
-use mathlib.Core.Path.{sym, ap, subst}
+use mathlib.Core.Path.{sym}
 use lib.Seq.{length-take-le}
-use Rattle.index.specs.Content.{Notes}
 use Rattle.explored.proofs.Recalling.{noted}
 use borrow.Author.Needs.{needs}
 use Rattle.explored.proofs.note.Statement.{statement}

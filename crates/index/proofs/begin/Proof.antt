@@ -1,8 +1,8 @@
 -- The loop lays 0 into one word after the other, up to the first entry or the slice's end, past which there is nothing to read. Assumes
 -- nothing.
 use Rattle.index.proofs.Content.{begun}
-use Rattle.index.proofs.Written.{laid-none, laid-more}
-use Rattle.index.specs.Written.{Laid}
+use Rattle.records.proofs.Laid.{laid-none, laid-more}
+use Rattle.records.specs.Laid.{Laid}
 use Prim.Native.Nat.{ℕ, _-_, _≤_}
 use native.Mathlib.Omega.{arith}
 use borrow.Author.Needs.{needs}

@@ -1,7 +1,7 @@
 -- The loop lays the key's words one after the other. Assumes nothing.
 use denote.Ref.{now}
-use Rattle.index.proofs.Written.{laid-none, laid-more}
-use Rattle.index.specs.Written.{Laid}
+use Rattle.records.proofs.Laid.{laid-none, laid-more}
+use Rattle.records.specs.Laid.{Laid}
 use lib.ListN.{length, getD}
 use Prim.Native.Nat.{ℕ, _-_, _≤_}
 use mathlib.Core.Path.{refl, subst}

@@ -3,7 +3,8 @@ use Prim.Native.Nat.{ℕ, _+_, _*_, _-_, _/_, _≤_, _<_}
 use mathlib.Core.Path.{_≡_, refl}
 use mathlib.Core.Bool.{true}
 use native.Mathlib.Omega.{arith}
-use Rattle.records.proofs.Laid.{Laid, laid-none, laid-more}
+use Rattle.records.specs.Laid.{Laid}
+use Rattle.records.proofs.Laid.{laid-none, laid-more}
 use Rattle.records.proofs.Truth.{and-left, and-right}
 use Rattle.keys.specs.Packed.{pairAt, Coded}
 use Rattle.keys.proofs.Written.{coded-more}

@@ -3,7 +3,8 @@ use Prim.Native.Nat.{ℕ, _*_, _-_, _≤_}
 use mathlib.Core.Path.{refl}
 use native.Mathlib.Omega.{arith}
 use borrow.Author.Needs.{needs}
-use Rattle.records.proofs.Laid.{Laid, laid-none, laid-more}
+use Rattle.records.specs.Laid.{Laid}
+use Rattle.records.proofs.Laid.{laid-none, laid-more}
 use Rattle.keys.specs.Packed.{eightAt}
 use Rattle.keys.proofs.write_values.Statement.{statement}
 use Rattle.keys.proofs.write_values.Tie as tie

@@ -6,7 +6,8 @@ use native.Mathlib.Omega.{arith}
 use lib.ListN.{length, getD, replicate, length-replicate}
 use lib.Seq.{ext-getD}
 use Rattle.records.proofs.Fills.{getD-same}
-use Rattle.records.proofs.Laid.{Laid, laid-none, laid-more}
+use Rattle.records.specs.Laid.{Laid}
+use Rattle.records.proofs.Laid.{laid-none, laid-more}
 use Rattle.search.proofs.clear.Statement.{statement}
 use Rattle.search.proofs.clear.Tie as tie
 

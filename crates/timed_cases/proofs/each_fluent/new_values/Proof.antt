@@ -12,7 +12,8 @@ use Rattle.records.specs.declared.Action.{Action}
 use Rattle.state.specs.Ranges.{Names}
 use Rattle.golog.specs.World.{given, changed}
 use Rattle.state.specs.Truths.{saidBy}
-use Rattle.records.proofs.Laid.{Laid, laid-none, laid-more}
+use Rattle.records.specs.Laid.{Laid}
+use Rattle.records.proofs.Laid.{laid-none, laid-more}
 use Rattle.state.proofs.Performed.{given-stays, changed-all}
 use Rattle.timed_cases.proofs.each_fluent.new_values.Statement.{statement}
 use Rattle.timed_cases.proofs.each_fluent.new_values.Tie as tie
