@@ -24,9 +24,10 @@
  * different values (document 02, F-2); conditions are judged in the values before it.
  *
  * Time and stack. planner_plan and planner_replay search, which may take time exponential in D; planner_plan, where
- * there is a plan, in the number of its transitions. With an index that has room for all configurations reached,
- * planner_plan takes time in proportion to their transitions and to D. planner_replay has a small index of its own. A call
- * cannot be broken off. It takes at most PLANNER_STACK bytes of stack.
+ * there is a plan, in the number of its transitions. Where an index has room for all configurations reached, the time
+ * of planner_plan grew about in proportion to their transitions and to D on the sheets that were measured; where it has
+ * not, it may be as without one. planner_replay has a small index of its own. A call cannot be broken off. It takes at
+ * most PLANNER_STACK bytes of stack, as measured.
  *
  * Answers. Every function returns a number; the place and the other results come through pointers.
  *  - 0: accepted, found, answered. The place is 0.
