@@ -5,8 +5,9 @@
  *     cc -Iinclude examples/plan.c target/staticlib/libplanner_c.a
  *     ./a.out FILE                  without FILE: standard input
  *
- * Prints the sheet's notes, bound and fluents, the plan, and whether it replays; the status is 0. It is 1 where the
- * library answers with a number, which is printed with its place and cause, and 2 where the input or memory fails.
+ * Prints the sheet's notes, bound and fluents, the plan, and whether it replays; the status is 0. A fluent that no
+ * formula names may begin as it likes: the plan is the same. The status is 1 where the library answers with a number,
+ * which is printed with its place and cause, and 2 where the input or memory fails.
  */
 #include "planner.h"
 
@@ -64,8 +65,8 @@ static uint8_t *read_all(FILE *file, size_t *length)
     return NULL;
 }
 
-/* Prints the notes, which here are text, the bound and the fluents. */
-static uint32_t describe(const uint8_t *sheet, size_t sheet_len, size_t *place)
+/* Prints the notes, which here are text, the bound and the fluents, with those that no formula names told apart. */
+static uint32_t describe(const uint8_t *sheet, size_t sheet_len, uint32_t names, size_t *place)
 {
     size_t length, fluents, bound;
     uint32_t number = planner_notes(sheet, sheet_len, &length, place);
@@ -84,7 +85,8 @@ static uint32_t describe(const uint8_t *sheet, size_t sheet_len, size_t *place)
         if (number != 0) {
             return number;
         }
-        printf("fluent %zu has %zu values, at first %zu\n", fluent, size, initial);
+        const char *named = names >> fluent & 1 ? "" : ": no formula names it";
+        printf("fluent %zu has %zu values, at first %zu%s\n", fluent, size, initial, named);
     }
     return 0;
 }
@@ -131,9 +133,10 @@ static uint32_t plan(const uint8_t *sheet, size_t sheet_len, uint32_t *work, siz
 static int run(const uint8_t *sheet, size_t sheet_len)
 {
     size_t words, place;
-    uint32_t number = planner_check(sheet, sheet_len, &words, &place);
+    uint32_t names;
+    uint32_t number = planner_check(sheet, sheet_len, &words, &names, &place);
     if (number == 0) {
-        number = describe(sheet, sheet_len, &place);
+        number = describe(sheet, sheet_len, names, &place);
     }
     if (number != 0) {
         return refused(number, place);

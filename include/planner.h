@@ -20,6 +20,14 @@
  * words, one for 8 fluents and one for 2 nodes of the remaining program, so some 7 to 12; when the index is full nothing
  * more is noted. Clearing it is a part of the call: 4 MiB take some hundredths of a millisecond.
  *
+ * Names. planner_check tells which fluents formulas name (document 02, F-5), as a set of 32 bits, bit x for fluent x:
+ * the union over the formula table, each formula with all its subformulas, whether anything uses it or not. A fluent
+ * that effects give values, but no formula names, is outside. The set is for a screen that shows fluents as bars: bars
+ * outside it never change an answer. Two accepted sheets that differ only in initial values of fluents outside it get
+ * the same from planner_check, the same number, n, t and trace from planner_plan and the same replies from
+ * planner_replay; planner_look_up alone tells such a value. So when such a bar is moved, nothing is to be planned or
+ * replayed again, and no other bar painted again.
+ *
  * Moves. An action is possible where its precondition holds and no two of its effects that hold give one fluent
  * different values (document 02, F-2); conditions are judged in the values before it.
  *
@@ -90,7 +98,7 @@ extern "C" {
  * languages call these: here a pointer is never null, and an empty slice, too, has some aligned address, as its own
  * end.
  */
-uint32_t planner_raw_check(const uint8_t *sheet, size_t sheet_len, size_t *words, size_t *place);
+uint32_t planner_raw_check(const uint8_t *sheet, size_t sheet_len, size_t *words, uint32_t *names, size_t *place);
 uint32_t planner_raw_sizes(const uint8_t *sheet, size_t sheet_len, size_t *fluents, size_t *bound, size_t *place);
 uint32_t planner_raw_plan(const uint8_t *sheet, size_t sheet_len, uint32_t *work, size_t work_len, uint16_t *trace,
                           size_t trace_len, uint32_t *index, size_t index_len, size_t *n, size_t *t, size_t *place);
@@ -101,13 +109,15 @@ uint32_t planner_raw_look_up(const uint8_t *sheet, size_t sheet_len, size_t flue
 uint32_t planner_raw_notes(const uint8_t *sheet, size_t sheet_len, size_t *length, size_t *place);
 
 /*
- * Checks a sheet. Number 0: it is accepted, and planning and replay require *words words of work.
+ * Checks a sheet. Number 0: it is accepted, planning and replay require *words words of work, and *names is the set of
+ * the fluents that its formulas name, bit x for fluent x: bars outside it never change an answer.
  * Numbers 1 to 9.
  */
-static inline uint32_t planner_check(const uint8_t *sheet, size_t sheet_len, size_t *words, size_t *place)
+static inline uint32_t planner_check(const uint8_t *sheet, size_t sheet_len, size_t *words, uint32_t *names,
+                                     size_t *place)
 {
     const uint8_t no_sheet = 0;
-    return planner_raw_check(sheet ? sheet : &no_sheet, sheet_len, words, place);
+    return planner_raw_check(sheet ? sheet : &no_sheet, sheet_len, words, names, place);
 }
 
 /*

@@ -27,13 +27,17 @@ fn part(s: &[u8], start: usize, end: usize) -> &[u8] {
     &s[start..end]
 }
 
-// `ok` and the words of work, or the number and the place.
+// `ok`, the words of work and, where formulas name fluents, `names` and their set; or the number and the place.
 pub fn answer(s: &[u8], start: usize, end: usize) {
     text(b":");
     match sheet::check(part(s, start, end)) {
-        Checked::Accepted { words } => {
+        Checked::Accepted { words, names } => {
             text(b" ok");
             number(words as u64);
+            if names != 0 {
+                text(b" names");
+                number(names as u64);
+            }
         }
         Checked::Refused { why } => {
             number(why.number as u64);

@@ -6,6 +6,8 @@ use Rattle.records.specs.Lowest.{lowestFrom, lowest}
 use Rattle.records.specs.Table.{upTo, entryOf}
 use Rattle.kinds.specs.Truth.{truthOf}
 use Rattle.kinds.specs.Programs.{fieldA, fieldB, fieldC, programOk, links}
+use Rattle.kinds.specs.Names.{namesOf}
+use Rattle.named.specs.Named.{names, conditionsName, actionNames, tableNames}
 use Rattle.kinds.specs.Formulas.{fieldX, formulaOk}
 use Rattle.kinds.specs.Formulas.{fieldA as formulaA, fieldB as formulaB}
 use Rattle.rules.specs.Rules.{fluentOk, effectOk, actionOk}
@@ -14,11 +16,13 @@ use Rattle.height.specs.Work.{levels}
 use Rattle.sheet.specs.Trailer.{trailerIn, limitsOk, distanceOk}
 use Rattle.sheet.specs.Layout.{layoutIn, layoutOf}
 use Rattle.sheet.specs.Check.{refusedAt, tablesChecked, heightChecked, trailerChecked, checkOf}
-use Rattle.golog.specs.World.{holds, someFrom, conflicting, possibleBy, given, each, changed, performBy}
+use Rattle.records.specs.Some.{someFrom}
+use Rattle.records.specs.Mask.{maskOf}
+use Rattle.golog.specs.World.{holds, conflicting, possibleBy, given, each, changed, performBy}
 use Rattle.golog.specs.Prog.{construct, programOf}
 use Rattle.golog.specs.Transitions.{final, transitions}
 use Rattle.demands.specs.Planning.{verdictOf, acceptsOf, planOf, replayOf}
-use Rattle.demands.specs.Cases.{All, rows, further, firsts, conflicts, edges}
+use Rattle.demands.specs.Cases.{All, rows, further, firsts, conflicts, named, edges}
 
 -- opens what the rows compute with: records, their rules, height, check, formulas and effects, programs and their steps, plan and replay
 computing : Unit {0}
@@ -27,7 +31,7 @@ unfolding
     fieldX formulaA formulaB formulaOk fieldA fieldB fieldC programOk links
     fluentOk effectOk actionOk heightOver heightAt rise interrupts levels
     trailerIn limitsOk distanceOk layoutIn layoutOf refusedAt tablesChecked heightChecked trailerChecked checkOf
-    truthOf holds someFrom conflicting possibleBy given each changed performBy construct programOf final transitions
+    maskOf namesOf names conditionsName actionNames tableNames truthOf holds someFrom conflicting possibleBy given each changed performBy construct programOf final transitions
     verdictOf acceptsOf planOf replayOf
 computing = tt
 
@@ -46,6 +50,11 @@ all-firsts = (refl, (refl, (refl, (refl, (refl, tt)))))
 pub all-conflicts : All conflicts
 unfolding computing
 all-conflicts = (refl, ((refl, refl, refl), (refl, (refl, ((refl, refl), ((refl, refl), tt))))))
+
+pub all-named : All named
+unfolding computing
+all-named =
+    ((refl, refl, refl, refl, refl, refl, refl, refl), ((refl, refl, refl), ((refl, refl), ((refl, refl, refl, refl, refl), ((refl, refl), tt)))))
 
 pub all-edges : All edges
 unfolding computing

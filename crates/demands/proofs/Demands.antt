@@ -84,11 +84,11 @@ no-false false = (λ e t. t, λ f. refl)
 module _ (s : List ℕ) (accepted : Accepts s) where
   pub plan-is : planOf s ≡ answer (verdictOf s)
   unfolding planOf
-  plan-is = ap (plannedFrom s) (accepted .1)
+  plan-is = ap (plannedFrom s) (accepted .2)
 
   pub replay-is : (h : List ℕ) → replayOf s h ≡ replied (acceptsOf s h)
   unfolding replayOf
-  replay-is h = ap (replayedFrom s h) (accepted .1)
+  replay-is h = ap (replayedFrom s h) (accepted .2)
 
   same-answer : (a : PlanAnswer) → (planOf s ≡ a) ↔ (answer (verdictOf s) ≡ a)
   same-answer a = (λ e. sym plan-is ∙ e, λ e. plan-is ∙ e)
@@ -185,7 +185,7 @@ module _ (s s′ : List ℕ) (accepted : Accepts s) (accepted′ : Accepts s′)
   unfolding verdictOf
   verdict-same =
       let same = tables-same s s′ accepted but in
-      ap₂ (λ (W : World) (c : Configuration). firstPlan (transitionsIn W) (isFinalIn W) (boundOf s′) c) (world-same same) (first-same same)
+      ap₂ (λ (W : World) (c : Configuration). firstPlan (transitionsIn W) (isFinalIn W) (boundOf s′) c) (world-same (same .rest)) (first-same same)
 
   -- the very same plan
   pub first-stays-first : (h : List ℕ) (t : ℕ) → planOf s ≡ found h t → planOf s′ ≡ found h t
@@ -194,7 +194,7 @@ module _ (s s′ : List ℕ) (accepted : Accepts s) (accepted′ : Accepts s′)
       let W = worldOf s in
       let F = first-stays (Goes W) (Ends W) (boundOf s′) (boundOf s) (firstOf s) h t raised (first-exactly s accepted h t .0 e) in
       first-exactly s′ accepted′ h t .1
-      (subst (λ (U : World). IsFirst (Goes U) (Ends U) (boundOf s′) (firstOf s′) h t) (sym (world-same same))
+      (subst (λ (U : World). IsFirst (Goes U) (Ends U) (boundOf s′) (firstOf s′) h t) (sym (world-same (same .rest)))
       (subst (λ (c : Configuration). IsFirst (Goes W) (Ends W) (boundOf s′) c h t) (sym (first-same same)) F))
 
   pub plan-stays-plan : (h : List ℕ) (t : ℕ) → planOf s ≡ found h t → (g : List ℕ) × (u : ℕ) × (planOf s′ ≡ found g u)
@@ -215,10 +215,10 @@ module _ (s : List ℕ) (accepted : Accepts s) (d : ℕ) where
   raised-alone = let long = trailed s accepted .long in (bound-alone s long d, bound-put s long d)
 
   -- "D 0–64": it is accepted too, with the figure for d
-  pub raised-accepted : d ≤ 64 → checkOf (withBound s d) ≡ Accepted (workWords (levelsOf s) d)
+  pub raised-accepted : d ≤ 64 → checkOf (withBound s d) ≡ Accepted (workWords (levelsOf s) d) (accepted .1)
   raised-accepted small =
       let e = raised-alone .1 in
-      accepted-too s (withBound s d) accepted (raised-alone .0) (omega arith) ∙ ap (λ (b : ℕ). Accepted (workWords (levelsOf s) b)) e
+      accepted-too s (withBound s d) accepted (raised-alone .0) (omega arith) ∙ ap (λ (b : ℕ). Accepted (workWords (levelsOf s) b) (accepted .1)) e
 
   module _ (raised : boundOf s ≤ d) (small : d ≤ 64) where
     higher : boundOf s ≤ boundOf (withBound s d)
@@ -226,12 +226,12 @@ module _ (s : List ℕ) (accepted : Accepts s) (d : ℕ) where
 
     -- "keeps a plan a plan"
     pub raised-plan-stays : (h : List ℕ) (t : ℕ) → planOf s ≡ found h t → (g : List ℕ) × (u : ℕ) × (planOf (withBound s d) ≡ found g u)
-    raised-plan-stays = plan-stays-plan s (withBound s d) accepted (_, raised-accepted small) (raised-alone .0) higher
+    raised-plan-stays = plan-stays-plan s (withBound s d) accepted (_, _, raised-accepted small) (raised-alone .0) higher
 
     -- the very same plan
     pub raised-first-stays : (h : List ℕ) (t : ℕ) → planOf s ≡ found h t → planOf (withBound s d) ≡ found h t
-    raised-first-stays = first-stays-first s (withBound s d) accepted (_, raised-accepted small) (raised-alone .0) higher
+    raised-first-stays = first-stays-first s (withBound s d) accepted (_, _, raised-accepted small) (raised-alone .0) higher
 
     -- "and 13 a 13"
     pub raised-thirteen-stays : planOf s ≡ refusedBy 13 → planOf (withBound s d) ≡ refusedBy 13
-    raised-thirteen-stays = thirteen-stays-thirteen s (withBound s d) accepted (_, raised-accepted small) (raised-alone .0) higher
+    raised-thirteen-stays = thirteen-stays-thirteen s (withBound s d) accepted (_, _, raised-accepted small) (raised-alone .0) higher

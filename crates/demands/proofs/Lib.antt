@@ -2,7 +2,10 @@ pub mod Formulas
 pub mod Demands
 pub mod Entries
 pub mod Compact
+pub mod Alike
 pub mod Notes
 pub mod Raised
+pub mod Initials
+pub mod Outside
 pub mod Tables
 pub mod Cases

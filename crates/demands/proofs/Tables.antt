@@ -1,21 +1,34 @@
--- Sheets with the same tables have the same world, the same program and the same first configuration. Assumes nothing.
+-- Sheets with the same tables have the same world, the same program and the same first configuration; the fluents' table is read by the
+-- initial state alone. Assumes nothing.
 use mathlib.Core.Path.{_≡_}
 use mathlib.Core.List.{List}
 use Prim.Native.Nat.{ℕ, _-_}
 use Rattle.records.specs.Records.{programAt}
 use Rattle.height.specs.Height.{interrupts}
-use Rattle.sheet.proofs.Tables.{SameTables}
+use Rattle.height.specs.Work.{levels}
+use Rattle.sheet.proofs.Tables.{SameRest, SameTables}
 use Rattle.golog.specs.Decoded.{world}
 use Rattle.golog.specs.Prog.{programOf, started}
-use Rattle.demands.specs.Decoded.{worldOf, startingWith, firstOf}
+use Rattle.demands.specs.Decoded.{worldOf, recordsOf, interruptsIn, levelsOf, startingWith, firstOf}
 
-module _ {s s′ : List ℕ} (same : SameTables s s′) where
+module _ {s s′ : List ℕ} (same : SameRest s s′) where
+  -- the same formulas, effects and actions
   pub world-same : worldOf s′ ≡ worldOf s
   world-same = λ i. world (same .formulas i) (same .effects i) (same .actions i)
 
-  pub first-same : firstOf s′ ≡ firstOf s
-  first-same =
-      λ i. (
-        started (interrupts (programAt (same .programs i)) (same .p i)) (programOf (programAt (same .programs i)) (same .p i - 1)),
-        startingWith (same .fluents i) (same .f i),
-      )
+  -- the same program records, so the same interrupts, levels and remaining program at the start
+  pub records-same : recordsOf s′ ≡ recordsOf s
+  records-same = λ i. programAt (same .programs i)
+
+  pub interrupts-same : interruptsIn s′ ≡ interruptsIn s
+  interrupts-same = λ i. interrupts (records-same i) (same .p i)
+
+  pub levels-same : levelsOf s′ ≡ levelsOf s
+  levels-same = λ i. levels (records-same i) (same .p i)
+
+  pub program-same : firstOf s′ .0 ≡ firstOf s .0
+  program-same = λ i. started (interrupts-same i) (programOf (records-same i) (same .p i - 1))
+
+-- with the same fluents too, the same first configuration
+pub first-same : {s s′ : List ℕ} → SameTables s s′ → firstOf s′ ≡ firstOf s
+first-same same = λ i. (program-same (same .rest) i, startingWith (same .fluents i) (same .rest .f i))

@@ -1,11 +1,13 @@
 -- To be believed: the thirteen worked cases of document 01 (its example of three sections) as a list of equations about whole sheets in
--- bytes, case 13 by F-2 of document 02; beside them further rows, for the kinds that no case has, rows for F-1 and F-2, and document 01's edges
+-- bytes, case 13 by F-2 of document 02; beside them further rows, for the kinds that no case has, rows for F-1, F-2 and F-5, and document 01's edges
 -- of the check. Assumes nothing.
 use Prim.Native.Nat.{ℕ, zero, suc, _+_, _*_}
 use mathlib.Core.Bool.{true, false}
 use mathlib.Core.List.{List, [], _∷_, _++_, flatten}
 use mathlib.Core.Path.{_≡_}
 use lib.ListN.{length, replicate}
+use Rattle.records.specs.Records.{formulaAt, effectAt, actionAt}
+use Rattle.named.specs.Named.{formulaSet, actionSet}
 use Rattle.sheet.specs.Check.{refused, checkOf}
 use Rattle.sheet.specs.declared.Checked.the-variants.{Accepted}
 use Rattle.demands.specs.Planning.{refusedBy, found, replied, planOf, replayOf}
@@ -154,7 +156,7 @@ rows =
     -- 2 "act 1, D 5: 13"
     ∷ (planOf (sheetOf 5 (act 1 ∷ [])) ≡ refusedBy 13)
     -- 3 "star(act 0); act 1, D 2: found 2 2, history 0 1"; "work 273"
-    ∷ ((planOf case3 ≡ found (0 ∷ 1 ∷ []) 2) × (checkOf case3 ≡ Accepted 273))
+    ∷ ((planOf case3 ≡ found (0 ∷ 1 ∷ []) 2) × (checkOf case3 ≡ Accepted 273 3))
     -- 4 "The same, D 1: 14"
     ∷ (planOf (sheetOf 1 starThenAct) ≡ refusedBy 14)
     -- 5 "test 3, D 0: 14; D 1: found 0 1"
@@ -263,6 +265,52 @@ conflicts =
     × (planOf (sheetOnce 2 (act 2 ∷ interrupt 3 0 ∷ [])) ≡ refusedBy 14))
     ∷ []
 
+-- formulas of every kind over four fluents: 0 true; 1 false; 2 fluent 2 is 1; 3 fluent 3 is less than 2; 4 fluents 0 and 3 are equal; 5 not 2;
+-- 6 both 2 and 4; 7 one of 3 and 5
+abbrev every : Table
+every =
+    (0 ∷ 0 ∷ 0 ∷ 0 ∷ 0 ∷ 0 ∷ [])
+    ∷ (1 ∷ 0 ∷ 0 ∷ 0 ∷ 0 ∷ 0 ∷ [])
+    ∷ (2 ∷ 2 ∷ 1 ∷ 0 ∷ 0 ∷ 0 ∷ [])
+    ∷ (3 ∷ 3 ∷ 2 ∷ 0 ∷ 0 ∷ 0 ∷ [])
+    ∷ (4 ∷ 0 ∷ 3 ∷ 0 ∷ 0 ∷ 0 ∷ [])
+    ∷ (5 ∷ 0 ∷ 2 ∷ 0 ∷ 0 ∷ 0 ∷ [])
+    ∷ (6 ∷ 0 ∷ 2 ∷ 0 ∷ 4 ∷ 0 ∷ [])
+    ∷ (7 ∷ 0 ∷ 3 ∷ 0 ∷ 5 ∷ 0 ∷ [])
+    ∷ []
+
+-- what formula q of these names, as a number
+abbrev setOf : (q : ℕ) → ℕ
+setOf q = formulaSet (formulaAt (flatten every)) q
+
+-- what an action with precondition 2 names, whose effects these are
+abbrev setWith : (own : Table) → ℕ
+setWith own = actionSet (formulaAt (flatten every)) (effectAt (flatten own)) (actionAt (flatten (action 2 0 (length own) ∷ [])) 0)
+
+-- document 01's sheet with a fluent 2, size 3, that starts with v and that no formula names; its effects may give it values
+abbrev sheetBeside : (v d : ℕ) → (programs : Table) → List ℕ
+sheetBeside v d programs = sheet (fluentsFrom 1 ++ ((3 ∷ v ∷ []) ∷ [])) formulas (effects ++ (effect 2 1 ∷ [])) (action 0 0 1 ∷ action 2 1 2 ∷ []) programs d
+
+-- document 02, F-5: "a 32-bit set (bit x for fluent x) of the fluents its formula names, through all its subformulas"
+abbrev pub named : List (Type 0)
+named =
+    -- each kind
+    ((setOf 0 ≡ 0) × (setOf 1 ≡ 0) × (setOf 2 ≡ 4) × (setOf 3 ≡ 8) × (setOf 4 ≡ 9) × (setOf 5 ≡ 4) × (setOf 6 ≡ 13) × (setOf 7 ≡ 12))
+    -- "the union for its precondition and its effects' conditions": under true fluent 0, under formula 4, which need not hold, fluent 1
+    ∷ ((setWith [] ≡ 4) × (setWith (effectIf 0 0 1 ∷ []) ≡ 4) × (setWith (effectIf 0 0 1 ∷ effectIf 4 1 1 ∷ []) ≡ 13))
+    -- "the union over its formula table"
+    ∷ ((checkOf (sheet (replicate 4 (3 ∷ 0 ∷ [])) every [] [] (nil ∷ []) 0) ≡ Accepted 67 13) × (checkOf (sheetBeside 0 2 starThenAct) ≡ Accepted 273 3))
+    -- another initial value of a fluent outside it: the same
+    ∷ ((checkOf (sheetBeside 2 2 starThenAct) ≡ Accepted 273 3)
+    × (planOf (sheetBeside 0 2 starThenAct) ≡ found (0 ∷ 1 ∷ []) 2)
+    × (planOf (sheetBeside 2 2 starThenAct) ≡ found (0 ∷ 1 ∷ []) 2)
+    × (replayOf (sheetBeside 0 2 starThenAct) (1 ∷ []) ≡ replied false)
+    × (replayOf (sheetBeside 2 2 starThenAct) (1 ∷ []) ≡ replied false))
+    -- of one inside it: another answer
+    ∷ ((planOf (sheet (fluentsFrom 1) formulas effects actions (act 1 ∷ []) 1) ≡ refusedBy 13)
+    × (planOf (sheet (fluentsFrom 0) formulas effects actions (act 1 ∷ []) 1) ≡ found (1 ∷ []) 1))
+    ∷ []
+
 -- n fluents that are always 0, and the root nil
 abbrev fluentsSheet : (n : ℕ) → List ℕ
 fluentsSheet n = sheet (replicate n (1 ∷ 0 ∷ [])) [] [] [] (nil ∷ []) 0
@@ -276,9 +324,9 @@ stars (suc h) = stars h ++ (star h ∷ [])
 abbrev pub edges : List (Type 0)
 edges =
     -- "33 fluents 2, 32 pass"
-    ((checkOf (fluentsSheet 33) ≡ refused 2 0) × (checkOf (fluentsSheet 32) ≡ Accepted 67))
+    ((checkOf (fluentsSheet 33) ≡ refused 2 0) × (checkOf (fluentsSheet 32) ≡ Accepted 67 0))
     -- "D 65 gives 2, 64 passes"
-    ∷ ((checkOf (sheetOf 65 (nil ∷ [])) ≡ refused 2 0) × (checkOf (sheetOf 64 (nil ∷ [])) ≡ Accepted 4355))
+    ∷ ((checkOf (sheetOf 65 (nil ∷ [])) ≡ refused 2 0) × (checkOf (sheetOf 64 (nil ∷ [])) ≡ Accepted 4355 3))
     -- "height 17 gives 9, 16 passes"
-    ∷ ((checkOf (sheetOf 1 (stars 17)) ≡ refused 9 0) × (checkOf (sheetOf 1 (stars 16)) ≡ Accepted 326))
+    ∷ ((checkOf (sheetOf 1 (stars 17)) ≡ refused 9 0) × (checkOf (sheetOf 1 (stars 16)) ≡ Accepted 326 3))
     ∷ []

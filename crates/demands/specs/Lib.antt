@@ -3,4 +3,5 @@ pub mod Planning
 pub mod Entries
 pub mod Compact
 pub mod Raised
+pub mod Initials
 pub mod Cases

@@ -84,7 +84,7 @@ answer nothing = refusedBy 13
 answer more = refusedBy 14
 
 abbrev pub plannedFrom : List ℕ → Checked → PlanAnswer
-plannedFrom s (Accepted w) = answer (verdictOf s)
+plannedFrom s (Accepted w u) = answer (verdictOf s)
 plannedFrom s (Refused why) = refused why
 
 unfoldable pub planOf : List ℕ → PlanAnswer
@@ -96,7 +96,7 @@ pub data ReplayAnswer : Type 0 where
   refused : (why : Refusal) → ReplayAnswer
 
 abbrev pub replayedFrom : List ℕ → List ℕ → Checked → ReplayAnswer
-replayedFrom s h (Accepted w) = replied (acceptsOf s h)
+replayedFrom s h (Accepted w u) = replied (acceptsOf s h)
 replayedFrom s h (Refused why) = refused why
 
 unfoldable pub replayOf : List ℕ → List ℕ → ReplayAnswer

@@ -30,7 +30,7 @@ module _ (s : List ℕ) (accepted : Accepts s) where
   abbrev actions : List ℕ
   actions = actionsIn s (layoutOf s)
 
-  listed-at : (a : ℕ) → a < layoutOf s .a → (a < 64) × Performable effects actions 32 a
+  pub listed-at : (a : ℕ) → a < layoutOf s .a → (a < 64) × Performable effects actions 32 a
   listed-at a l =
       let f = laid s accepted in
       let p = performable s accepted a (omega (arith, f .a), λ h. l) in

@@ -11,3 +11,4 @@ pub mod Judging
 pub mod Going
 pub mod Telling
 pub mod Made
+pub mod Named

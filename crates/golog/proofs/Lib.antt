@@ -4,6 +4,8 @@ pub mod Truths
 pub mod Formulas
 pub mod Moves
 pub mod Possible
+pub mod Named
+pub mod Kept
 pub mod Acts
 pub mod Construct
 pub mod Distance

@@ -49,6 +49,12 @@ module _ (says : ℕ → Bool) (effect : ℕ → Effect) (x old : ℕ) where
       given-later i k (ap (λ (n : ℕ). changes says (effect n) x) (omega arith) ∙ none 0 (omega arith))
       ∙ none-gives k (suc i) (λ l m. ap (λ (n : ℕ). changes says (effect n) x) (omega arith) ∙ none (suc l) (omega arith))
 
+-- as many values
+pub length-each : (f : ℕ → ℕ → ℕ) (x : ℕ) (v : List ℕ) → length (each f x v) ≡ length v
+unfolding each
+length-each f x [] = refl
+length-each f x (y ∷ v) = ap suc (length-each f (suc x) v)
+
 pub each-at : (f : ℕ → ℕ → ℕ) (x : ℕ) (v : List ℕ) (i : ℕ) → i < length v → getD (each f x v) i 0 ≡ f (x + i) (getD v i 0)
 unfolding each
 each-at f x [] i h = absurd (omega arith)

@@ -1,31 +1,18 @@
 -- An action is possible exactly when its precondition holds and no two holding effects of its range give one fluent different values
 -- (document 02, F-2): each test computed decides its line of the statement. Assumes nothing.
-use mathlib.Core.Path.{_≡_, refl, subst}
+use mathlib.Core.Path.{_≡_}
 use mathlib.Core.Bool.{Bool, not, _&&_}
-use mathlib.Core.Logic.{_⊎_, inl, inr, ⊎-elim, _↔_}
-use Prim.Native.Nat.{ℕ, zero, suc, _≤_}
-use native.Mathlib.Nat.{eq-or-lt-of-le}
-use native.Mathlib.Omega.{arith}
+use mathlib.Core.Logic.{_↔_}
+use Prim.Native.Nat.{ℕ}
 use lib.Dec.{T, eqb}
 use Rattle.records.specs.declared.Effect.{Effect}
+use Rattle.records.specs.Some.{InRange}
+use Rattle.records.proofs.Some.{some-iff, some-same}
 use Rattle.runs.proofs.Tests.{and-iff, or-iff, eqb-iff}
 use Rattle.golog.specs.declared.State.{State}
-use Rattle.golog.specs.World.{World, special, holds, someFrom, contradict, conflicting, possibleBy, saysIn, possible}
-use Rattle.golog.specs.Possible.{Contradict, InRange, Conflict, Possible}
+use Rattle.golog.specs.World.{World, special, holds, contradict, conflicting, possibleBy, saysIn, possible}
+use Rattle.golog.specs.Possible.{Contradict, Conflict, Possible}
 use Rattle.golog.proofs.Tests.{same, not-iff}
-
--- one of the k numbers from i on has what the test decides
-some-iff : {P : ℕ → Type 0} (has : ℕ → Bool) → ((a : ℕ) → T (has a) ↔ P a) → (k i : ℕ) → T (someFrom has i k) ↔ ((a : ℕ) × InRange i k a × P a)
-unfolding someFrom
-some-iff has h zero i = (λ t. absurd t, λ (a, (l, m), p). absurd (omega arith))
-some-iff {P} has h (suc k) i =
-    let both = or-iff (has i) (someFrom has (suc i) k) (h i) (some-iff has h k (suc i)) in (
-      λ t. ⊎-elim (λ p. (i, (omega arith, omega arith), p)) (λ (a, (l, m), p). (a, (omega arith, omega arith), p)) (both .0 t),
-      λ (a, (l, m), p). both .1 (⊎-elim (λ e. inl (subst P e p)) (λ j. inr (a, (omega arith, omega arith), p)) (here a l)),
-    )
-  where
-    here : (a : ℕ) → i ≤ a → (a ≡ i) ⊎ (suc i ≤ a)
-    here a l = ⊎-elim (λ e. inl (omega arith)) inr (eq-or-lt-of-le l)
 
 contradict-iff : (says : ℕ → Bool) (d e : Effect) → T (contradict says d e) ↔ Contradict says d e
 contradict-iff says d e =
@@ -45,11 +32,6 @@ possible-exactly W a s =
     let conflict = conflicting (saysIn W s) (W .effect) (r .first) (r .count) in
     or-iff (special a) (holds W (r .precondition) s && not conflict) (same _)
     (and-iff (holds W (r .precondition) s) (not conflict) (same _) (not-iff conflict (conflicting-exactly (saysIn W s) (W .effect) (r .first) (r .count))))
-
-some-same : (f g : ℕ → Bool) (k i : ℕ) → ((a : ℕ) → InRange i k a → f a ≡ g a) → someFrom f i k ≡ someFrom g i k
-unfolding someFrom
-some-same f g zero i h = refl
-some-same f g (suc k) i h = rw (h i (omega arith, omega arith), some-same f g k (suc i) (λ a (l, m). h a (omega arith, omega arith)))
 
 -- what is asked of the formulas is no more than the conditions of the range: where these say the same, it conflicts alike
 module _ (effect : ℕ → Effect) (says said : ℕ → Bool) (i k : ℕ) where

@@ -6,3 +6,4 @@ pub mod Trans
 pub mod Transitions
 pub mod Decoded
 pub mod Distance
+pub mod Agree

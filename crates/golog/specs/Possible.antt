@@ -1,21 +1,18 @@
 -- To be believed: when an action is possible, as a statement in the words of document 02, F-2: the second reading beside the computed one
 -- (`possible`, World.antt). The theorem of proofs/Possible.antt says that the two agree. Assumes nothing.
-use Prim.Native.Nat.{ℕ, _+_, _≤_, _<_}
+use Prim.Native.Nat.{ℕ}
 use mathlib.Core.Bool.{Bool}
 use mathlib.Core.Logic.{_⊎_}
 use mathlib.Core.Path.{_≡_}
 use lib.Dec.{T}
 use Rattle.records.specs.declared.Effect.{Effect}
+use Rattle.records.specs.Some.{InRange}
 use Rattle.golog.specs.declared.State.{State}
 use Rattle.golog.specs.World.{World, special, holds, saysIn}
 
 -- two holding effects give one fluent different values
 abbrev pub Contradict : (says : ℕ → Bool) → Effect → Effect → Type 0
 Contradict says d e = (T (says (d .condition)) × T (says (e .condition))) × ((d .fluent ≡ e .fluent) × (¬ (d .value ≡ e .value)))
-
--- number a is one of the k from i on
-abbrev pub InRange : (i k a : ℕ) → Type 0
-InRange i k a = (i ≤ a) × (a < i + k)
 
 -- two of the k effects from number i on contradict each other
 abbrev pub Conflict : (says : ℕ → Bool) (effect : ℕ → Effect) (i k : ℕ) → Type 0

@@ -9,6 +9,7 @@ use Rattle.records.specs.declared.Formula.{Formula}
 use Rattle.records.specs.declared.Effect.{Effect}
 use Rattle.records.specs.declared.Action.{Action}
 use Rattle.records.specs.Table.{upTo, entryOf}
+use Rattle.records.specs.Some.{someFrom}
 use Rattle.kinds.specs.Truth.{truthOf}
 use Rattle.golog.specs.declared.State.{State}
 
@@ -40,11 +41,6 @@ stop = 65535
 -- an entry that is one of the two
 abbrev pub special : ℕ → Bool
 special a = ltb 65533 a
-
--- one of the k numbers from i on has it
-unfoldable pub someFrom : (ℕ → Bool) → (i k : ℕ) → Bool
-someFrom has i zero = false
-someFrom has i (suc k) = has i || someFrom has (suc i) k
 
 -- two effects hold and give one fluent different values: `says` is what each formula says in the state, before any value is changed
 abbrev pub contradict : (says : ℕ → Bool) → Effect → Effect → Bool

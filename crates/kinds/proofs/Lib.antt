@@ -7,3 +7,4 @@ pub mod Bounding
 pub mod FormulaKinds
 pub mod FormulaFields
 pub mod Truth
+pub mod Names

@@ -1,6 +1,7 @@
-// What each kind of formula is (specs/Formulas.antt) and says (specs/Truth.antt): a function for each column that is asked for.
+// What each kind of formula is (specs/Formulas.antt), says (specs/Truth.antt) and names (specs/Names.antt, specs/Sets.antt): a function for each column that is asked for.
 ghost use mathlib.Core.Path.{_≡_};
 ghost use Rattle.kinds.specs.Truth.{truthOf};
+ghost use Rattle.kinds.specs.Sets.{bitOf, setOf};
 ghost use Rattle.kinds.specs.Formulas.{fieldX, fieldA, fieldB, fieldOk, formulaOk, asksValue};
 use records::Formula;
 
@@ -97,5 +98,31 @@ pub fn truth_of(r: Formula, values: &[u8], lower: &[bool]) -> bool
         6 => records::flag_in(lower, r.a, false) & records::flag_in(lower, r.b, false),
         7 => records::flag_in(lower, r.a, false) | records::flag_in(lower, r.b, false),
         _ => false,
+    }
+}
+
+// The bits of a set of fluents.
+const BITS: usize = 32;
+
+// The set of one fluent; of none where there is no such bit.
+fn bit(x: usize) -> u32
+    ensures { λ r. ⌜ r ≡ bitOf x ⌝ }
+{
+    if x < BITS { 1 << x } else { 0 }
+}
+
+// The set of the fluents that a formula names, bit x for fluent x, where `lower` has the sets of the lower ones.
+pub fn names_of(r: Formula, lower: &[u32]) -> u32
+    ensures { λ s. ⌜ s ≡ setOf r (now (lower .entry)) ⌝ }
+{
+    let kind = r.kind;
+    match kind {
+        2 => bit(r.x),
+        3 => bit(r.x),
+        4 => bit(r.x) | bit(r.a),
+        5 => records::number_in(lower, r.a, 0),
+        6 => records::number_in(lower, r.a, 0) | records::number_in(lower, r.b, 0),
+        7 => records::number_in(lower, r.a, 0) | records::number_in(lower, r.b, 0),
+        _ => 0,
     }
 }

@@ -24,7 +24,7 @@ use Rattle.lookup.specs.declared.Looked.the-variants as looked
 
 -- the answer by its number and place alone
 abbrev seen : Looked → Checked
-seen (looked.Found m i) = checked.Accepted 0
+seen (looked.Found m i) = checked.Accepted 0 0
 seen (looked.Refused why) = checked.Refused why
 
 seen-number : (a : Looked) → lookNumber a ≡ numberOf (seen a)
@@ -43,11 +43,11 @@ module _ (s : List ℕ) (x : ℕ) where
   Twelve k p = (k ≡ 12) × (p ≡ 0) × (layoutOf s .f ≤ x)
 
   -- 12, where the check accepts, whatever table the fluent is looked up in
-  own-answered : (figure : ℕ) → By Twelve (seen (lookedUp s x (checked.Accepted figure)))
+  own-answered : (figure union : ℕ) → By Twelve (seen (lookedUp s x (checked.Accepted figure union)))
   unfolding lookedIn
-  own-answered figure = go (ltb x (layoutOf s .f)) refl
+  own-answered figure union = go (ltb x (layoutOf s .f)) refl
     where
-      go : (b : Bool) → ltb x (layoutOf s .f) ≡ b → By Twelve (seen (lookedUp s x (checked.Accepted figure)))
+      go : (b : Bool) → ltb x (layoutOf s .f) ≡ b → By Twelve (seen (lookedUp s x (checked.Accepted figure union)))
       go true e = rw (e, lookedIn) (λ k p (a, b, l). false≢true (sym (beyond .1 l) ∙ e))
       go false e = rw (e, lookedIn) ((refl, refl, beyond .0 e), λ j q l c. omega (arith, c .0), λ q c. c .1)
 
@@ -56,7 +56,7 @@ module _ (s : List ℕ) (x : ℕ) where
   look-answered = go (checkOf s) (answered-by s) (numbered s)
     where
       go : (c : Checked) → By (Cause s) c → Numbered c → By (LookCause s x) (seen (lookedUp s x c))
-      go (checked.Accepted w) none n = wider (Cause s) Twelve none (seen (lookedUp s x (checked.Accepted w))) (own-answered w)
+      go (checked.Accepted w u) none n = wider (Cause s) Twelve none (seen (lookedUp s x (checked.Accepted w u))) (own-answered w u)
       go (checked.Refused r) by n = sooner (Cause s) Twelve 9 (r .number) (r .place) (n .1) (λ j q c. omega (arith, c .0)) by
 
   some : (k p : ℕ) → LookCause s x k p → 1 ≤ k

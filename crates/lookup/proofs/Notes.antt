@@ -12,7 +12,7 @@ use Rattle.lookup.specs.LookUp.{lookedIn, lookedUp, lookOf}
 -- "Bytes before that point are notes, never interpreted"
 module _ (s other : List ℕ) (first : FirstRecord s) (x : ℕ) where
   looked-same : (c : Checked) → lookedUp (withNotes s other) x c ≡ lookedUp s x c
-  looked-same (Accepted w) = let same = tables-same s other first in λ i. lookedIn (same .fluents i) (same .f i) x
+  looked-same (Accepted w u) = let same = tables-same s other first in λ i. lookedIn (same .fluents i) (same .rest .f i) x
   looked-same (Refused why) = refl
 
   -- the same domain size and initial value, or the same number and place

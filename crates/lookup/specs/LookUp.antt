@@ -18,7 +18,7 @@ lookedIn fluents n x =
     cond (ltb x n) (looked.Found (fluentAt fluents x .size) (fluentAt fluents x .initial)) (looked.Refused (refusalOf 12 0))
 
 abbrev pub lookedUp : List ℕ → ℕ → Checked → Looked
-lookedUp s x (checked.Accepted w) = lookedIn (fluentsIn s (layoutOf s)) (layoutOf s .f) x
+lookedUp s x (checked.Accepted w u) = lookedIn (fluentsIn s (layoutOf s)) (layoutOf s .f) x
 lookedUp s x (checked.Refused why) = looked.Refused why
 
 -- fluent x of a sheet, which is checked first

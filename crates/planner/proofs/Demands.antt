@@ -16,9 +16,7 @@ use Rattle.runs.specs.Search.{Verdict, plan, nothing, more}
 use Rattle.height.specs.Work.{workWords}
 use Rattle.sheet.specs.Check.{refusalOf, checkOf}
 use Rattle.sheet.specs.declared.Refusal.{Refusal}
-use Rattle.sheet.specs.Notes.{FirstRecord, withNotes}
 use Rattle.sheet.proofs.Numbers.{Numbered, numbered}
-use Rattle.sheet.proofs.OtherNotes.{check-same, tables-same}
 use Rattle.sheet.specs.declared.Checked.{Checked}
 use Rattle.sheet.specs.declared.Checked.the-variants as checked
 use Rattle.demands.specs.Decoded.{boundOf, levelsOf}
@@ -31,8 +29,7 @@ use Rattle.demands.proofs.Demands.{plan-is, replay-is, history-accepted, histor
 use Rattle.demands.proofs.Demands.{plan-exactly, thirteen-exactly, thirteen-none-ends, fourteen-exactly}
 use Rattle.demands.proofs.Demands.{raised-alone, raised-accepted, raised-plan-stays, raised-first-stays, raised-thirteen-stays}
 use Rattle.demands.proofs.Entries.{unknown-entry-no}
-use Rattle.demands.proofs.Notes.{bound-same, plan-same, replay-same}
-use Rattle.planner.specs.Answers.{Stage, refused, searching, withWork, planStage, replayStage, planChecked, replayChecked}
+use Rattle.planner.specs.Answers.{Stage, refused, searching, planStage, replayStage, planChecked, replayChecked}
 use Rattle.planner.specs.Answers.{answerAs, planAt, traced, traceAt, workAt, indexAt, answerOf, traceOf, planWork, indexOf, Called}
 use Rattle.planner.specs.Answers.{reply, replayAt, replyOf, replayWork}
 use Rattle.planner.specs.Numbers.{planNumber, planMoves, planTransitions, replyNumber, replyYes, sizesBound}
@@ -40,7 +37,6 @@ use Rattle.planner.specs.Sizes.{sizedAs, sizesOf}
 use Rattle.planner.specs.declared.Planned.{Planned}
 use Rattle.planner.specs.declared.Planned.the-variants as planned
 use Rattle.planner.specs.declared.Replayed.the-variants as replayed
-use Rattle.planner.specs.declared.Sized.the-variants as sized
 
 -- Demand 1: "turns away what it can't use by a number; what it returns and leaves in each lent slice is written down"
 
@@ -68,7 +64,7 @@ module _ (s : List ℕ) (why : Refusal) (cause : checkOf s ≡ checked.Refused w
   )
 
 -- an accepted sheet, whose figure is w
-module _ (s : List ℕ) (w : ℕ) (accepted : checkOf s ≡ checked.Accepted w) where
+module _ (s : List ℕ) (w names : ℕ) (accepted : checkOf s ≡ checked.Accepted w names) where
   -- the bound that `sizes` tells is the number of trace entries that planning asks for
   pub told-bound : sizesBound (sizesOf s) ≡ boundOf s
   unfolding sizesOf
@@ -142,7 +138,7 @@ module _ (s : List ℕ) (w : ℕ) (accepted : checkOf s ≡ checked.Accepted w) 
 
     module _ (h : List ℕ) where
       meant-is : replayOf s h ≡ meant.replied (acceptsOf s h)
-      meant-is = replay-is s (w, accepted) h
+      meant-is = replay-is s (w, names, accepted) h
 
       replied-as : replyOf s h (length work) ≡ reply (meant.replied (acceptsOf s h))
       replied-as = reply-is h ∙ ap reply meant-is
@@ -155,17 +151,17 @@ module _ (s : List ℕ) (w : ℕ) (accepted : checkOf s ≡ checked.Accepted w) 
       pub yes-exactly : (replyYes (replyOf s h (length work)) ≡ 1) ↔ HistoryOfRun s h
       yes-exactly =
           Iff·trans (λ e. sym (ap replyYes replied-as) ∙ e, λ e. ap replyYes replied-as ∙ e)
-          (Iff·trans (yes-iff (acceptsOf s h)) (Iff·trans (λ e. meant-is ∙ e, λ e. sym meant-is ∙ e) (history-accepted s (w, accepted) h)))
+          (Iff·trans (yes-iff (acceptsOf s h)) (Iff·trans (λ e. meant-is ∙ e, λ e. sym meant-is ∙ e) (history-accepted s (w, names, accepted) h)))
 
       -- "Replay says yes or no": no exactly when there is no such run
       pub no-exactly : (replyYes (replyOf s h (length work)) ≡ 0) ↔ (¬ HistoryOfRun s h)
       no-exactly =
           Iff·trans (λ e. sym (ap replyYes replied-as) ∙ e, λ e. ap replyYes replied-as ∙ e)
-          (Iff·trans (no-iff (acceptsOf s h)) (Iff·trans (λ e. meant-is ∙ e, λ e. sym meant-is ∙ e) (history-refused s (w, accepted) h)))
+          (Iff·trans (no-iff (acceptsOf s h)) (Iff·trans (λ e. meant-is ∙ e, λ e. sym meant-is ∙ e) (history-refused s (w, names, accepted) h)))
 
       -- "an unknown entry means no"
       pub unknown-no : (e : ℕ) → List·Memᴰ e h → ¬ KnownEntry s e → replyYes (replyOf s h (length work)) ≡ 0
-      unknown-no e k unknown = ap replyYes (reply-is h ∙ ap reply (unknown-entry-no s (w, accepted) h e k unknown))
+      unknown-no e k unknown = ap replyYes (reply-is h ∙ ap reply (unknown-entry-no s (w, names, accepted) h e k unknown))
 
     module _ (trace : List ℕ) (long : boundOf s ≤ length trace) where
       stage-plan : planStage s (length work) (length trace) ≡ searching w
@@ -198,12 +194,12 @@ module _ (s : List ℕ) (w : ℕ) (accepted : checkOf s ≡ checked.Accepted w) 
       some-iff k l more = (ap meant.refusedBy, ap (λ (a : meant.PlanAnswer). planNumber (answerAs a)))
 
       verdict-is : answerOf s (length work) (length trace) ≡ answerAs (answer (verdictOf s))
-      verdict-is = answer-is ∙ ap answerAs (plan-is s (w, accepted))
+      verdict-is = answer-is ∙ ap answerAs (plan-is s (w, names, accepted))
 
       number-none-iff : (planNumber (answerOf s (length work) (length trace)) ≡ 0) ↔ ((h : List ℕ) × (t : ℕ) × (planOf s ≡ meant.found h t))
       number-none-iff =
           let e = ap planNumber verdict-is in
-          let q = plan-is s (w, accepted) in (
+          let q = plan-is s (w, names, accepted) in (
             λ z. let r = none-iff (verdictOf s) .0 (sym e ∙ z) in (r .0, r .1, q ∙ r .2),
             λ (h, t, f). e ∙ none-iff (verdictOf s) .1 (h, t, sym q ∙ f),
           )
@@ -211,7 +207,7 @@ module _ (s : List ℕ) (w : ℕ) (accepted : checkOf s ≡ checked.Accepted w) 
       number-iff : (k : ℕ) → 1 ≤ k → (planNumber (answerOf s (length work) (length trace)) ≡ k) ↔ (planOf s ≡ meant.refusedBy k)
       number-iff k l =
           let e = ap planNumber verdict-is in
-          let q = plan-is s (w, accepted) in
+          let q = plan-is s (w, names, accepted) in
           (λ z. q ∙ some-iff k l (verdictOf s) .0 (sym e ∙ z), λ f. e ∙ some-iff k l (verdictOf s) .1 (sym q ∙ f))
 
       -- "every plan handed out is such a history": the first n entries of the trace are the history of a run of t transitions, at most
@@ -235,14 +231,14 @@ module _ (s : List ℕ) (w : ℕ) (accepted : checkOf s ≡ checked.Accepted w) 
           let n = ap planMoves a in
           let u = ap planTransitions a in
           let q = trace-is ∙ ap (λ (a : meant.PlanAnswer). traced a trace) (f .2) in
-          let r = plan-transitions s (w, accepted) h t (f .2) in (
+          let r = plan-transitions s (w, names, accepted) h t (f .2) in (
             h,
             sym n,
             ap₂ take n q ∙ take-at h (drop (length h) trace) (length h) refl,
             ap₂ drop n q ∙ drop-at h (drop (length h) trace) (length h) refl ∙ ap (λ (k : ℕ). drop k trace) (sym n),
             subst (λ (k : ℕ). k ≤ boundOf s) (sym u) (r .0),
             subst (RunOf s h) (sym u) (r .1),
-            ap replyYes (reply-is h ∙ ap reply (plan-accepted-history s (w, accepted) h t (f .2))),
+            ap replyYes (reply-is h ∙ ap reply (plan-accepted-history s (w, names, accepted) h t (f .2))),
           )
 
       -- document 02, F-1: "the plan is the first": a plan with n moves, t transitions and this history in the trace is handed out exactly
@@ -260,28 +256,28 @@ module _ (s : List ℕ) (w : ℕ) (accepted : checkOf s ≡ checked.Accepted w) 
             let z : length g ≡ length h = sym (ap planMoves a) ∙ n in
             let laid = sym (trace-is ∙ ap (λ (a : meant.PlanAnswer). traced a trace) (f .2)) ∙ q in
             let same : g ≡ h = sym (take-at g (drop (length g) trace) (length h) z) ∙ ap (take (length h)) laid ∙ take-at h (drop (length h) trace) (length h) refl in
-            first-exactly s (w, accepted) h t .0 (f .2 ∙ ap₂ meant.found same (sym (ap planTransitions a) ∙ u)),
+            first-exactly s (w, names, accepted) h t .0 (f .2 ∙ ap₂ meant.found same (sym (ap planTransitions a) ∙ u)),
         λ F.
-            let e = first-exactly s (w, accepted) h t .1 F in
+            let e = first-exactly s (w, names, accepted) h t .1 F in
             let a = answer-is ∙ ap answerAs e in
             (ap planNumber a, ap planMoves a, ap planTransitions a, trace-is ∙ ap (λ (a : meant.PlanAnswer). traced a trace) e),
       )
 
       -- Demand 3: "A plan comes out exactly when some run of at most D transitions ends final"
       pub found-exactly : (planNumber (answerOf s (length work) (length trace)) ≡ 0) ↔ RunEndsFinal s
-      found-exactly = Iff·trans number-none-iff (plan-exactly s (w, accepted))
+      found-exactly = Iff·trans number-none-iff (plan-exactly s (w, names, accepted))
 
       -- "13 exactly when none does and no run has D + 1"
       pub thirteen : (planNumber (answerOf s (length work) (length trace)) ≡ 13) ↔ NoPlanAtAll s
-      thirteen = Iff·trans (number-iff 13 (omega arith)) (thirteen-exactly s (w, accepted))
+      thirteen = Iff·trans (number-iff 13 (omega arith)) (thirteen-exactly s (w, names, accepted))
 
       -- so no run of any length ends final: there is no plan at any bound
       pub thirteen-at-every-length : planNumber (answerOf s (length work) (length trace)) ≡ 13 → NoRunEndsFinal s
-      thirteen-at-every-length e = thirteen-none-ends s (w, accepted) (number-iff 13 (omega arith) .0 e)
+      thirteen-at-every-length e = thirteen-none-ends s (w, names, accepted) (number-iff 13 (omega arith) .0 e)
 
       -- "14 exactly when none does and some run has D + 1"
       pub fourteen : (planNumber (answerOf s (length work) (length trace)) ≡ 14) ↔ NoPlanWithinBound s
-      fourteen = Iff·trans (number-iff 14 (omega arith)) (fourteen-exactly s (w, accepted))
+      fourteen = Iff·trans (number-iff 14 (omega arith)) (fourteen-exactly s (w, names, accepted))
 
       -- "Trace is untouched under every number"
       pub trace-untouched : (k : ℕ) → 1 ≤ k → planNumber (answerOf s (length work) (length trace)) ≡ k → traceOf s (length work) trace ≡ trace
@@ -303,15 +299,15 @@ stage-numbered s work trace = go (checkOf s) refl (numbered s)
     searched nothing = inr (omega arith)
     searched more = inr (omega arith)
 
-    lent : (w : ℕ) → checkOf s ≡ checked.Accepted w → (b c : Bool)
+    lent : (w names : ℕ) → checkOf s ≡ checked.Accepted w names → (b c : Bool)
         → (let g = cond b (refused (refusalOf 10 0)) (cond c (refused (refusalOf 11 0)) (searching w)) in NumberedAt (planNumber (planAt s g)) g)
-    lent w e true c = (omega arith, omega arith)
-    lent w e false true = (omega arith, omega arith)
-    lent w e false false =
-        subst (λ (a : meant.PlanAnswer). (planNumber (answerAs a) ≡ 0) ⊎ (11 < planNumber (answerAs a))) (sym (plan-is s (w, e))) (searched (verdictOf s))
+    lent w names e true c = (omega arith, omega arith)
+    lent w names e false true = (omega arith, omega arith)
+    lent w names e false false =
+        subst (λ (a : meant.PlanAnswer). (planNumber (answerAs a) ≡ 0) ⊎ (11 < planNumber (answerAs a))) (sym (plan-is s (w, names, e))) (searched (verdictOf s))
 
     go : (x : Checked) → checkOf s ≡ x → Numbered x → NumberedAt (planNumber (planAt s (planChecked s work trace x))) (planChecked s work trace x)
-    go (checked.Accepted w) e n = lent w e (ltb trace (boundOf s)) (ltb work w)
+    go (checked.Accepted w names) e n = lent w names e (ltb trace (boundOf s)) (ltb work w)
     go (checked.Refused why) e n = (n .0, omega (arith, n .1))
 
 module _ (s work trace index : List ℕ) (a : Planned) (work′ trace′ index′ : List ℕ) (call : Called s work trace index a work′ trace′ index′) where
@@ -353,89 +349,37 @@ module _ (s work trace index : List ℕ) (a : Planned) (work′ trace′ index�
 -- "Raising D alone keeps a plan a plan and 13 a 13": an accepted sheet, with a higher D put in; the areas lent for writing are long
 -- enough for each call and hold anything
 module _
-    (s : List ℕ) (w : ℕ) (accepted : checkOf s ≡ checked.Accepted w) (d : ℕ) (raised : boundOf s ≤ d) (small : d ≤ 64)
+    (s : List ℕ) (w names : ℕ) (accepted : checkOf s ≡ checked.Accepted w names) (d : ℕ) (raised : boundOf s ≤ d) (small : d ≤ 64)
     (work trace work′ trace′ : List ℕ) (enough : w ≤ length work) (long : boundOf s ≤ length trace)
     (enough′ : workWords (levelsOf s) d ≤ length work′) (long′ : d ≤ length trace′) where
-  accepted′ : checkOf (withBound s d) ≡ checked.Accepted (workWords (levelsOf s) d)
-  accepted′ = raised-accepted s (w, accepted) d small
+  accepted′ : checkOf (withBound s d) ≡ checked.Accepted (workWords (levelsOf s) d) names
+  accepted′ = raised-accepted s (w, names, accepted) d small
 
   longer : boundOf (withBound s d) ≤ length trace′
-  longer = omega (arith, raised-alone s (w, accepted) d .1)
+  longer = omega (arith, raised-alone s (w, names, accepted) d .1)
 
   pub plan-stays : planNumber (answerOf s (length work) (length trace)) ≡ 0 → planNumber (answerOf (withBound s d) (length work′) (length trace′)) ≡ 0
   plan-stays e =
-      let f = number-none-iff s w accepted work enough trace long .0 e in
-      number-none-iff (withBound s d) _ accepted′ work′ enough′ trace′ longer .1 (raised-plan-stays s (w, accepted) d raised small (f .0) (f .1) (f .2))
+      let f = number-none-iff s w names accepted work enough trace long .0 e in
+      number-none-iff (withBound s d) _ _ accepted′ work′ enough′ trace′ longer .1 (raised-plan-stays s (w, names, accepted) d raised small (f .0) (f .1) (f .2))
 
   -- and the very same plan: n, t, and the moves in the trace
   pub first-stays : planNumber (answerOf s (length work) (length trace)) ≡ 0
       → (answerOf (withBound s d) (length work′) (length trace′) ≡ answerOf s (length work) (length trace))
       × (let n = planMoves (answerOf s (length work) (length trace)) in take n (traceOf (withBound s d) (length work′) trace′) ≡ take n (traceOf s (length work) trace))
   first-stays e =
-      let (h, t, f) = number-none-iff s w accepted work enough trace long .0 e in
-      let f′ = raised-first-stays s (w, accepted) d raised small h t f in
-      let a = answer-is s w accepted work enough trace long ∙ ap answerAs f in
-      let q = trace-is s w accepted work enough trace long ∙ ap (λ (a : meant.PlanAnswer). traced a trace) f in
-      let q′ = trace-is (withBound s d) _ accepted′ work′ enough′ trace′ longer ∙ ap (λ (a : meant.PlanAnswer). traced a trace′) f′ in
+      let (h, t, f) = number-none-iff s w names accepted work enough trace long .0 e in
+      let f′ = raised-first-stays s (w, names, accepted) d raised small h t f in
+      let a = answer-is s w names accepted work enough trace long ∙ ap answerAs f in
+      let q = trace-is s w names accepted work enough trace long ∙ ap (λ (a : meant.PlanAnswer). traced a trace) f in
+      let q′ = trace-is (withBound s d) _ _ accepted′ work′ enough′ trace′ longer ∙ ap (λ (a : meant.PlanAnswer). traced a trace′) f′ in
       let n = planMoves (answerOf s (length work) (length trace)) in
       let z : length h ≡ n = sym (ap planMoves a) in (
-        answer-is (withBound s d) _ accepted′ work′ enough′ trace′ longer ∙ ap answerAs f′ ∙ sym a,
+        answer-is (withBound s d) _ _ accepted′ work′ enough′ trace′ longer ∙ ap answerAs f′ ∙ sym a,
         ap (take n) q′ ∙ take-at h (drop (length h) trace′) n z ∙ sym (ap (take n) q ∙ take-at h (drop (length h) trace) n z),
       )
 
   pub thirteen-stays : planNumber (answerOf s (length work) (length trace)) ≡ 13 → planNumber (answerOf (withBound s d) (length work′) (length trace′)) ≡ 13
   thirteen-stays e =
-      number-iff (withBound s d) _ accepted′ work′ enough′ trace′ longer 13 (omega arith) .1
-      (raised-thirteen-stays s (w, accepted) d raised small (number-iff s w accepted work enough trace long 13 (omega arith) .0 e))
-
--- "Bytes before that point are notes, never interpreted": under any other notes the same answers, and the same is left
-module _ (s other : List ℕ) (first : FirstRecord s) where
-  stage-same : (work trace : ℕ) → planStage (withNotes s other) work trace ≡ planStage s work trace
-  stage-same work trace = ap (planChecked (withNotes s other) work trace) (check-same s other first) ∙ go (checkOf s)
-    where
-      go : (c : Checked) → planChecked (withNotes s other) work trace c ≡ planChecked s work trace c
-      go (checked.Accepted w) = ap (λ (b : ℕ). cond (ltb trace b) (refused (refusalOf 10 0)) (withWork work w)) (bound-same s other first)
-      go (checked.Refused why) = refl
-
-  pub answer-same : (work trace : ℕ) → answerOf (withNotes s other) work trace ≡ answerOf s work trace
-  unfolding answerOf
-  answer-same work trace = ap (planAt (withNotes s other)) (stage-same work trace) ∙ go (planStage s work trace)
-    where
-      go : (c : Stage) → planAt (withNotes s other) c ≡ planAt s c
-      go (refused why) = refl
-      go (searching w) = ap answerAs (plan-same s other first)
-
-  pub trace-same : (work : ℕ) (trace : List ℕ) → traceOf (withNotes s other) work trace ≡ traceOf s work trace
-  unfolding traceOf
-  trace-same work trace = ap (λ (c : Stage). traceAt (withNotes s other) c trace) (stage-same work (length trace)) ∙ go (planStage s work (length trace))
-    where
-      go : (c : Stage) → traceAt (withNotes s other) c trace ≡ traceAt s c trace
-      go (refused why) = refl
-      go (searching w) = ap (λ (a : meant.PlanAnswer). traced a trace) (plan-same s other first)
-
-  pub reply-same : (h : List ℕ) (work : ℕ) → replyOf (withNotes s other) h work ≡ replyOf s h work
-  unfolding replyOf
-  reply-same h work = ap (λ (c : Checked). replayAt (withNotes s other) h (replayChecked work c)) (check-same s other first) ∙ go (replayStage s work)
-    where
-      go : (c : Stage) → replayAt (withNotes s other) h c ≡ replayAt s h c
-      go (refused why) = refl
-      go (searching w) = ap reply (replay-same s other first h)
-
-  pub work-same : (work : List ℕ) (trace : ℕ) → (planWork (withNotes s other) work trace ≡ planWork s work trace) × (replayWork (withNotes s other) work ≡ replayWork s work)
-  unfolding planWork replayWork
-  work-same work trace = (
-    ap (λ (c : Stage). workAt c work) (stage-same (length work) trace),
-    ap (λ (c : Checked). workAt (replayChecked (length work) c) work) (check-same s other first),
-  )
-
-  pub index-same : (work trace : ℕ) (index : List ℕ) → indexOf (withNotes s other) work trace index ≡ indexOf s work trace index
-  unfolding indexOf
-  index-same work trace index = ap (λ (c : Stage). indexAt c index) (stage-same work trace)
-
-  pub sizes-same : sizesOf (withNotes s other) ≡ sizesOf s
-  unfolding sizesOf
-  sizes-same = ap (sizedAs (withNotes s other)) (check-same s other first) ∙ go (checkOf s)
-    where
-      go : (c : Checked) → sizedAs (withNotes s other) c ≡ sizedAs s c
-      go (checked.Accepted w) = λ i. sized.Known (tables-same s other first .f i) (bound-same s other first i)
-      go (checked.Refused why) = refl
+      number-iff (withBound s d) _ _ accepted′ work′ enough′ trace′ longer 13 (omega arith) .1
+      (raised-thirteen-stays s (w, names, accepted) d raised small (number-iff s w names accepted work enough trace long 13 (omega arith) .0 e))

@@ -33,7 +33,7 @@ use Rattle.planner.specs.declared.Replayed.the-variants as replayed
 
 -- an answer by its number and place alone
 abbrev seen : Planned → Checked
-seen (planned.Found n t) = checked.Accepted 0
+seen (planned.Found n t) = checked.Accepted 0 0
 seen (planned.Refused why) = checked.Refused why
 
 seen-number : (a : Planned) → planNumber a ≡ numberOf (seen a)
@@ -45,8 +45,8 @@ seen-place (planned.Found n t) = refl
 seen-place (planned.Refused why) = refl
 
 abbrev heard : Replayed → Checked
-heard replayed.Yes = checked.Accepted 0
-heard replayed.No = checked.Accepted 0
+heard replayed.Yes = checked.Accepted 0 0
+heard replayed.No = checked.Accepted 0 0
 heard (replayed.Refused why) = checked.Refused why
 
 heard-number : (a : Replayed) → replyNumber a ≡ numberOf (heard a)
@@ -65,8 +65,8 @@ at-test f true x y = refl
 at-test f false x y = refl
 
 -- the figure of an accepted sheet is what is required
-figure-required : (s : List ℕ) (w : ℕ) → checkOf s ≡ checked.Accepted w → w ≡ required s
-figure-required s w e = ruled s (w, e) .figure
+figure-required : (s : List ℕ) (w names : ℕ) → checkOf s ≡ checked.Accepted w names → w ≡ required s
+figure-required s w names e = ruled s (w, names, e) .figure
 
 abbrev Ending : List ℕ → (number place : ℕ) → Type 0
 Ending s k p = ((k ≡ 13) × (p ≡ 0) × NoPlanAtAll s) ⊎ ((k ≡ 14) × (p ≡ 0) × NoPlanWithinBound s)
@@ -109,17 +109,17 @@ module _ (s : List ℕ) (work trace : ℕ) where
   abbrev Lent : (number place : ℕ) → Type 0
   Lent k p = ((k ≡ 10) × (p ≡ 0) × (trace < boundOf s)) ⊎ (Eleven s work k p ⊎ Ending s k p)
 
-  module _ (w : ℕ) (accepted : checkOf s ≡ checked.Accepted w) where
+  module _ (w names : ℕ) (accepted : checkOf s ≡ checked.Accepted w names) where
     searched : Told 11 (Unit {0}) (Ending s) (seen (planAt s (searching w)))
-    searched = record { above = ending-high s; by = λ g. searched-by s (w, accepted) }
+    searched = record { above = ending-high s; by = λ g. searched-by s (w, names, accepted) }
 
-    lent : Told 9 (Unit {0}) Lent (seen (planAt s (planChecked s work trace (checked.Accepted w))))
+    lent : Told 9 (Unit {0}) Lent (seen (planAt s (planChecked s work trace (checked.Accepted w names))))
     lent =
         subst (Told 9 (Unit {0}) Lent)
         (ap (cond (ltb trace (boundOf s)) (checked.Refused (refusalOf 10 0))) (at-test (λ (c : Stage). seen (planAt s c)) (ltb work w) (refused (refusalOf 11 0)) (searching w))
         ∙ at-test (λ (c : Stage). seen (planAt s c)) (ltb trace (boundOf s)) (refused (refusalOf 10 0)) (withWork work w))
         (then (unplaced 10 _ (λ g. (ltb-true trace (boundOf s), lt-ltb trace (boundOf s)))) 9 (omega arith) (λ g e. g)
-        (then (unplaced 11 _ (λ g. short-work s w work (figure-required s w accepted))) 10 (omega arith) (λ g e. g) searched))
+        (then (unplaced 11 _ (λ g. short-work s w work (figure-required s w names accepted))) 10 (omega arith) (λ g e. g) searched))
 
   lent-high : (k p : ℕ) → Lent k p → 9 < k
   lent-high k p = ⊎-elim (λ c. omega (arith, c .0)) (⊎-elim (λ c. omega (arith, c .0)) (⊎-elim (λ c. omega (arith, c .0)) (λ c. omega (arith, c .0))))
@@ -129,7 +129,7 @@ module _ (s : List ℕ) (work trace : ℕ) where
   plan-answered = go (checkOf s) refl (answered-by s) (numbered s)
     where
       go : (c : Checked) → checkOf s ≡ c → By (Cause s) c → Numbered c → By (PlanCause s work trace) (seen (planAt s (planChecked s work trace c)))
-      go (checked.Accepted w) e none n = wider (Cause s) Lent none (seen (planAt s (planChecked s work trace (checked.Accepted w)))) (lent w e .by tt)
+      go (checked.Accepted w names) e none n = wider (Cause s) Lent none (seen (planAt s (planChecked s work trace (checked.Accepted w names)))) (lent w names e .by tt)
       go (checked.Refused r) e by n = sooner (Cause s) Lent 9 (r .number) (r .place) (n .1) lent-high by
 
   plan-some : (k p : ℕ) → PlanCause s work trace k p → 1 ≤ k
@@ -150,27 +150,27 @@ module _ (s : List ℕ) (work trace : ℕ) where
 
 -- replay
 module _ (s h : List ℕ) (work : ℕ) where
-  replied-by : (b : Bool) → heard (reply (replied b)) ≡ checked.Accepted 0
+  replied-by : (b : Bool) → heard (reply (replied b)) ≡ checked.Accepted 0 0
   replied-by true = refl
   replied-by false = refl
 
-  module _ (w : ℕ) (accepted : checkOf s ≡ checked.Accepted w) where
-    replied-none : heard (replayAt s h (searching w)) ≡ checked.Accepted 0
-    replied-none = ap (λ (r : meant.ReplayAnswer). heard (reply r)) (replay-is s (w, accepted) h) ∙ replied-by (acceptsOf s h)
+  module _ (w names : ℕ) (accepted : checkOf s ≡ checked.Accepted w names) where
+    replied-none : heard (replayAt s h (searching w)) ≡ checked.Accepted 0 0
+    replied-none = ap (λ (r : meant.ReplayAnswer). heard (reply r)) (replay-is s (w, names, accepted) h) ∙ replied-by (acceptsOf s h)
 
-    worked : By (Eleven s work) (heard (replayAt s h (replayChecked work (checked.Accepted w))))
+    worked : By (Eleven s work) (heard (replayAt s h (replayChecked work (checked.Accepted w names))))
     worked =
         subst (By (Eleven s work))
         (ap (cond (ltb work w) (checked.Refused (refusalOf 11 0))) (sym replied-none)
         ∙ at-test (λ (c : Stage). heard (replayAt s h c)) (ltb work w) (refused (refusalOf 11 0)) (searching w))
-        (last (unplaced {G = Unit {0}} 11 _ (λ g. short-work s w work (figure-required s w accepted))) 9 (omega arith) 0 .by tt)
+        (last (unplaced {G = Unit {0}} 11 _ (λ g. short-work s w work (figure-required s w names accepted))) 9 (omega arith) 0 0 .by tt)
 
   replay-answered : By (ReplayCause s work) (heard (replyOf s h work))
   unfolding replyOf
   replay-answered = go (checkOf s) refl (answered-by s) (numbered s)
     where
       go : (c : Checked) → checkOf s ≡ c → By (Cause s) c → Numbered c → By (ReplayCause s work) (heard (replayAt s h (replayChecked work c)))
-      go (checked.Accepted w) e none n = wider (Cause s) (Eleven s work) none (heard (replayAt s h (replayChecked work (checked.Accepted w)))) (worked w e)
+      go (checked.Accepted w names) e none n = wider (Cause s) (Eleven s work) none (heard (replayAt s h (replayChecked work (checked.Accepted w names)))) (worked w names e)
       go (checked.Refused r) e by n = sooner (Cause s) (Eleven s work) 9 (r .number) (r .place) (n .1) (λ j q c. omega (arith, c .0)) by
 
   replay-some : (k p : ℕ) → ReplayCause s work k p → 1 ≤ k
@@ -191,11 +191,11 @@ module _ (s h : List ℕ) (work : ℕ) where
 -- sizes: the numbers of the check
 module _ (s : List ℕ) where
   sizes-number : (c : Checked) → sizesNumber (sizedAs s c) ≡ numberOf c
-  sizes-number (checked.Accepted w) = refl
+  sizes-number (checked.Accepted w names) = refl
   sizes-number (checked.Refused why) = refl
 
   sizes-place : (c : Checked) → sizesPlace (sizedAs s c) ≡ placeOf c
-  sizes-place (checked.Accepted w) = refl
+  sizes-place (checked.Accepted w names) = refl
   sizes-place (checked.Refused why) = refl
 
   sizes-some : (k p : ℕ) → Cause s k p → 1 ≤ k

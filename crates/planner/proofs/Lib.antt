@@ -1,3 +1,4 @@
 pub mod Demands
+pub mod Alike
 pub mod Reported
 pub mod Exactly

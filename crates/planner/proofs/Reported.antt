@@ -41,10 +41,10 @@ replied-as true = refl
 replied-as false = refl
 
 -- on an accepted sheet, with areas long enough: what is reported of its verdict is planning's answer and trace
-module _ (s : List ℕ) (w : ℕ) (accepted : checkOf s ≡ Accepted w) (work trace : List ℕ) (enough : w ≤ length work) (long : boundOf s ≤ length trace) where
+module _ (s : List ℕ) (w names : ℕ) (accepted : checkOf s ≡ Accepted w names) (work trace : List ℕ) (enough : w ≤ length work) (long : boundOf s ≤ length trace) where
   short : (h : List ℕ) (t : ℕ) → verdictOf s ≡ plan h t → length h ≤ length trace
   short h t e =
-      let r = plan-transitions s (w, accepted) h t (plan-is s (w, accepted) ∙ ap answer e) in
+      let r = plan-transitions s (w, names, accepted) h t (plan-is s (w, names, accepted) ∙ ap answer e) in
       omega (arith, r .0, run-length (meant.Goes (worldOf s)) t (firstOf s) h (r .1 .0) (r .1 .1))
 
   pub planning :
@@ -53,26 +53,26 @@ module _ (s : List ℕ) (w : ℕ) (accepted : checkOf s ≡ Accepted w) (work tr
       → (plannedAs o ≡ answerOf s (length work) (length trace)) × (trace′ ≡ traceOf s (length work) trace)
   planning trace′ o R =
       let P = planned-says trace trace′ o (verdictOf s) short (R .says) in
-      let e = plan-is s (w, accepted) in (
-        P .0 ∙ sym (ap answerAs e) ∙ sym (answer-is s w accepted work enough trace long),
-        P .1 ∙ sym (ap (λ (a : meant.PlanAnswer). traced a trace) e) ∙ sym (trace-is s w accepted work enough trace long),
+      let e = plan-is s (w, names, accepted) in (
+        P .0 ∙ sym (ap answerAs e) ∙ sym (answer-is s w names accepted work enough trace long),
+        P .1 ∙ sym (ap (λ (a : meant.PlanAnswer). traced a trace) e) ∙ sym (trace-is s w names accepted work enough trace long),
       )
 
 -- and whether it is accepted is replay's
 pub replaying :
-    (s : List ℕ) (w : ℕ) (accepted : checkOf s ≡ Accepted w) (work : List ℕ) (enough : w ≤ length work) (h : List ℕ) (b : Bool) → b ≡ acceptsOf s h
+    (s : List ℕ) (w names : ℕ) (accepted : checkOf s ≡ Accepted w names) (work : List ℕ) (enough : w ≤ length work) (h : List ℕ) (b : Bool) → b ≡ acceptsOf s h
     → repliedAs b ≡ replyOf s h (length work)
-replaying s w accepted work enough h b e =
+replaying s w names accepted work enough h b e =
     ap repliedAs e
     ∙ replied-as (acceptsOf s h)
-    ∙ sym (ap reply (replay-is s (w, accepted) h))
-    ∙ sym (reply-is s w accepted work enough h)
+    ∙ sym (ap reply (replay-is s (w, names, accepted) h))
+    ∙ sym (reply-is s w names accepted work enough h)
 
 -- a history of more moves than the bound is answered with no
 pub longer :
-    (s : List ℕ) (w : ℕ) (accepted : checkOf s ≡ Accepted w) (work : List ℕ) (enough : w ≤ length work) (h : List ℕ) → boundOf s < length h
+    (s : List ℕ) (w names : ℕ) (accepted : checkOf s ≡ Accepted w names) (work : List ℕ) (enough : w ≤ length work) (h : List ℕ) → boundOf s < length h
     → replayed.No ≡ replyOf s h (length work)
-longer s w accepted work enough h l = sym (reply-is s w accepted work enough h ∙ ap reply (longer-no s (w, accepted) h l))
+longer s w names accepted work enough h l = sym (reply-is s w names accepted work enough h ∙ ap reply (longer-no s (w, names, accepted) h l))
 
 -- the required words cleared, those beyond untouched
 pub cleared : (w : ℕ) (work part : List ℕ) → part ≡ replicate (length (take w work)) 0 → w ≤ length work → part ++ drop w work ≡ replicate w 0 ++ drop w work

@@ -30,7 +30,7 @@ withWork work w = cond (ltb work w) (refused (refusalOf 11 0)) (searching w)
 
 -- replay: 1 to 9, then 11
 abbrev pub replayChecked : (work : ℕ) → Checked → Stage
-replayChecked work (checked.Accepted w) = withWork work w
+replayChecked work (checked.Accepted w names) = withWork work w
 replayChecked work (checked.Refused why) = refused why
 
 abbrev pub replayStage : List ℕ → (work : ℕ) → Stage
@@ -38,7 +38,7 @@ replayStage s work = replayChecked work (checkOf s)
 
 -- planning: 1 to 9, then 10 where the trace is shorter than D, then 11
 abbrev pub planChecked : List ℕ → (work trace : ℕ) → Checked → Stage
-planChecked s work trace (checked.Accepted w) = cond (ltb trace (boundOf s)) (refused (refusalOf 10 0)) (withWork work w)
+planChecked s work trace (checked.Accepted w names) = cond (ltb trace (boundOf s)) (refused (refusalOf 10 0)) (withWork work w)
 planChecked s work trace (checked.Refused why) = refused why
 
 abbrev pub planStage : List ℕ → (work trace : ℕ) → Stage

@@ -10,7 +10,7 @@ use Rattle.planner.specs.declared.Sized.{Sized}
 use Rattle.planner.specs.declared.Sized.the-variants as sized
 
 abbrev pub sizedAs : List ℕ → Checked → Sized
-sizedAs s (checked.Accepted w) = sized.Known (layoutOf s .f) (layoutOf s .d)
+sizedAs s (checked.Accepted w names) = sized.Known (layoutOf s .f) (layoutOf s .d)
 sizedAs s (checked.Refused why) = sized.Refused why
 
 -- the sheet is checked first

@@ -36,7 +36,7 @@ pub enum Sized {
     Refused { why: Refusal },
 }
 
-// Checks a sheet: the words of work that planning and replay require, or a number and a place.
+// Checks a sheet: the words of work that planning and replay require and the set of the fluents that formulas name, or a number and a place.
 pub fn check(s: &[u8]) -> Checked
     ensures answer { λ r. ⌜ r ≡ checkOf (now (s .entry)) ⌝ }
 {

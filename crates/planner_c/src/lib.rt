@@ -3,7 +3,7 @@
 // header's functions over these, which take a null pointer for an empty slice.
 ghost use mathlib.Core.Path.{_≡_};
 ghost use lib.ListN.{length};
-ghost use Rattle.sheet.specs.Check.{checkOf, numberOf, placeOf, wordsOf};
+ghost use Rattle.sheet.specs.Check.{checkOf, numberOf, placeOf, wordsOf, fluentsNamed};
 ghost use Rattle.sheet.specs.Notes.{notesOf};
 ghost use Rattle.planner.specs.Answers.{answerOf, traceOf, planWork, indexOf, replyOf, replayWork};
 ghost use Rattle.lookup.specs.LookUp.{lookOf, lookNumber, lookPlace, lookSize, lookInitial};
@@ -16,19 +16,27 @@ use planner::Sized;
 use sheet::Checked;
 
 #[no_mangle]
-pub extern "C" fn planner_raw_check(sheet: &[u8], words: &mut usize, place: &mut usize) -> u32
+pub extern "C" fn planner_raw_check(
+    sheet: &[u8],
+    words: &mut usize,
+    names: &mut u32,
+    place: &mut usize,
+) -> u32
     ensures number { λ r. ⌜ r ≡ numberOf (checkOf (now (sheet .entry))) ⌝ }
     ensures words { λ _. ⌜ now (words .exit) ≡ wordsOf (checkOf (now (sheet .entry))) ⌝ }
+    ensures names { λ _. ⌜ now (names .exit) ≡ fluentsNamed (checkOf (now (sheet .entry))) ⌝ }
     ensures place { λ _. ⌜ now (place .exit) ≡ placeOf (checkOf (now (sheet .entry))) ⌝ }
 {
     match planner::check(sheet) {
-        Checked::Accepted { words: w } => {
+        Checked::Accepted { words: w, names: u } => {
             *words = w;
+            *names = u;
             *place = 0;
             0
         }
         Checked::Refused { why } => {
             *words = 0;
+            *names = 0;
             *place = why.place;
             why.number
         }

@@ -47,6 +47,10 @@ pub is-true : (a : Bool) → T a → a ≡ true
 is-true true t = refl
 is-true false t = absurd t
 
+pub true-exactly : (a : Bool) → T a ↔ (a ≡ true)
+true-exactly true = (λ t. refl, λ e. tt)
+true-exactly false = (λ t. absurd t, false≢true)
+
 -- a test made of others decides what is made of theirs
 pub or-exactly : {A B : Type 0} (a b : Bool) → (a ≡ true) ↔ A → (b ≡ true) ↔ B → ((a || b) ≡ true) ↔ (A ⊎ B)
 or-exactly true b p q = (λ e. inl (p .0 e), λ h. refl)
@@ -55,6 +59,12 @@ or-exactly false b p q = (λ e. inr (q .0 e), ⊎-elim (λ x. absurd (false≢tr
 pub not-exactly : {A : Type 0} (a : Bool) → (a ≡ true) ↔ A → (not a ≡ true) ↔ (¬ A)
 not-exactly true p = (λ e. absurd (false≢true e), λ n. absurd (n (p .0 refl)))
 not-exactly false p = (λ e x. false≢true (p .1 x), λ n. refl)
+
+-- tests that decide the same are the same
+pub same-test : (a b : Bool) → T a ↔ T b → a ≡ b
+same-test true b e = sym (is-true b (e .0 tt))
+same-test false true e = absurd (e .1 tt)
+same-test false false e = refl
 
 -- a number that counts where a test passes is no more than itself
 pub part-few : (b : Bool) (n : ℕ) → cond b n 0 ≤ n

@@ -2,4 +2,6 @@ pub mod Bytes
 pub mod Records
 pub mod Lowest
 pub mod Table
+pub mod Some
+pub mod Mask
 pub mod Laid

@@ -19,12 +19,12 @@ module _ (C : ℕ → ℕ → Type 0) (some : (k p : ℕ) → C k p → 1 ≤ k)
   )
     where
       go : (x : Checked) → By C x → numberOf x ≡ k → placeOf x ≡ p → First C k p
-      go (Accepted w) b e f = absurd (omega arith)
+      go (Accepted w u) b e f = absurd (omega arith)
       go (Refused r) (c, least, one) e f = (subst (λ (m : ℕ). C m p) e (subst (C (r .number)) f c), λ i b h. least i b (omega arith))
 
   pub no-number-exactly : (n ≡ 0) ↔ ((k p : ℕ) → ¬ C k p)
-  no-number-exactly = (λ e. go x by (sym number ∙ e), λ off. let a = none-accepted C x by off in number ∙ ap numberOf (a .1))
+  no-number-exactly = (λ e. go x by (sym number ∙ e), λ off. let a = none-accepted C x by off in number ∙ ap numberOf (a .2))
     where
       go : (x : Checked) → By C x → numberOf x ≡ 0 → (k p : ℕ) → ¬ C k p
-      go (Accepted w) none e = none
+      go (Accepted w u) none e = none
       go (Refused r) (c, least, one) e = absurd (omega (arith, some _ _ c))

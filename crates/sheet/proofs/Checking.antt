@@ -14,7 +14,7 @@ use Rattle.height.specs.Height.{heightOf}
 use Rattle.height.specs.Work.{levels, workWords}
 use Rattle.sheet.specs.Trailer.{trailerOf, limitsOk, WithinLimits, recordBytes, distanceOk}
 use Rattle.sheet.specs.Layout.{layoutIn, LaidOut, programsIn}
-use Rattle.sheet.specs.Check.{refused, refusedAt, heightChecked, recordsChecked, trailerChecked, checkOf}
+use Rattle.sheet.specs.Check.{refused, refusedAt, namesIn, heightChecked, recordsChecked, trailerChecked, checkOf}
 use Rattle.sheet.specs.declared.Trailer.{Trailer}
 use Rattle.sheet.specs.declared.Layout.{Layout}
 use Rattle.sheet.specs.declared.Checked.{Checked}
@@ -36,7 +36,7 @@ module _ (s : List ℕ) (l : Layout) (h : ℕ) (e : h ≡ heightOf (programAt (p
   unfolding heightChecked
   too-high a = rw (← e) (simp (lt-ltb 16 h a))
 
-  pub low-enough : h ≤ 16 → Accepted (workWords (levels (programAt (programsIn s l)) (l .p)) (l .d)) ≡ heightChecked s l
+  pub low-enough : h ≤ 16 → Accepted (workWords (levels (programAt (programsIn s l)) (l .p)) (l .d)) (namesIn s l) ≡ heightChecked s l
   unfolding heightChecked
   low-enough a = rw (← e) (simp (le-ltb 16 h a))
 

@@ -1,9 +1,9 @@
 -- The check refuses with a number and a place exactly when that number is the least whose cause holds, and the place is its place; it
--- accepts exactly when no cause holds, with the figure. Assumes nothing.
-use mathlib.Core.Path.{_≡_, refl, sym, _∙_, ap, subst}
+-- accepts exactly when no cause holds, with the figure and the union. Assumes nothing.
+use mathlib.Core.Path.{_≡_, refl, sym, _∙_, ap, ap₂, subst}
 use mathlib.Core.Bool.{Bool, true, false, not, cond, _||_}
 use mathlib.Core.List.{List}
-use mathlib.Core.Logic.{_⊎_, inl, inr, ⊎-elim, _↔_}
+use mathlib.Core.Logic.{_⊎_, inl, inr, ⊎-elim, _↔_, Iff·trans}
 use Prim.Native.Nat.{ℕ, _-_, _≤_, _<_}
 use native.Mathlib.Decide.{decLt}
 use native.Mathlib.Omega.{arith}
@@ -11,9 +11,13 @@ use borrow.Author.Tests.{ltb-true, ltb-false, lt-ltb, eqb-true, eqb-false, eq-eq
 use lib.ListN.{length}
 use lib.Dec.{ltb, eqb}
 use Rattle.records.specs.Lowest.{lowest}
-use Rattle.records.specs.Records.{programAt}
+use Rattle.records.specs.Records.{formulaAt, programAt}
+use Rattle.records.specs.Mask.{hasBit}
 use Rattle.records.proofs.Lowest.{lower-true}
-use Rattle.records.proofs.Truth.{or-exactly, not-exactly}
+use Rattle.records.proofs.Truth.{or-exactly, not-exactly, same-test}
+use Rattle.records.proofs.Masks.{mask-fits, mask-same, mask-has, mask-bits}
+use Rattle.named.specs.Named.{tableNames}
+use Rattle.named.proofs.Below.{table-exactly}
 use Rattle.records.specs.declared.Program.{Program}
 use Rattle.rules.specs.Tables.{programsOk}
 use Rattle.kinds.proofs.ProgramFields.{program-exactly}
@@ -25,12 +29,12 @@ use Rattle.height.specs.Work.{levels, workWords}
 use Rattle.height.proofs.Levels.{levels-exactly}
 use Rattle.height.proofs.Paths.{Lower, above-exactly}
 use Rattle.sheet.specs.Trailer.{trailerOf, WithinLimits, recordBytes, distanceOk}
-use Rattle.sheet.specs.Layout.{layoutOf, layoutIn, programsIn}
+use Rattle.sheet.specs.Layout.{layoutOf, layoutIn, formulasIn, programsIn}
 use Rattle.sheet.specs.Check.{refused, refusedAt, tablesChecked, heightChecked, trailerChecked, checkOf, Accepts}
-use Rattle.sheet.specs.Causes.{Cause, First, Figure}
+use Rattle.sheet.specs.Causes.{Cause, First, Figure, Union}
 use Rattle.sheet.proofs.Accepted.{ruled, laid}
 use Rattle.sheet.proofs.Checking.{limits-exactly, placed-exactly}
-use Rattle.sheet.proofs.Lower.{rules-lower, lower}
+use Rattle.sheet.proofs.Lower.{rules-lower, lower, lower-formulas}
 use Rattle.sheet.proofs.Rising.{By, Told, then, last, unplaced, lowest-placed, first-answered, none-accepted}
 use Rattle.sheet.specs.declared.Trailer.{Trailer}
 use Rattle.sheet.specs.declared.Checked.{Checked}
@@ -83,7 +87,7 @@ module _ (s : List ℕ) where
       (then (lowest-placed 6 _ _ (λ i. effect-exactly _ _ _ _)) 5 (omega arith) (λ g e. g)
       (then (lowest-placed 7 _ _ (λ i. action-exactly _ _ _)) 6 (omega arith) (λ g e. g)
       (then (lowest-placed 8 _ _ (λ i. program-exactly _ _ _ _)) 7 {H = (1 ≤ l .p) × Lower programs (l .p)} (omega arith) (λ g e. (g, kept-lower _ _ _ _ e))
-      (last (unplaced 9 _ (too-high _ _)) 8 (omega arith) _)))))))))
+      (last (unplaced 9 _ (too-high _ _)) 8 (omega arith) _ _)))))))))
 
   -- the check answers by the causes
   pub answered-by : By (Cause s) (checkOf s)
@@ -95,7 +99,7 @@ module _ (s : List ℕ) where
 
   -- accepted exactly when no cause holds
   pub accepted-exactly : Accepts s ↔ ((k p : ℕ) → ¬ Cause s k p)
-  accepted-exactly = (λ (w, e). subst (By (Cause s)) e answered-by, none-accepted (Cause s) (checkOf s) answered-by)
+  accepted-exactly = (λ (w, u, e). subst (By (Cause s)) e answered-by, none-accepted (Cause s) (checkOf s) answered-by)
 
   module _ (accepted : Accepts s) where
     figure-exactly : (w : ℕ) → Figure s w ↔ (w ≡ accepted .0)
@@ -106,9 +110,26 @@ module _ (s : List ℕ) where
           λ f. (levels programs (layoutOf s .p), h _ .1 refl, f ∙ e),
         )
 
-  -- and then the answer is the figure
-  pub answered-exactly : (w : ℕ) → (checkOf s ≡ Accepted w) ↔ (((k p : ℕ) → ¬ Cause s k p) × Figure s w)
-  answered-exactly w = (
-    λ e. (accepted-exactly .0 (w, e), figure-exactly (w, e) w .1 refl),
-    λ (none, f). let accepted = accepted-exactly .1 none in accepted .1 ∙ ap Accepted (sym (figure-exactly accepted w .0 f)),
+    union-exactly : (u : ℕ) → Union s u ↔ (u ≡ accepted .1)
+    union-exactly u =
+        let formula = formulaAt (formulasIn s (layoutOf s)) in
+        let n = layoutOf s .q in
+        let told = table-exactly formula n (lower-formulas s accepted) in
+        let e = ruled s accepted .union in (
+          λ (fits, bits).
+              sym (mask-bits 32 u fits)
+              ∙ mask-same (hasBit u) (tableNames formula n) 32 (λ x l. same-test (hasBit u x) (tableNames formula n x) (Iff·trans (bits x l) (told x .1, told x .0)))
+              ∙ sym e,
+          λ f.
+              let g = f ∙ e in
+              rw g (mask-fits (tableNames formula n) 32, λ x l. rw (mask-has (tableNames formula n) 32 x l) (told x)),
+        )
+
+  -- and then the answer is the figure and the union
+  pub answered-exactly : (w u : ℕ) → (checkOf s ≡ Accepted w u) ↔ (((k p : ℕ) → ¬ Cause s k p) × Figure s w × Union s u)
+  answered-exactly w u = (
+    λ e. (accepted-exactly .0 (w, u, e), figure-exactly (w, u, e) w .1 refl, union-exactly (w, u, e) u .1 refl),
+    λ (none, f, g).
+        let accepted = accepted-exactly .1 none in
+        accepted .2 ∙ ap₂ Accepted (sym (figure-exactly accepted w .0 f)) (sym (union-exactly accepted u .0 g)),
   )

@@ -1,13 +1,13 @@
 -- What an inspection tells: an answer of the check and what was found, from the tests that led there, and back again. Assumes nothing.
 use Prim.Native.Nat.{ℕ, _-_}
-use mathlib.Core.Path.{_≡_, refl, sym, _∙_, ap, subst}
+use mathlib.Core.Path.{_≡_, refl, sym, _∙_, ap, ap₂, subst}
 use mathlib.Core.Bool.{Bool, true≢false}
 use mathlib.Core.List.{List}
 use borrow.Author.Tests.{eq-eqb, ne-eqb}
 use lib.ListN.{length}
 use Rattle.sheet.specs.Trailer.{trailerOf}
 use Rattle.sheet.specs.Layout.{layoutIn, layoutOf, LaidOut}
-use Rattle.sheet.specs.Check.{tablesChecked, heightChecked, recordsChecked, checkOf}
+use Rattle.sheet.specs.Check.{namesIn, tablesChecked, heightChecked, recordsChecked, checkOf}
 use Rattle.sheet.specs.Inspection.{unless, inspectionIn, inspectedIn, inspectOf, Of}
 use Rattle.sheet.proofs.Accepted.{ruled, laid}
 use Rattle.sheet.specs.declared.Trailer.{Trailer}
@@ -33,12 +33,12 @@ module _ (s : List ℕ) (l : Layout) (r : Refusal) (told : (next : Checked) → 
 
 -- from an inspection's answer back to the check's
 module _ (s : List ℕ) where
-  accepted-as : (x : Checked) {i : Inspection} → inspected.Accepted i ≡ inspectedIn s (layoutOf s) x → ((w : ℕ) × (x ≡ checked.Accepted w)) × (i ≡ inspectionIn s (layoutOf s))
-  accepted-as (checked.Accepted w) e = ((w, refl), cc)
+  accepted-as : (x : Checked) {i : Inspection} → inspected.Accepted i ≡ inspectedIn s (layoutOf s) x → ((w u : ℕ) × (x ≡ checked.Accepted w u)) × (i ≡ inspectionIn s (layoutOf s))
+  accepted-as (checked.Accepted w u) e = ((w, u, refl), cc)
   accepted-as (checked.Refused why) e = absurd (true≢false cc)
 
   refused-as : (x : Checked) {why : Refusal} → inspected.Refused why ≡ inspectedIn s (layoutOf s) x → x ≡ checked.Refused why
-  refused-as (checked.Accepted w) e = cc
+  refused-as (checked.Accepted w u) e = cc
   refused-as (checked.Refused why) e = cc
 
   pub found-of : {i : Inspection} → inspected.Accepted i ≡ inspectOf s → Of s i
@@ -68,6 +68,9 @@ module _ {s : List ℕ} {i : Inspection} (O : Of s i) where
   pub of-found : (X : Layout → Bool → Type 0) → X (i .layout) (i .interrupts) → X (layoutOf s) (inspectionIn s (layoutOf s) .interrupts)
   of-found X x = subst (X (layoutOf s)) (O .interrupts-are) (subst (λ (l : Layout). X l (i .interrupts)) (O .layout-is) x)
 
-  -- the check answers with its words
-  pub answered : checkOf s ≡ checked.Accepted (i .words)
-  answered = let a = O .accepted in a .1 ∙ ap checked.Accepted (ruled s a .figure ∙ sym (O .words-are))
+  -- the check answers with its words, and with the union of what its formulas name
+  pub answered : checkOf s ≡ checked.Accepted (i .words) (namesIn s (layoutOf s))
+  answered = let a = O .accepted in a .2 ∙ ap₂ checked.Accepted (ruled s a .figure ∙ sym (O .words-are)) (ruled s a .union)
+
+  pub answered-with : {u : ℕ} → u ≡ namesIn s (i .layout) → checked.Accepted (i .words) u ≡ checkOf s
+  answered-with e = sym (answered ∙ ap (checked.Accepted (i .words)) (ap (namesIn s) (sym (O .layout-is)) ∙ sym e))

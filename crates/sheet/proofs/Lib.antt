@@ -7,5 +7,6 @@ pub mod Lower
 pub mod Numbers
 pub mod OtherNotes
 pub mod Tables
+pub mod Alike
 pub mod Rising
 pub mod Called

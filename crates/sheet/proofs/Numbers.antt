@@ -12,7 +12,7 @@ use Rattle.sheet.specs.declared.Checked.the-variants.{Accepted, Refused}
 
 -- a number that an answer gives is one of 1 to 9
 abbrev pub Numbered : Checked → Type 0
-Numbered (Accepted w) = Unit {0}
+Numbered (Accepted w u) = Unit {0}
 Numbered (Refused r) = (1 ≤ r .number) × (r .number ≤ 9)
 
 -- and so is one that has a cause
@@ -32,5 +32,5 @@ pub numbered : (s : List ℕ) → Numbered (checkOf s)
 numbered s = go (checkOf s) (λ n p e. refused-exactly s n p .0 e)
   where
     go : (x : Checked) → ((n p : ℕ) → x ≡ refused n p → First (Cause s) n p) → Numbered x
-    go (Accepted w) first = tt
+    go (Accepted w u) first = tt
     go (Refused r) first = caused s _ _ (first _ _ refl .0)

@@ -18,7 +18,7 @@ use Rattle.sheet.specs.declared.Trailer.{Trailer}
 use Rattle.sheet.specs.declared.Layout.{Layout}
 use Rattle.sheet.specs.declared.Checked.{Checked}
 use Rattle.sheet.proofs.Accepted.{trailed}
-use Rattle.sheet.proofs.Tables.{SameTables, checked-same}
+use Rattle.sheet.proofs.Tables.{SameTables, sizes-same, checked-same}
 
 module _ (s notes : List ℕ) (first : FirstRecord s) where
   abbrev at : ℕ
@@ -73,16 +73,18 @@ module _ (s notes : List ℕ) (first : FirstRecord s) where
       let m = layoutIn (trailerOf s) (length notes + trailerOf s .distance) in
       let o = layoutOf s in
       record {
-        f = ap (λ (l : Layout). l .f) l;
-        q = ap (λ (l : Layout). l .q) l;
-        e = ap (λ (l : Layout). l .e) l;
-        a = ap (λ (l : Layout). l .a) l;
-        p = ap (λ (l : Layout). l .p) l;
+        rest = record {
+          f = ap (λ (l : Layout). l .f) l;
+          q = ap (λ (l : Layout). l .q) l;
+          e = ap (λ (l : Layout). l .e) l;
+          a = ap (λ (l : Layout). l .a) l;
+          p = ap (λ (l : Layout). l .p) l;
+          formulas = ap (formulasIn x) l ∙ moved (o .formulas) (o .effects) (m .formulas) (m .effects) (omega arith) (omega arith) (omega arith);
+          effects = ap (effectsIn x) l ∙ moved (o .effects) (o .actions) (m .effects) (m .actions) (omega arith) (omega arith) (omega arith);
+          actions = ap (actionsIn x) l ∙ moved (o .actions) (o .programs) (m .actions) (m .programs) (omega arith) (omega arith) (omega arith);
+          programs = ap (programsIn x) l ∙ moved (o .programs) (o .end) (m .programs) (m .end) (omega arith) (omega arith) (omega arith);
+        };
         fluents = ap (fluentsIn x) l ∙ moved (o .fluents) (o .formulas) (m .fluents) (m .formulas) (omega arith) (omega arith) (omega arith);
-        formulas = ap (formulasIn x) l ∙ moved (o .formulas) (o .effects) (m .formulas) (m .effects) (omega arith) (omega arith) (omega arith);
-        effects = ap (effectsIn x) l ∙ moved (o .effects) (o .actions) (m .effects) (m .actions) (omega arith) (omega arith) (omega arith);
-        actions = ap (actionsIn x) l ∙ moved (o .actions) (o .programs) (m .actions) (m .programs) (omega arith) (omega arith) (omega arith);
-        programs = ap (programsIn x) l ∙ moved (o .programs) (o .end) (m .programs) (m .end) (omega arith) (omega arith) (omega arith);
       }
 
   start-after : layoutOf (withNotes s notes) .fluents ≡ length notes
@@ -112,7 +114,7 @@ module _ (s notes : List ℕ) (first : FirstRecord s) where
       (λ i.
       cond (not (eqb (trailer-same i .magic) 0x5142)) (refused 1 0)
       (cond (not (limitsOk (trailer-same i))) (refused 2 0)
-      (cond (not (distance-same i)) (refused 3 0) (checked-same tables-same bound-same i))))
+      (cond (not (distance-same i)) (refused 3 0) (checked-same (sizes-same tables-same) bound-same i))))
 
 -- an accepted sheet has a first record
 pub accepted-first : (s : List ℕ) → Accepts s → FirstRecord s
@@ -125,10 +127,10 @@ module _ (s : List ℕ) (accepted : Accepts s) where
   notes-put notes =
       let x = withNotes s notes in
       let first = accepted-first s accepted in
-      ap (λ (c : Checked). take (notesCount x c) x) (check-same s notes first ∙ accepted .1)
+      ap (λ (c : Checked). take (notesCount x c) x) (check-same s notes first ∙ accepted .2)
       ∙ take-at notes (drop (layoutOf s .fluents) s) (layoutOf x .fluents) (sym (start-after s notes first))
 
   -- and the sheet's own put in change nothing
   pub notes-own : withNotes s (notesOf s) ≡ s
   unfolding withNotes
-  notes-own = rw (accepted .1) (take-append-drop (layoutOf s .fluents) s)
+  notes-own = rw (accepted .2) (take-append-drop (layoutOf s .fluents) s)

@@ -16,13 +16,13 @@ use Rattle.sheet.specs.declared.Checked.the-variants.{Accepted, Refused}
 
 -- the answer that causes C give: the least number that has one, with its only place
 abbrev pub By : (ℕ → ℕ → Type 0) → Checked → Type 0
-By C (Accepted w) = (k p : ℕ) → ¬ C k p
+By C (Accepted w u) = (k p : ℕ) → ¬ C k p
 By C (Refused r) = C (r .number) (r .place) × ((j q : ℕ) → j < r .number → ¬ C j q) × ((q : ℕ) → C (r .number) q → q ≡ r .place)
 
 -- it is the only one
 module _ (C : ℕ → ℕ → Type 0) where
   pub first-answered : (k p : ℕ) (x : Checked) → By C x → C k p × ((j q : ℕ) → j < k → ¬ C j q) → x ≡ refused k p
-  first-answered k p (Accepted w) none (c, least) = absurd (none k p c)
+  first-answered k p (Accepted w u) none (c, least) = absurd (none k p c)
   first-answered k p (Refused r) (d, lower, one) (c, least) = go (decLt (r .number) k) (decLt k (r .number))
     where
       go : Dec (r .number < k) → Dec (k < r .number) → Refused r ≡ refused k p
@@ -30,13 +30,13 @@ module _ (C : ℕ → ℕ → Type 0) where
       go (no l) (yes h) = absurd (lower k p h c)
       go (no l) (no h) = let e : k ≡ r .number = omega arith in ap₂ refused (sym e) (sym (one p (subst (λ (m : ℕ). C m p) e c)))
 
-  pub none-accepted : (x : Checked) → By C x → ((k p : ℕ) → ¬ C k p) → (w : ℕ) × (x ≡ Accepted w)
-  none-accepted (Accepted w) none off = (w, refl)
+  pub none-accepted : (x : Checked) → By C x → ((k p : ℕ) → ¬ C k p) → (w u : ℕ) × (x ≡ Accepted w u)
+  none-accepted (Accepted w u) none off = (w, u, refl)
   none-accepted (Refused r) (d, lower, one) off = absurd (off _ _ d)
 
 -- causes that do not hold, before others
 pub wider : (L C : ℕ → ℕ → Type 0) → ((k p : ℕ) → ¬ L k p) → (x : Checked) → By C x → By (λ k p. L k p ⊎ C k p) x
-wider L C off (Accepted w) none = λ k p. ⊎-elim (off k p) (none k p)
+wider L C off (Accepted w u) none = λ k p. ⊎-elim (off k p) (none k p)
 wider L C off (Refused r) (c, least, one) = (inr c, λ j q l. ⊎-elim (off j q) (least j q l), λ q. ⊎-elim (λ c. absurd (off _ q c)) (one q))
 
 -- a number that is given by the first causes, before others of higher numbers
@@ -63,10 +63,10 @@ module _ {G : Type 0} {m i : ℕ} {b : Bool} {L : ℕ → ℕ → Type 0} (d : D
   never g e k p h = false≢true (sym e ∙ d .holds-true g k p h .0)
 
   -- the last line
-  pub last : (l : ℕ) → l < m → (w : ℕ) → Told l G L (cond b (refused m i) (Accepted w))
-  last l h w = record { above = λ k p c. omega (arith, d .number k p c); by = λ g. go g b refl }
+  pub last : (l : ℕ) → l < m → (w u : ℕ) → Told l G L (cond b (refused m i) (Accepted w u))
+  last l h w u = record { above = λ k p c. omega (arith, d .number k p c); by = λ g. go g b refl }
     where
-      go : G → (c : Bool) → b ≡ c → By L (cond c (refused m i) (Accepted w))
+      go : G → (c : Bool) → b ≡ c → By L (cond c (refused m i) (Accepted w u))
       go g true e = (d .true-holds g e, λ j q l c. omega (arith, d .number j q c), λ q c. d .holds-true g m q c .1)
       go g false e = never g e
 

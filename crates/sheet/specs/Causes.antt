@@ -1,15 +1,18 @@
 -- To be believed: the causes of the numbers 1 to 9, and the places (document 01, "Who can cause which number"). That the check answers by
--- the first of them, and else with the figure, is proved in proofs/Exactly.antt. Assumes nothing.
+-- the first of them, and else with the figure and the union, is proved in proofs/Exactly.antt. Assumes nothing.
 use mathlib.Core.Path.{_≡_}
 use mathlib.Core.List.{List}
-use mathlib.Core.Logic.{_⊎_}
-use Prim.Native.Nat.{ℕ, _-_, _<_}
+use mathlib.Core.Logic.{_⊎_, _↔_}
+use Prim.Native.Nat.{ℕ, _-_, _^_, _<_}
+use lib.Dec.{T}
 use lib.ListN.{length}
 use Rattle.records.specs.Lowest.{LowestFaulty}
-use Rattle.records.specs.Records.{programAt}
+use Rattle.records.specs.Records.{formulaAt, programAt}
+use Rattle.records.specs.Mask.{hasBit}
 use Rattle.rules.specs.Kept.{FluentKept, FormulaKept, EffectKept, ActionKept, ProgramKept}
 use Rattle.height.specs.Down.{HeightAbove}
 use Rattle.height.specs.Work.{IsLevels, workWords}
+use Rattle.named.specs.Below.{NamesBelow}
 use Rattle.sheet.specs.Trailer.{trailerOf, WithinLimits, recordBytes}
 use Rattle.sheet.specs.Layout.{layoutOf, fluentsIn, formulasIn, effectsIn, actionsIn, programsIn}
 
@@ -40,3 +43,10 @@ First cause number place = cause number place × ((lower at : ℕ) → lower < n
 -- "Checking returns this figure": w is (D + 1) × (64 + 3 × (1 + 2 × h × D)), where "h is the height, plus 2 if any record has kind 11"
 abbrev pub Figure : List ℕ → (w : ℕ) → Type 0
 Figure s w = let l = layoutOf s in (h : ℕ) × IsLevels (programAt (programsIn s l)) (l .p) h × (w ≡ workWords h (l .d))
+
+-- document 02, F-5: "checking a sheet returns the union over its formula table": a number of 32 bits, of which bit x is set exactly where a
+-- formula of the table, or one below it, names fluent x
+abbrev pub Union : List ℕ → (u : ℕ) → Type 0
+Union s u =
+    let l = layoutOf s in
+    (u < 2 ^ 32) × ((x : ℕ) → x < 32 → T (hasBit u x) ↔ ((q : ℕ) × (q < l .q) × NamesBelow (formulaAt (formulasIn s l)) q x))

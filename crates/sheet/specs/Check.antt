@@ -1,4 +1,4 @@
--- To be believed: when a sheet is accepted, and the number, place and figure of a check's answer. The answer itself is computed here too
+-- To be believed: when a sheet is accepted, and the number, place, figure and union of a check's answer. The answer itself is computed here too
 -- (document 01, "Who can cause which number": the causes in rising order, a place for 4 to 8); that it goes by the first cause of
 -- Causes.antt is proved in proofs/Exactly.antt. Assumes nothing.
 use mathlib.Core.Path.{_≡_}
@@ -8,10 +8,11 @@ use mathlib.Core.Bool.{not, cond}
 use lib.ListN.{length}
 use lib.Dec.{ltb, eqb}
 use Rattle.records.specs.Lowest.{lowest}
-use Rattle.records.specs.Records.{programAt}
+use Rattle.records.specs.Records.{formulaAt, programAt}
 use Rattle.rules.specs.Tables.{fluentsOk, formulasOk, effectsOk, actionsOk, programsOk}
 use Rattle.height.specs.Height.{heightOf}
 use Rattle.height.specs.Work.{levels, workWords}
+use Rattle.named.specs.Named.{tableSet}
 use Rattle.sheet.specs.Trailer.{trailerOf, limitsOk, distanceOk}
 use Rattle.sheet.specs.Layout.{layoutIn, fluentsIn, formulasIn, effectsIn, actionsIn, programsIn}
 use Rattle.sheet.specs.declared.Trailer.{Trailer}
@@ -40,11 +41,15 @@ tablesChecked s l next =
     (refusedAt 7 (lowest (actionsOk (l .q) (l .e) (actionsIn s l)) (l .a)) (l .a)
     (refusedAt 8 (lowest (programsOk (l .q) (l .a) (programsIn s l)) (l .p)) (l .p) next))))
 
--- 9: height above 16; else the figure
+-- document 02, F-5: "checking a sheet returns the union over its formula table"
+abbrev pub namesIn : List ℕ → Layout → ℕ
+namesIn s l = tableSet (formulaAt (formulasIn s l)) (l .q)
+
+-- 9: height above 16; else the figure and the union
 unfoldable pub heightChecked : List ℕ → Layout → Checked
 heightChecked s l =
     let p = programAt (programsIn s l) in
-    cond (ltb 16 (heightOf p (l .p))) (refused 9 0) (Accepted (workWords (levels p (l .p)) (l .d)))
+    cond (ltb 16 (heightOf p (l .p))) (refused 9 0) (Accepted (workWords (levels p (l .p)) (l .d)) (namesIn s l))
 
 -- the tables, then the height
 abbrev pub recordsChecked : List ℕ → Layout → Checked
@@ -63,17 +68,21 @@ checkOf s = cond (ltb (length s) 18) (refused 1 0) (trailerChecked s (trailerOf 
 
 -- no cause of 1 to 9 holds of the sheet
 abbrev pub Accepts : List ℕ → Type 0
-Accepts s = (w : ℕ) × (checkOf s ≡ Accepted w)
+Accepts s = (w u : ℕ) × (checkOf s ≡ Accepted w u)
 
--- document 01's number and place of an answer, 0 where there is none, and its figure, 0 beside a number
+-- document 01's number and place of an answer, 0 where there is none, its figure and its union, 0 beside a number
 abbrev pub numberOf : Checked → ℕ
-numberOf (Accepted w) = 0
+numberOf (Accepted w u) = 0
 numberOf (Refused why) = why .number
 
 abbrev pub placeOf : Checked → ℕ
-placeOf (Accepted w) = 0
+placeOf (Accepted w u) = 0
 placeOf (Refused why) = why .place
 
 abbrev pub wordsOf : Checked → ℕ
-wordsOf (Accepted w) = w
+wordsOf (Accepted w u) = w
 wordsOf (Refused why) = 0
+
+abbrev pub fluentsNamed : Checked → ℕ
+fluentsNamed (Accepted w u) = u
+fluentsNamed (Refused why) = 0

@@ -31,7 +31,7 @@ inspectionIn s l =
 
 -- the check's answer, with what it found
 abbrev pub inspectedIn : List ℕ → Layout → Checked → Inspected
-inspectedIn s l (checked.Accepted w) = inspected.Accepted (inspectionIn s l)
+inspectedIn s l (checked.Accepted w u) = inspected.Accepted (inspectionIn s l)
 inspectedIn s l (checked.Refused why) = inspected.Refused why
 
 abbrev pub inspectOf : List ℕ → Inspected

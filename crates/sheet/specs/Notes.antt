@@ -10,7 +10,7 @@ use Rattle.sheet.specs.declared.Checked.the-variants.{Accepted, Refused}
 
 -- how many bytes of notes a checked sheet hands out: none under a number
 abbrev pub notesCount : List ℕ → Checked → ℕ
-notesCount s (Accepted w) = layoutOf s .fluents
+notesCount s (Accepted w u) = layoutOf s .fluents
 notesCount s (Refused why) = 0
 
 abbrev pub notesOf : List ℕ → List ℕ

@@ -4,8 +4,9 @@ ghost use Prim.Native.Nat.{_+_, _*_, _≤_};
 ghost use lib.ListN.{length};
 ghost use denote.Ref.{ptr};
 ghost use Rattle.sheet.specs.Trailer.{trailerOf, limitsOk, WithinLimits, recordBytes, distanceOk};
-ghost use Rattle.sheet.specs.Layout.{layoutIn, LaidOut};
-ghost use Rattle.sheet.specs.Check.{refusalOf, tablesChecked, heightChecked, checkOf, numberOf, placeOf};
+ghost use Rattle.kinds.specs.Formulas.{LowerFormulas};
+ghost use Rattle.sheet.specs.Layout.{layoutIn, LaidOut, formulasIn};
+ghost use Rattle.sheet.specs.Check.{namesIn, refusalOf, tablesChecked, heightChecked, checkOf, numberOf, placeOf};
 ghost use Rattle.sheet.specs.Inspection.{unless, inspectedIn, inspectOf};
 ghost use Rattle.sheet.specs.Notes.{notesOf};
 ghost use Rattle.sheet.specs.declared.Checked.{Checked};
@@ -66,9 +67,10 @@ pub struct Refusal {
     pub place: usize,
 }
 
-// What a check answers: the words of work that planning and replay require, or why it turns the sheet away.
+// What a check answers: the words of work that planning and replay require, and the set of the fluents that formulas name, bit x for
+// fluent x; or why it turns the sheet away.
 pub enum Checked {
-    Accepted { words: usize },
+    Accepted { words: usize, names: u32 },
     Refused { why: Refusal },
 }
 
@@ -263,12 +265,26 @@ pub fn inspect(s: &[u8]) -> Inspected
     measure(s, l)
 }
 
+// What the formulas name, all together.
+fn names_in(s: &[u8], l: Layout) -> u32
+    requires { ⌜ LaidOut l (length (now s)) × LowerFormulas (formulasIn (now s) l) (l .q) ⌝ }
+    ensures { λ r. ⌜ r ≡ namesIn (now (s .entry)) l ⌝ }
+{
+    let start = l.formulas;
+    let end = l.effects;
+    let sets = named::sets_of(&s[start..end], l.q);
+    named::union_of(&sets, l.q)
+}
+
 // Checks a sheet.
 pub fn check(s: &[u8]) -> Checked
     ensures { λ r. ⌜ r ≡ checkOf (now (s .entry)) ⌝ }
 {
     match inspect(s) {
-        Inspected::Accepted { found } => Checked::Accepted { words: found.words },
+        Inspected::Accepted { found } => Checked::Accepted {
+            words: found.words,
+            names: names_in(s, found.layout),
+        },
         Inspected::Refused { why } => Checked::Refused { why },
     }
 }

@@ -19,7 +19,8 @@ use Rattle.records.proofs.Written.{written}
 use Rattle.kinds.specs.Formulas.{asksValue}
 use Rattle.golog.specs.declared.State.{State}
 use Rattle.golog.specs.World.{World, conflicting}
-use Rattle.golog.specs.Possible.{InRange, Conflict}
+use Rattle.records.specs.Some.{InRange}
+use Rattle.golog.specs.Possible.{Conflict}
 use Rattle.golog.proofs.Possible.{conflicting-exactly}
 use Rattle.golog.proofs.Formulas.{value-said}
 use Rattle.state.specs.Truths.{saidBy, AreTruths}

@@ -182,14 +182,21 @@ both-same false b c f g = refl
 both-same true true c f g = sym (ap not (g refl))
 both-same true false c f g = sym (ap not (is-false c (λ e. false≢true (f e))))
 
--- by the marks an action is allowed exactly where it is possible, if it is listed wherever it is in conflict
+-- by its mark an action is allowed exactly where it is possible, if it is marked exactly where it is in conflict
+pub allowed-marked :
+    (effects actions : List ℕ) (truths conflicted : List Bool) (a : ℕ)
+    → (inConflict effects truths (actionAt actions a) ≡ true → getD conflicted a false ≡ true)
+    → (getD conflicted a false ≡ true → inConflict effects truths (actionAt actions a) ≡ true)
+    → allowedBy actions truths conflicted a ≡ possibleBy (saidBy truths) (effectAt effects) (actionAt actions) a
+unfolding possibleBy
+allowed-marked effects actions truths conflicted a f g =
+    let r = actionAt actions a in
+    ap (λ (b : Bool). special a || b)
+    (both-same (saidBy truths (r .precondition)) (getD conflicted a false) (conflicting (saidBy truths) (effectAt effects) (r .first) (r .count)) f g)
+
+-- so it is if it is listed wherever it is in conflict
 pub allowed-possible :
     {effects actions list : List ℕ} {truths conflicted : List Bool} (a : ℕ) → Conflicted effects actions list truths conflicted
     → (inConflict effects truths (actionAt actions a) ≡ true → Listed list a)
     → allowedBy actions truths conflicted a ≡ possibleBy (saidBy truths) (effectAt effects) (actionAt actions) a
-unfolding possibleBy
-allowed-possible {effects} {actions} {list} {truths} {conflicted} a B listed =
-    let r = actionAt actions a in
-    ap (λ (b : Bool). special a || b)
-    (both-same (saidBy truths (r .precondition)) (getD conflicted a false) (conflicting (saidBy truths) (effectAt effects) (r .first) (r .count))
-    (λ t. B .whole a (listed t) t) (B .sound a))
+allowed-possible {effects} {actions} {list} {truths} {conflicted} a B listed = allowed-marked effects actions truths conflicted a (λ t. B .whole a (listed t) t) (B .sound a)

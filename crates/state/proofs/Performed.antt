@@ -17,7 +17,7 @@ use Rattle.records.specs.Records.{effectAt, actionAt}
 use Rattle.golog.specs.declared.State.{State}
 use Rattle.golog.specs.World.{start, possibleBy, changes, given, each, changed, performBy}
 use Rattle.golog.proofs.Possible.{conflict-same}
-use Rattle.golog.proofs.Moves.{given-none, given-here, given-later, changed-at}
+use Rattle.golog.proofs.Moves.{given-none, given-here, given-later, length-each, changed-at}
 use Rattle.state.specs.Ranges.{Names, ConditionsBelow}
 
 module _ (says : ℕ → Bool) (effects : List ℕ) (x old : ℕ) where
@@ -58,11 +58,6 @@ module _ (says : ℕ → Bool) (effects : List ℕ) (x old : ℕ) where
 
     pub passed-all : first + count ≤ i → value ≡ given says (effectAt effects) x old first count
     passed-all l = p .kept ∙ sym (given-none says (effectAt effects) x old i) ∙ ap (given says (effectAt effects) x old i) (omega arith) ∙ p .same
-
-length-each : (f : ℕ → ℕ → ℕ) (x : ℕ) (l : List ℕ) → length (each f x l) ≡ length l
-unfolding each
-length-each f x [] = refl
-length-each f x (v ∷ l) = ap suc (length-each f (suc x) l)
 
 each-same : (f g : ℕ → ℕ → ℕ) → ((x v : ℕ) → f x v ≡ g x v) → (x : ℕ) (l : List ℕ) → each f x l ≡ each g x l
 unfolding each

@@ -8,7 +8,7 @@ use lib.ListN.{length, getD}
 use Rattle.records.specs.declared.Formula.{Formula}
 use Rattle.records.specs.Records.{formulaAt, effectAt, actionAt}
 use Rattle.kinds.specs.Formulas.{asksValue}
-use Rattle.golog.specs.Possible.{InRange}
+use Rattle.records.specs.Some.{InRange}
 use Rattle.state.specs.Ranges.{Names, ConditionsBelow}
 
 -- a formula asks that a fluent has a value, one that a fluent may have

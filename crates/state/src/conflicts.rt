@@ -46,7 +46,7 @@ pub fn conflict(effects: &[u8], first: usize, count: usize, truths: &[bool]) -> 
 }
 
 // Whether effects of an action contradict each other although its precondition holds.
-fn is_in_conflict(effects: &[u8], r: Action, truths: &[bool]) -> bool
+pub fn is_in_conflict(effects: &[u8], r: Action, truths: &[bool]) -> bool
     requires { ⌜ (4 * (r .first + r .count) ≤ length (now effects)) × Names (now effects) 32 (r .first) (r .count) ⌝ }
     ensures { λ b. ⌜ b ≡ inConflict (now (effects .entry)) (now (truths .entry)) r ⌝ }
 {

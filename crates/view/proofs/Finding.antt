@@ -58,13 +58,13 @@ module _ (s : List ℕ) (at : ℕ) where
       length-take-le (length s - at) (drop at s) (let d = length-drop at s in omega (arith, d)) in
       rw long (omega arith)
 
-module _ (s : List ℕ) (w x : ℕ) (e : checkOf s ≡ Accepted w) where
+module _ (s : List ℕ) (w u x : ℕ) (e : checkOf s ≡ Accepted w u) where
   -- the bytes from the table on hold as many fluents as the trailer counts
   whole : countFrom s (layoutOf s .fluents) ≡ layoutOf s .f
   unfolding countFrom layoutOf layoutIn
   whole =
-      let l = laid s (w, e) in
-      let t = trailed s (w, e) in
+      let l = laid s (w, u, e) in
+      let t = trailed s (w, u, e) in
       let m : min (trailerOf s .f) ((length s - layoutOf s .fluents) / 2) ≡ trailerOf s .f =
       omega (arith, l .at-formulas, l .at-effects, l .at-actions, l .at-programs, l .at-end, l .inside) in
       simp (le-ltb (length s) 18 (t .long)) m
@@ -74,7 +74,7 @@ module _ (s : List ℕ) (w x : ℕ) (e : checkOf s ≡ Accepted w) where
   accepted =
       let l = layoutOf s in
       let n : ℕ = length s in
-      let f = laid s (w, e) in
+      let f = laid s (w, u, e) in
       let all : l .formulas ≤ n = omega (arith, f .at-effects, f .at-actions, f .at-programs, f .at-end, f .inside) in
       ap (λ (k : ℕ). lookedIn (part s (l .fluents) n) k x) whole
       ∙ same-in (part s (l .fluents) n) (fluentsIn s l) (l .f) x
@@ -87,7 +87,7 @@ unfolding foundFrom
 refused s n p x l = simp (ne-eqb n 0 (λ (z : n ≡ 0). omega arith))
 
 found-as : (s : RefT (List ℕ)) (x : ℕ) (c : Checked) → checkOf (now s) ≡ c → Numbered c → foundIn (viewWith s (openedAs (now s) c)) x ≡ lookedUp (now s) x c
-found-as s x (Accepted w) e h = accepted (now s) w x e
+found-as s x (Accepted w u) e h = accepted (now s) w u x e
 found-as s x (Refused why) e h = refused (now s) (why .number) (why .place) x (h .0)
 
 pub found : (s : RefT (List ℕ)) (x : ℕ) → foundIn (viewOf s) x ≡ lookOf (now s) x

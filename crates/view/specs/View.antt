@@ -20,7 +20,7 @@ use Rattle.view.specs.declared.View.{View}
 
 -- of a sheet that is accepted, where its fluents start; of one that is not, why
 abbrev pub openedAs : List ℕ → Checked → Opened
-openedAs s (checked.Accepted w) = record { at = layoutOf s .fluents; number = 0; place = 0 }
+openedAs s (checked.Accepted w u) = record { at = layoutOf s .fluents; number = 0; place = 0 }
 openedAs s (checked.Refused why) = record { at = 0; number = why .number; place = why .place }
 
 abbrev pub openedOf : List ℕ → Opened

@@ -6,7 +6,7 @@
 //! ```
 //! /// The moves of a plan.
 //! fn moves(sheet: &[u8]) -> Result<Vec<u16>, library::Refusal> {
-//!     let [words] = library::check(sheet).into_result()?;
+//!     let [words, _] = library::check(sheet).into_result()?;
 //!     let [_, bound] = library::sizes(sheet).into_result()?;
 //!     let (mut work, mut trace) = (vec![0; words], vec![0; bound]);
 //!     let [n, _] = library::plan(sheet, &mut work, &mut trace, &mut []).into_result()?;
@@ -81,7 +81,13 @@ impl<const N: usize> Answer<N> {
 
 mod c {
     unsafe extern "C" {
-        pub fn planner_raw_check(sheet: *const u8, sheet_len: usize, words: *mut usize, place: *mut usize) -> u32;
+        pub fn planner_raw_check(
+            sheet: *const u8,
+            sheet_len: usize,
+            words: *mut usize,
+            names: *mut u32,
+            place: *mut usize,
+        ) -> u32;
         pub fn planner_raw_sizes(
             sheet: *const u8,
             sheet_len: usize,
@@ -127,12 +133,14 @@ mod c {
 // Why the calls below are safe: a Rust slice's pointer is never null and is aligned, and borrows keep the lent areas
 // apart and alive for the time of the call, after which the library keeps none of them.
 
-/// Result: the words of work that planning and replay require.
-pub fn check(sheet: &[u8]) -> Answer<1> {
+/// Results: the words of work that planning and replay require, and the set of the fluents that formulas name, bit x
+/// for fluent x (document 02, F-5). Initial values of fluents outside the set never change an answer.
+pub fn check(sheet: &[u8]) -> Answer<2> {
     let [mut words, mut place] = [UNWRITTEN; 2];
+    let mut names = UNWRITTEN as u32;
     // SAFETY: above.
-    let number = unsafe { c::planner_raw_check(sheet.as_ptr(), sheet.len(), &mut words, &mut place) };
-    Answer { number, place, results: [words] }
+    let number = unsafe { c::planner_raw_check(sheet.as_ptr(), sheet.len(), &mut words, &mut names, &mut place) };
+    Answer { number, place, results: [words, names as usize] }
 }
 
 /// Results: the number of fluents, F, and the bound D, which is how many entries of trace planning requires.

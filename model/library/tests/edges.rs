@@ -1,10 +1,11 @@
 //! Document 01's edges of the lent areas, on case 3: "272 words give 11, trace of 1 gives 10, both give 10". That its
-//! plan stays under a higher bound, and with an index of any length. Case 13 by F-2. What is told of a sheet's sizes and
-//! notes. What a refusal says in words.
+//! plan stays under a higher bound, and with an index of any length. Case 13 by F-2. Which fluents are named, by F-5, and
+//! that others change no answer. What is told of a sheet's sizes and notes. What a refusal says in words.
 
 use library::{check, notes, plan, replay, sizes, Answer, Refusal};
+use model::sheet::Formula;
 use model::sheet::Program::Act;
-use sheets::cases::{case_13, three_sections, with_action_2, CASE_3, EQUAL};
+use sheets::cases::{case_13, doubled, three_sections, with_action_2, CASE_3, EQUAL};
 use sheets::write::Records;
 
 fn case_3() -> Vec<u8> {
@@ -28,7 +29,7 @@ fn planned(words: usize, entries: usize, index: usize) -> Planned {
 
 #[test]
 fn figure() {
-    assert_eq!(check(&case_3()), Answer { number: 0, place: 0, results: [273] });
+    assert_eq!(check(&case_3()), Answer { number: 0, place: 0, results: [273, 0b11] });
 }
 
 #[test]
@@ -49,7 +50,7 @@ fn found_in_areas_of_any_content_and_length() {
 fn the_plan_stays_under_a_higher_bound() {
     for bound in [2, 3, 64] {
         let sheet = three_sections(&CASE_3, bound).bytes();
-        let [words] = check(&sheet).into_result().expect("the sheet is accepted");
+        let [words, _] = check(&sheet).into_result().expect("the sheet is accepted");
         let (mut work, mut trace) = (vec![1; words], vec![1; 64]);
         assert_eq!(plan(&sheet, &mut work, &mut trace, &mut []), Answer { number: 0, place: 0, results: [2, 2] });
         assert_eq!(trace[..2], [0, 1]);
@@ -84,10 +85,47 @@ fn case_13_is_not_replayed() {
     let equal = with_action_2(&EQUAL, &[Act(2)], 1);
     for (records, number, yes) in [(case_13(), 13, 0), (equal, 0, 1)] {
         let sheet = records.bytes();
-        let [words] = check(&sheet).into_result().expect("the sheet is accepted");
+        let [words, _] = check(&sheet).into_result().expect("the sheet is accepted");
         let (mut work, mut trace) = (vec![1; words], vec![1; 1]);
         assert_eq!(plan(&sheet, &mut work, &mut trace, &mut []).number, number);
         assert_eq!(replay(&sheet, &[2], &mut work), Answer { number: 0, place: 0, results: [yes] });
+    }
+}
+
+/// Document 02, F-5: "the union over its formula table". Beside a number it is 0.
+#[test]
+fn fluents_that_formulas_name() {
+    let names = |records: &Records| check(&records.bytes()).results[1];
+    assert_eq!(names(&doubled()), 0x8000_0001);
+    // Action 0 gives fluent 2 a value, and nothing uses the formula about fluent 3.
+    let mut records = three_sections(&CASE_3, 2);
+    records.fluents.extend([[3, 0]; 2]);
+    records.effects[0].1 = [2, 1];
+    assert_eq!(names(&records), 0b0011);
+    records.formula(Formula::Less(3, 1));
+    assert_eq!(names(&records), 0b1011);
+    records.fluents[3] = [17, 0];
+    assert_eq!(check(&records.bytes()), Answer { number: 4, place: 3, results: [0, 0] });
+}
+
+/// The same: the initial value of a fluent outside the set changes no answer, though action 1 gives it a value.
+#[test]
+fn a_fluent_that_no_formula_names() {
+    let answers = |initial| {
+        let mut records = three_sections(&CASE_3, 2);
+        let fluent = records.fluent(3, initial);
+        records.effect(3, fluent, 1);
+        records.actions[1] = [2, 1, 2];
+        let sheet = records.bytes();
+        let (mut work, mut trace) = (vec![1; 273], vec![1; 3]);
+        let planned = plan(&sheet, &mut work, &mut trace, &mut []);
+        (check(&sheet), planned, trace, replay(&sheet, &[0, 1], &mut work), replay(&sheet, &[1], &mut work))
+    };
+    let [yes, no] = [1, 0].map(|yes| Answer { number: 0, place: 0, results: [yes] });
+    let accepted = Answer { number: 0, place: 0, results: [273, 0b011] };
+    let found = Answer { number: 0, place: 0, results: [2, 2] };
+    for initial in 0..3 {
+        assert_eq!(answers(initial), (accepted, found, vec![0, 1, 1], yes, no));
     }
 }
 

@@ -72,7 +72,10 @@ replayed: yes
 #[test]
 fn the_example_in_c_says_why_not() {
     let (printed, status) = output(&PLAN, &example("berth-too-soon"));
-    assert!(printed.ends_with("\nrefused 14 0: there is no plan within the bound\n"));
+    assert!(printed.ends_with(
+        "\nfluent 2 has 16 values, at first 13\nfluent 3 has 14 values, at first 0: no formula names it\n\
+         refused 14 0: there is no plan within the bound\n"
+    ));
     assert_eq!(status, Some(1));
     let refused = "refused 1 0: under 18 bytes, or last two bytes wrong\n";
     assert_eq!(output(&PLAN, b"no sheet"), (refused.to_string(), Some(1)));

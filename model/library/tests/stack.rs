@@ -29,7 +29,7 @@ fn measured(program: &Path, call: &str, deep: &Deep) -> [usize; 2] {
 
 /// That searches do make 64 transitions: the plan has as many, with an index and without, and its history is replayed.
 fn goes_down(deep: &Deep) {
-    let [words] = library::check(&deep.sheet).into_result().expect("the sheet is accepted");
+    let [words, _] = library::check(&deep.sheet).into_result().expect("the sheet is accepted");
     let mut work = vec![0; words];
     for length in [0, INDEX] {
         let (mut trace, mut index) = (vec![0; 64], vec![1; length]);

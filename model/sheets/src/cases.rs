@@ -1,5 +1,5 @@
 //! Document 01, "A quay of three sections": its cases and edges, each with what the program prints; case 13 by F-2 of
-//! document 02, with more cases beside it.
+//! document 02, with more cases beside it. A sheet for F-5.
 
 use crate::write::Records;
 use model::sheet::Formula;
@@ -127,6 +127,18 @@ pub fn conflicts() -> Vec<Case> {
         case("interrupt, conflict", &DIFFERENT, interrupt, 2, "found 2 2\n65534\n65535\n"),
         case("interrupt, equal values", &EQUAL, interrupt, 2, "refused 14 0\n"),
     ]
+}
+
+/// Document 02, F-5: 512 formulas, the first about fluents 0 and 31, each other one "a and a" of the one before it. The
+/// action's precondition is the last.
+pub fn doubled() -> Records {
+    let mut records = Records { fluents: vec![[1, 0]; 32], actions: vec![[511, 0, 0]], ..Records::default() };
+    records.formula(Formula::Equal(0, 31));
+    for before in 0..511 {
+        records.formula(Formula::And(before, before));
+    }
+    records.program(Act(0));
+    records
 }
 
 /// The edges of a sheet and of the program's input, on case 3 or on nil.

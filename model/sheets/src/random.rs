@@ -1,12 +1,14 @@
-//! Random sheets, damaged sheets and histories, the same for the same seed.
+//! Random sheets, pairs of them, damaged sheets and histories, the same for the same seed.
 
 mod damaged;
 mod histories;
+mod initials;
 mod limits;
 mod well_formed;
 
 pub use damaged::damaged;
 pub use histories::{accepted, near_miss, run, unknown};
+pub use initials::other_initials;
 pub use well_formed::{large, searchable, small};
 
 /// A generator of numbers (splitmix64).

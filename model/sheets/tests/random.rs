@@ -3,7 +3,7 @@
 use model::meaning::{Configuration, Moment};
 use model::planner::{depth_first, plan, replay, Plan};
 use model::sheet::{check, Action, Formula, Program, Sheet};
-use sheets::random::{accepted, damaged, near_miss, run, searchable, unknown, Random};
+use sheets::random::{accepted, damaged, near_miss, other_initials, run, searchable, unknown, Random};
 use std::collections::{BTreeSet, HashMap, HashSet};
 use std::mem::{self, discriminant};
 
@@ -50,7 +50,7 @@ fn every_verdict_and_every_kind_has_a_fair_share() {
     for share in [plans, nothing, more] {
         assert!(share * 4 > count);
     }
-    assert!(moves * 7 > count && interrupted * 6 > count && shared * 4 > count && nested * 100 > count);
+    assert!(moves * 8 > count && interrupted * 6 > count && shared * 4 > count && nested * 100 > count);
     assert!(kinds.len() == 12 && kinds.values().all(|&reached| reached * 20 > count));
 }
 
@@ -232,4 +232,47 @@ fn conditions_exclude_each_other() {
     }
     println!("of {count}: with a possible action whose effects' conditions exclude each other {performed}");
     assert!(performed * 50 > count);
+}
+
+/// The bytes in which a sheet differs from another, and the fluents whose initial values they are.
+fn changed(bytes: &[u8], other: &[u8], sheet: &Sheet) -> (usize, Vec<usize>) {
+    let differ = (0..bytes.len()).filter(|&at| bytes[at] != other[at]).count();
+    let initial = |x: usize| sheet.notes.end + 2 * x + 1;
+    (differ, (0..sheet.fluents.len()).filter(|&x| bytes[initial(x)] != other[initial(x)]).collect())
+}
+
+/// Whether two effects of the action hold and give one of these fluents different values.
+fn conflicts_on(sheet: &Sheet, moment: &Moment, action: usize, fluents: &[usize]) -> bool {
+    let effects = sheet.effects[sheet.actions[action].effects.clone()].iter();
+    let mut values = HashMap::new();
+    effects
+        .filter(|effect| fluents.contains(&effect.fluent) && moment.holds(effect.condition))
+        .any(|effect| *values.entry(effect.fluent).or_insert(effect.value) != effect.value)
+}
+
+#[test]
+fn pairs_differ_where_runs_give_values_and_effects_conflict() {
+    let mut random = Random::new(18);
+    let count = 3000;
+    let (mut pairs, mut plans, mut given, mut conflict) = (0, 0, 0, 0);
+    for _ in 0..count {
+        let (bytes, sheet) = searchable(&mut random, 3000);
+        let outside = !sheet.names();
+        let Some(other) = other_initials(&mut random, &bytes, &sheet, outside) else { continue };
+        let (differ, fluents) = changed(&bytes, &other, &sheet);
+        assert!(check(&other).is_ok() && differ > 0 && differ == fluents.len());
+        assert!(fluents.iter().all(|x| outside >> x & 1 == 1));
+        pairs += 1;
+        plans += usize::from(plan(&sheet).is_ok());
+        let reached = configurations(&sheet);
+        let first = Configuration::first(&sheet).state;
+        given += usize::from(reached.iter().any(|c| fluents.iter().any(|&x| c.state.values[x] != first.values[x])));
+        conflict += usize::from(reached.iter().any(|from| {
+            let moment = Moment::new(&sheet, from.state);
+            judged(&sheet, &moment)[0].iter().any(|&action| conflicts_on(&sheet, &moment, action, &fluents))
+        }));
+    }
+    println!("of {count}: pairs that differ outside the set {pairs}, with a plan {plans}; with a run that gives such");
+    println!("a fluent another value {given}, with effects on one that conflict {conflict}");
+    assert!(pairs * 3 > count && plans * 8 > count && given * 12 > count && conflict * 60 > count);
 }

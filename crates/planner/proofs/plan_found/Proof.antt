@@ -38,7 +38,7 @@ returns c =
     let at-start = start-from-then1 (c .before) in
     let O = at-start .pre in
     let e = ap (λ (l : Layout). l .d) (O .layout-is) in
-    let r = ten _ _ (answered O) (now (at-start .args .work)) (now (at-start .args .trace)) (omega (arith, e, c .before .if1 .taken)) (now (at-start .args .index)) in
+    let r = ten _ _ _ (answered O) (now (at-start .args .work)) (now (at-start .args .trace)) (omega (arith, e, c .before .if1 .taken)) (now (at-start .args .index)) in
     (c .refused .ensures ∙ sym (r .0), (sym (r .1), (sym (r .2), sym (r .3))))
 
 refused-requires-2 : tie.Need-refused-requires-2
@@ -49,7 +49,7 @@ returns-2 c =
     let at-start = start-from-then2 (c .before) in
     let O = at-start .pre in
     let e = ap (λ (l : Layout). l .d) (O .layout-is) in
-    let r = eleven _ _ (answered O) (now (at-start .args .work)) (c .before .if2 .taken) (now (at-start .args .trace)) (now (at-start .args .index))
+    let r = eleven _ _ _ (answered O) (now (at-start .args .work)) (c .before .if2 .taken) (now (at-start .args .trace)) (now (at-start .args .index))
     (omega (arith, e, c .before .before .if1 .left)) in
     (c .refused2 .ensures ∙ sym (r .0), (sym (r .1), (sym (r .2), sym (r .3))))
 
@@ -96,8 +96,8 @@ returns-3 c =
     let p = answered O in
     let e = ap (λ (l : Layout). l .d) (O .layout-is) in
     let long : boundOf s ≤ length trace = omega (arith, e, at-if1 .if1 .left) in
-    let r = planning s w p work trace (at-if2 .if2 .left) long (at-plan .plan .last .1 .1 .1 .0) (at-plan .plan .result) (at-plan .plan .ensures .0) in
-    let q = plan-cleared s w p work (at-if2 .if2 .left) trace long (now (at-start .args .index)) in
+    let r = planning s w _ p work trace (at-if2 .if2 .left) long (at-plan .plan .last .1 .1 .1 .0) (at-plan .plan .result) (at-plan .plan .ensures .0) in
+    let q = plan-cleared s w _ p work (at-if2 .if2 .left) trace long (now (at-start .args .index)) in
     (c .answer-of .ensures ∙ r .0, (r .1, (cleared w work _ (at-plan .plan .ensures .1 .0) (at-if2 .if2 .left) ∙ sym (q .0), at-plan .plan .ensures .1 .1 ∙ sym (q .1))))
 
 pub plan-found-spec : {M : Type 1} → statement M

@@ -31,7 +31,7 @@ start-from-then2 c = start-from-else1 (c .before)
 returns : tie.Need-returns
 returns c =
     let at-start = start-from-returns c in
-    let r = eleven-reply _ _ (answered (at-start .pre)) (now (at-start .args .work)) (c .if1 .taken) (now (at-start .args .history)) in
+    let r = eleven-reply _ _ _ (answered (at-start .pre)) (now (at-start .args .work)) (c .if1 .taken) (now (at-start .args .history)) in
     (sym (r .0), sym (r .1))
 
 slice-relend-prefix-clear : tie.Need-slice-relend-prefix-clear
@@ -58,8 +58,8 @@ returns-2 c =
     let work = now (at-start .args .work) in
     let O = at-start .pre in
     let e = ap (λ (l : Layout). l .d) (O .layout-is) in (
-      longer s w (answered O) work (at-if1 .if1 .left) (now (at-start .args .history)) (omega (arith, e, at-if2 .if2 .taken)),
-      cleared w work _ (c .before .before .clear .ensures) (at-if1 .if1 .left) ∙ sym (replay-cleared s w (answered O) work (at-if1 .if1 .left)),
+      longer s w _ (answered O) work (at-if1 .if1 .left) (now (at-start .args .history)) (omega (arith, e, at-if2 .if2 .taken)),
+      cleared w work _ (c .before .before .clear .ensures) (at-if1 .if1 .left) ∙ sym (replay-cleared s w _ (answered O) work (at-if1 .if1 .left)),
     )
 
 slice-relend-prefix-accepts : tie.Need-slice-relend-prefix-accepts
@@ -93,8 +93,8 @@ returns-3 c =
     let w = at-start .args .found .words in
     let work = now (at-start .args .work) in
     let p = answered (at-start .pre) in
-    let r = replaying s w p work (at-if1 .if1 .left) (now (at-start .args .history)) (at-accepts .accepts .result) (at-accepts .accepts .ensures .0) in
-    (c .reply-of .ensures ∙ r, cleared w work _ (at-accepts .accepts .ensures .1) (at-if1 .if1 .left) ∙ sym (replay-cleared s w p work (at-if1 .if1 .left)))
+    let r = replaying s w _ p work (at-if1 .if1 .left) (now (at-start .args .history)) (at-accepts .accepts .result) (at-accepts .accepts .ensures .0) in
+    (c .reply-of .ensures ∙ r, cleared w work _ (at-accepts .accepts .ensures .1) (at-if1 .if1 .left) ∙ sym (replay-cleared s w _ p work (at-if1 .if1 .left)))
 
 pub replay-found-spec : {M : Type 1} → statement M
 replay-found-spec =

@@ -1,6 +1,6 @@
 -- The answer's number and values, case by case. Assumes nothing.
 use mathlib.Core.Path.{sym, _∙_, ap}
-use Rattle.sheet.specs.Check.{numberOf, wordsOf, placeOf}
+use Rattle.sheet.specs.Check.{numberOf, wordsOf, fluentsNamed, placeOf}
 use borrow.Author.Needs.{needs}
 use Rattle.planner_c.proofs.planner_raw_check.Statement.{statement}
 use Rattle.planner_c.proofs.planner_raw_check.Tie as tie
@@ -17,12 +17,12 @@ enum-known-why c = search needs
 returns : tie.Need-returns
 returns c =
     let q = sym (c .before .before .before .check .ensures) ∙ c .before .w .given .1 in
-    (sym (ap numberOf q), (sym (ap wordsOf q), sym (ap placeOf q)))
+    (sym (ap numberOf q), (sym (ap wordsOf q), (sym (ap fluentsNamed q), sym (ap placeOf q))))
 
 returns-2 : tie.Need-returns-2
 returns-2 c =
     let q = sym (c .before .before .before .check .ensures) ∙ c .before .why .given .1 in
-    (sym (ap numberOf q), (sym (ap wordsOf q), sym (ap placeOf q)))
+    (sym (ap numberOf q), (sym (ap wordsOf q), (sym (ap fluentsNamed q), sym (ap placeOf q))))
 
 pub planner-raw-check-spec : {M : Type 1} → statement M
 planner-raw-check-spec =

@@ -5,7 +5,10 @@
 //! long enough, longer, one short, both short, empty. A plan is judged by the model's layers, and is then compared with
 //! the model's first plan (document 02, F-1): n, t and the whole trace. An index has any length (F-4): none, too short
 //! for an entry, for few entries, for all; some sheets are planned twice, with indexes of different lengths, and the two
-//! calls compared with each other. The first disagreement ends the program with status 1 and the sheet in hex.
+//! calls compared with each other. A sheet that has fluents outside the set that checking tells (F-5) is compared with
+//! the same sheet under other initial values of these: the library's answers are the same. Under other initial values of
+//! fluents inside the set they must differ at times, else this comparison could not fail. The first disagreement ends
+//! the program with status 1 and the sheet in hex.
 
 #![forbid(unsafe_code)]
 
@@ -14,7 +17,7 @@ use model::planner::{self, judge, verdict, Plan};
 use model::refusal::Refusal;
 use model::sheet::{self, Sheet};
 use sheets::examples::examples;
-use sheets::random::{accepted, damaged, large, near_miss, run, searchable, unknown, Random};
+use sheets::random::{accepted, damaged, large, near_miss, other_initials, run, searchable, unknown, Random};
 use sheets::runs;
 use std::env;
 use std::fmt::Debug;
@@ -29,6 +32,10 @@ const COUNT: usize = 120_000;
 const MOST_RUNS: usize = 3_000;
 /// Of the sheets that are planned, how many of a hundred are planned twice.
 const TWICE: usize = 25;
+/// Of the sheets that are planned, how many of a hundred get other initial values inside the set.
+const INSIDE: usize = 25;
+/// From so many sheets on pairs must show something: a plan where they differ outside the set, another answer inside it.
+const ENOUGH: usize = 1_000;
 
 /// What differs, in words.
 type Outcome = Result<(), String>;
@@ -137,6 +144,12 @@ struct Counts {
     no: usize,
     /// Sheets that were planned twice.
     twice: usize,
+    /// Pairs of sheets that differ in initial values outside the set, and those of them that have a plan.
+    outside: usize,
+    outside_plans: usize,
+    /// Pairs that differ inside it, and those of them whose answers differ.
+    inside: usize,
+    inside_others: usize,
     examples: usize,
 }
 
@@ -162,6 +175,22 @@ impl Given {
     }
 }
 
+/// What the library answers on a sheet: check, plan with all of the trace, and replay of some histories.
+#[derive(Debug, PartialEq)]
+struct Answers {
+    check: Answer<2>,
+    plan: Answer<2>,
+    trace: Vec<u16>,
+    replies: Vec<Answer<1>>,
+}
+
+/// The fluents whose initial values are not the same, with those of either sheet.
+fn different_initials(one: &Sheet, other: &Sheet) -> Vec<(usize, u8, u8)> {
+    let both = one.fluents.iter().zip(&other.fluents).enumerate();
+    let initials = both.map(|(x, (one, other))| (x, one.initial, other.initial));
+    initials.filter(|(_, one, other)| one != other).collect()
+}
+
 struct Compare {
     random: Random,
     counts: Counts,
@@ -175,7 +204,8 @@ impl Compare {
     /// The calls that lend nothing for writing.
     fn reading(&mut self, given: &Given) -> Outcome {
         let bytes = given.bytes.read();
-        same("check", answer(given.sheet().map(|sheet| [sheet.work()])), library::check(bytes))?;
+        let checked = given.sheet().map(|sheet| [sheet.work(), sheet.names() as usize]);
+        same("check", answer(checked), library::check(bytes))?;
         let sizes = sheet::sizes(bytes).map(|(fluents, bound)| [fluents, bound]);
         same("sizes", answer(sizes), library::sizes(bytes))?;
         same("notes", answer(given.sheet().map(|sheet| [sheet.notes.end])), library::notes(bytes))?;
@@ -242,6 +272,51 @@ impl Compare {
         }
         self.counts.twice += 1;
         Ok(())
+    }
+
+    /// Pairs of sheets that differ in initial values alone: of fluents outside the set that the library tells, where the
+    /// answers are the same, and sometimes of fluents inside it.
+    fn pairs(&mut self, bytes: &[u8], sheet: &Sheet, histories: &[Vec<u16>]) -> Outcome {
+        let [_, names] = library::check(bytes).results;
+        let names = names as u32;
+        if let Some(other) = other_initials(&mut self.random, bytes, sheet, !names) {
+            let [one, two] = self.answers([bytes, &other], sheet, histories);
+            if one != two {
+                let other = sheet::check(&other).map_err(|refusal| format!("other initial values: {refusal}"))?;
+                let fluents = different_initials(sheet, &other);
+                return Err(format!("other initial values {fluents:?} outside {names:#b}: {one:?}, {two:?}"));
+            }
+            self.counts.outside += 1;
+            self.counts.outside_plans += usize::from(one.plan.number == 0);
+        }
+        if self.random.percent(INSIDE) {
+            self.inside(bytes, sheet, names, histories);
+        }
+        Ok(())
+    }
+
+    /// Other initial values of fluents that are named, where the search still ends soon.
+    fn inside(&mut self, bytes: &[u8], sheet: &Sheet, names: u32, histories: &[Vec<u16>]) {
+        let Some(other) = other_initials(&mut self.random, bytes, sheet, names) else { return };
+        if sheet::check(&other).is_ok_and(|other| runs::few(&other, MOST_RUNS)) {
+            let [one, two] = self.answers([bytes, &other], sheet, histories);
+            self.counts.inside += 1;
+            self.counts.inside_others += usize::from(one != two);
+        }
+    }
+
+    /// What the library answers on two sheets, in the same areas.
+    fn answers(&mut self, pair: [&[u8]; 2], sheet: &Sheet, histories: &[Vec<u16>]) -> [Answers; 2] {
+        let work = lent_area(&mut self.random, sheet.work(), garbage_word);
+        let trace = lent_area(&mut self.random, sheet.bound, garbage_entry);
+        let length = index_length(&mut self.random);
+        let index = lent_area(&mut self.random, length, garbage_word);
+        pair.map(|bytes| {
+            let (mut work, mut trace, mut index) = (work.clone(), trace.clone(), index.clone());
+            let plan = library::plan(bytes, work.lend(), trace.lend(), index.lend());
+            let replies = histories.iter().map(|history| library::replay(bytes, history, work.lend())).collect();
+            Answers { check: library::check(bytes), plan, trace: trace.is, replies }
+        })
     }
 
     /// The verdict by the model's layers; and a plan, were it not the first, is the history of a run of t transitions,
@@ -319,12 +394,16 @@ impl Compare {
         histories.push(unknown(&mut self.random, sheet, &reached));
         histories.push([&reached[..], &[0; 70]].concat());
         histories.push(reached);
-        histories.extend(found.ok().map(|plan| plan.history));
+        let moves = found.ok().map(|plan| plan.history);
+        histories.extend(moves.clone());
         for (number, history) in histories.iter().enumerate() {
             self.replay(&given, history, if number % 2 == 0 { words } else { longer[0] })?;
         }
         self.replay(&given, &histories[0], words - 1)?;
-        self.replay(&given, &histories[1], 0)
+        self.replay(&given, &histories[1], 0)?;
+        let moves = moves.unwrap_or_default();
+        histories.extend((0..moves.len()).map(|length| moves[..length].to_vec()));
+        self.pairs(bytes, sheet, &histories)
     }
 
     /// A sheet with large tables; it is planned only if its search ends soon.
@@ -408,16 +487,23 @@ fn main() -> ExitCode {
     let seed = setting("SEED", 1);
     let mut compare = Compare { random: Random::new(seed as u64), counts: Counts::default() };
     let outcome = compare.all(setting("COUNT", COUNT));
-    let Counts { sheets, plans, others, nothing, more, large, damaged, yes, no, twice, examples } = compare.counts;
+    let Counts { sheets, plans, others, nothing, more, large, damaged, yes, no, twice, examples, .. } = compare.counts;
+    let Counts { outside, outside_plans, inside, inside_others, .. } = compare.counts;
     println!("seed {seed}: {sheets} sheets and {examples} examples agree");
     println!("  planned: {plans} plans, {nothing} times 13, {more} times 14");
     println!("  plans that depth first in listed order does not give: {others}");
     println!("  planned twice, with indexes of different lengths: {twice}");
     println!("  with large tables: {large}; damaged: {damaged}");
     println!("  histories: {yes} yes, {no} no");
+    println!("  pairs under other initial values outside the set: {outside}, {outside_plans} with a plan");
+    println!("  the same inside the set: {inside}, {inside_others} with other answers");
     if let Err((what, sheet)) = outcome {
         eprintln!("disagreement after {sheets} sheets: {what}");
         print_hex(&sheet);
+        return ExitCode::FAILURE;
+    }
+    if sheets >= ENOUGH && (outside_plans == 0 || inside_others == 0) {
+        eprintln!("pairs show nothing: outside the set none has a plan, or inside it none has other answers");
         return ExitCode::FAILURE;
     }
     ExitCode::SUCCESS

@@ -1,8 +1,12 @@
-//! That `compare` catches wrong models: breaks a copy of the model, one construct or one word of F-1 or F-2 at a time,
-//! and counts the sheets until the comparison with the library ends in a disagreement, for three seeds each. Edits of
-//! the meaning add runs, since the library searches sheets that have few runs by the broken model's count; those that
+//! That `compare` catches wrong models: breaks a copy of the model, one construct or one word of F-1, F-2 or F-5 at a
+//! time, and counts the sheets until the comparison with the library ends in a disagreement, for three seeds each. Edits
+//! of the meaning add runs, since the library searches sheets that have few runs by the broken model's count; those that
 //! find conflicts where there are none take runs away, and are caught before a search takes long. Edits of the first
 //! plan keep verdicts, so that it is the plan that differs. The test sees that each edit still applies.
+//!
+//! Edits of F-5 break the set of a sheet, which is all that the library's calls tell. There a subformula counts by
+//! itself, and no action is asked: that formulas' sets go through subformulas, and actions' sets through the conditions
+//! of all their effects and no further, `tests/named.rs` sees, and the model's `tests/names.rs`.
 
 #![forbid(unsafe_code)]
 
@@ -14,7 +18,7 @@ use std::{env, fs, io};
 struct Edit(&'static str, &'static str, &'static str);
 
 #[rustfmt::skip]
-const EDITS: [Edit; 28] = [
+const EDITS: [Edit; 34] = [
     Edit("sizes: D in the place of F",
         "Ok((sheet.fluents.len(), sheet.bound))",
         "Ok((sheet.bound, sheet.bound))"),
@@ -121,6 +125,25 @@ const EDITS: [Edit; 28] = [
         if let Some(history) = beginnings.into_values().min() {
             return Ok(Plan { history, transitions });
         }"),
+    Edit("names: kinds 0 and 1 name fluent 0",
+        "True | False => vec![],",
+        "True | False => vec![0],"),
+    Edit("names: kind 3 names none",
+        "Is(x, _) | Less(x, _) => vec![x]",
+        "Is(x, _) => vec![x], Less(..) => vec![]"),
+    Edit("names: kind 4 names x only",
+        "Equal(x, y) => vec![x, y]",
+        "Equal(x, _) => vec![x]"),
+    Edit("names: only of formulas that actions use",
+        "self.named_by(0..self.formulas.len())",
+        "self.named_by(self.actions.iter().map(|action| action.precondition)
+            .chain(self.effects.iter().map(|effect| effect.condition)))"),
+    Edit("names: fluents that effects give values",
+        "self.named_by(0..self.formulas.len())",
+        "self.effects.iter().fold(self.named_by(0..self.formulas.len()), |set, effect| set | 1 << effect.fluent)"),
+    Edit("names: bits from the highest down",
+        "map(|x| 1 << x)",
+        "map(|x| 1 << (31 - x))"),
 ];
 
 fn repository() -> PathBuf {

@@ -1,6 +1,6 @@
 /*
- * What include/planner.h promises a C program: an empty slice may be a null pointer, in every call, and the most trace
- * and work that a sheet requires. Prints each expectation that fails; the status is 0 where none does.
+ * What include/planner.h promises a C program: an empty slice may be a null pointer, in every call; the most trace and
+ * work that a sheet requires; bit x of a set for fluent x. Prints each expectation that fails; the status is 0 where none does.
  */
 #include "planner.h"
 
@@ -22,7 +22,7 @@ static const uint8_t bounded_sheet[] = {
 /* What results hold before a call. */
 enum { GARBAGE = 0x5a5a };
 static size_t first, second, place;
-static uint32_t yes;
+static uint32_t names, yes;
 static uint32_t work[67];
 static uint32_t index_words[3];
 static int failures;
@@ -44,7 +44,9 @@ static void answers(const char *what, uint32_t number, uint32_t expected, size_t
 
 static void null_sheet(void)
 {
-    answers("check", planner_check(NULL, 0, &first, &place), 1, 0, GARBAGE);
+    names = GARBAGE;
+    answers("check", planner_check(NULL, 0, &first, &names, &place), 1, 0, GARBAGE);
+    expect("check: names", names == 0);
     answers("sizes", planner_sizes(NULL, 0, &first, &second, &place), 1, 0, 0);
     answers("plan", planner_plan(NULL, 0, NULL, 0, NULL, 0, NULL, 0, &first, &second, &place), 1, 0, 0);
     yes = GARBAGE;
@@ -88,8 +90,29 @@ static void largest(void)
     for (size_t i = 0; i < 18; i++) {
         sheet[RECORDS + i] = trailer[i];
     }
-    answers("most work", planner_check(sheet, COUNT(sheet), &first, &place), 0, PLANNER_WORK_MAX, GARBAGE);
+    answers("most work", planner_check(sheet, COUNT(sheet), &first, &names, &place), 0, PLANNER_WORK_MAX, GARBAGE);
+    expect("most work: names", names == 0);
     answers("most trace", planner_sizes(sheet, COUNT(sheet), &first, &second, &place), 0, 1, PLANNER_TRACE_MAX);
+}
+
+/* 32 fluents of one value, of which fluents 0 and 31 are asked to be equal, and nil. */
+static void bits(void)
+{
+    enum { FLUENTS = 32, RECORDS = 2 * FLUENTS + 6 + 8 };
+    static uint8_t sheet[RECORDS + 18];
+    static const uint8_t formula[6] = {4, 0, FLUENTS - 1, 0, 0, 0};
+    static const uint8_t trailer[18] = {FLUENTS, 0, 1, 0, 0, 0, 0, 0, 1, 0, 0, 0, RECORDS, 0, 0, 0, 0x42, 0x51};
+    for (size_t fluent = 0; fluent < FLUENTS; fluent++) {
+        sheet[2 * fluent] = 1;
+    }
+    for (size_t i = 0; i < 6; i++) {
+        sheet[2 * FLUENTS + i] = formula[i];
+    }
+    for (size_t i = 0; i < 18; i++) {
+        sheet[RECORDS + i] = trailer[i];
+    }
+    answers("bits", planner_check(sheet, COUNT(sheet), &first, &names, &place), 0, 67, GARBAGE);
+    expect("bits: names", names == UINT32_C(0x80000001));
 }
 
 int main(void)
@@ -98,5 +121,6 @@ int main(void)
     null_sheet();
     null_areas();
     largest();
+    bits();
     return failures == 0 ? 0 : 1;
 }

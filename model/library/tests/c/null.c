@@ -8,16 +8,16 @@
 #include <stdio.h>
 
 static size_t first, second, place;
-static uint32_t yes;
+static uint32_t names, yes;
 
 static int empty(const void *address, size_t alignment, size_t length)
 {
     return address != NULL && (uintptr_t)address % alignment == 0 && length == 0;
 }
 
-uint32_t planner_raw_check(const uint8_t *sheet, size_t sheet_len, size_t *words, size_t *where)
+uint32_t planner_raw_check(const uint8_t *sheet, size_t sheet_len, size_t *words, uint32_t *set, size_t *where)
 {
-    return empty(sheet, 1, sheet_len) && words == &first && where == &place;
+    return empty(sheet, 1, sheet_len) && words == &first && set == &names && where == &place;
 }
 
 uint32_t planner_raw_sizes(const uint8_t *sheet, size_t sheet_len, size_t *fluents, size_t *bound, size_t *where)
@@ -60,7 +60,7 @@ static int failed(const char *call, uint32_t as_given)
 
 int main(void)
 {
-    int failures = failed("check", planner_check(NULL, 0, &first, &place))
+    int failures = failed("check", planner_check(NULL, 0, &first, &names, &place))
                    + failed("sizes", planner_sizes(NULL, 0, &first, &second, &place))
                    + failed("plan", planner_plan(NULL, 0, NULL, 0, NULL, 0, NULL, 0, &first, &second, &place))
                    + failed("replay", planner_replay(NULL, 0, NULL, 0, NULL, 0, &yes, &place))

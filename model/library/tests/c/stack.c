@@ -24,11 +24,11 @@ static uint32_t work[PLANNER_WORK_MAX];
 static uint16_t trace[PLANNER_TRACE_MAX];
 static uint32_t index_words[INDEX];
 static size_t first, second, place;
-static uint32_t yes;
+static uint32_t names, yes;
 
 static uint32_t check(void)
 {
-    return planner_check(sheet, sheet_len, &first, &place);
+    return planner_check(sheet, sheet_len, &first, &names, &place);
 }
 
 static uint32_t sizes(void)

@@ -114,6 +114,28 @@ fn condition_on(random: &mut Random, records: &mut Records, fluent: usize) -> us
     records.formula(Formula::Not(number))
 }
 
+/// In one sheet of three adds a fluent that no formula names (document 02, F-5), on which most actions have an effect,
+/// some two.
+fn named_by_none(random: &mut Random, records: &mut Records) {
+    if records.formulas.is_empty() || records.fluents.len() == 32 || !random.percent(33) {
+        return;
+    }
+    let size = random.between(2, 4);
+    let initial = random.below(size);
+    let fluent = records.fluent(size as u8, initial as u8);
+    for number in 0..records.actions.len() {
+        let [precondition, first, count] = records.actions[number].map(usize::from);
+        let mut effects = records.effects[first..first + count].to_vec();
+        for _ in 0..random.pick(&[0, 1, 1, 1, 1, 1, 1, 2]) {
+            let place = random.below(effects.len() + 1);
+            let condition = condition(random, records) as u16;
+            effects.insert(place, (condition, [fluent as u8, random.below(size) as u8]));
+        }
+        records.actions[number] = [precondition, records.effects.len(), effects.len()].map(|field| field as u16);
+        records.effects.extend(effects);
+    }
+}
+
 /// Draws one program record of a kind out of `kinds`, or nil where the tables have nothing for it to name.
 fn program(random: &mut Random, records: &mut Records, kinds: &[u16], links: usize) -> usize {
     let kind = random.pick(kinds);
@@ -164,6 +186,7 @@ pub fn small(random: &mut Random) -> Records {
         program(random, &mut records, inner, links);
     }
     close(random, &mut records);
+    named_by_none(random, &mut records);
     notes(random, &mut records);
     records
 }
@@ -240,6 +263,7 @@ fn rivals(random: &mut Random) -> Records {
         records.program(Program::Interrupt(condition, root));
     }
     close(random, &mut records);
+    named_by_none(random, &mut records);
     notes(random, &mut records);
     records
 }

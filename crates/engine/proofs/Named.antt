@@ -1,0 +1,83 @@
+-- The sets that are made once of a sheet are those of its formulas and actions: preconditions and conditions are among the formulas.
+-- Assumes nothing.
+use mathlib.Core.Path.{_≡_, sym, _∙_, ap, subst}
+use mathlib.Core.Bool.{Bool}
+use mathlib.Core.List.{List}
+use Prim.Native.Nat.{ℕ, _+_, _*_, _≤_, _<_}
+use native.Mathlib.Omega.{arith}
+use borrow.Author.Tests.{le-ltb}
+use lib.ListN.{length}
+use Rattle.records.specs.Records.{actionAt}
+use Rattle.kinds.specs.Formulas.{LowerFormulas}
+use Rattle.named.specs.Tables.{setsOf, actionSetsOf, AreSets, AreActionSets, Ranged}
+use Rattle.named.proofs.Tables.{sets-are, action-sets-are}
+use Rattle.sheet.specs.Layout.{layoutOf, formulasIn, effectsIn, actionsIn}
+use Rattle.sheet.specs.Check.{Accepts}
+use Rattle.sheet.specs.Inspection.{Of}
+use Rattle.sheet.specs.declared.Layout.{Layout}
+use Rattle.sheet.specs.declared.Inspection.{Inspection}
+use Rattle.sheet.proofs.Accepted.{laid}
+use Rattle.sheet.proofs.Lower.{lower-formulas, action-of}
+use Rattle.golog.specs.declared.State.{State}
+use Rattle.golog.specs.World.{saysIn}
+use Rattle.demands.specs.Decoded.{worldOf}
+use Rattle.state.specs.Truths.{saidBy}
+use Rattle.state.specs.Ranges.{Names}
+use Rattle.state.specs.Evaluated.{possibilityBy}
+use Rattle.state.proofs.Noting.{allowed-marked}
+use Rattle.state.proofs.Performed.{possible-same}
+use Rattle.engine.specs.Tables.{truthsAt, formulasNamed, actionsNamed, NamedIn, Judged, ConflictOf}
+use Rattle.engine.specs.Evaluated.{possibility}
+use Rattle.engine.proofs.Actions.{conditions-below}
+use Rattle.engine.proofs.Conflicting.{listed-at}
+
+module _ {s : List ℕ} {m : Inspection} (O : Of s m) where
+  -- what is asked before they are made
+  pub formulas-lower : LowerFormulas (formulasIn s (m .layout)) (m .layout .q)
+  formulas-lower = subst (λ (l : Layout). LowerFormulas (formulasIn s l) (l .q)) (sym (O .layout-is)) (lower-formulas s (O .accepted))
+
+  pub ranged : Ranged (effectsIn s (m .layout)) (actionsIn s (m .layout)) (m .layout .a)
+  ranged =
+      subst (λ (l : Layout). Ranged (effectsIn s l) (actionsIn s l) (l .a)) (sym (O .layout-is))
+      (λ a h. let (small, p) = listed-at s (O .accepted) a h in (p .known (omega arith), p .range (omega arith)))
+
+  -- an action's range lies in the table of effects and names fluents that there can be
+  abbrev ReadableIn : Layout → (a : ℕ) → Type 0
+  ReadableIn l a = let r = actionAt (actionsIn s l) a in (4 * (r .first + r .count) ≤ length (effectsIn s l)) × Names (effectsIn s l) 32 (r .first) (r .count)
+
+  pub readable : (a : ℕ) → a < m .layout .a → ReadableIn (m .layout) a
+  readable a =
+      subst (λ (l : Layout). a < l .a → ReadableIn l a) (sym (O .layout-is))
+      (λ h. let (small, p) = listed-at s (O .accepted) a h in (p .range (omega arith), p .names (omega arith)))
+
+  -- what they are
+  pub named-told :
+      {numbers : List ℕ} → (let l = m .layout in let sets = setsOf (formulasIn s l) (l .q) in
+      formulasNamed numbers ≡ sets → actionsNamed numbers ≡ actionSetsOf (effectsIn s l) (actionsIn s l) sets (l .a) → NamedIn s numbers)
+  named-told {numbers} e f =
+      let l = layoutOf s in
+      let t = formulasIn s l in
+      let sets = setsOf t (l .q) in
+      let e₂ = e ∙ ap (λ (l : Layout). setsOf (formulasIn s l) (l .q)) (O .layout-is) in
+      let f₂ = f ∙ ap (λ (l : Layout). actionSetsOf (effectsIn s l) (actionsIn s l) (setsOf (formulasIn s l) (l .q)) (l .a)) (O .layout-is) in
+      let are = sets-are t (l .q) (lower-formulas s (O .accepted)) in
+      let W = worldOf s in
+      record {
+        formulas = subst (AreSets (W .formula) (l .q)) (sym e₂) are;
+        actions =
+            subst (AreActionSets (W .formula) (W .effect) (W .action) (l .a)) (sym f₂)
+            (action-sets-are (W .formula) (l .q) sets are (effectsIn s l) (actionsIn s l) (l .a)
+            (λ a h. action-of s (O .accepted) a h .0) (λ a h i (x, y). conditions-below s (O .accepted) a h i x y));
+      }
+
+-- in a state that was judged, what evaluating a formula and what a possible-check answer
+module _ {s : List ℕ} (accepted : Accepts s) {st : State} {d : ℕ} {flags : List Bool} {numbers : List ℕ} (J : Judged s st d flags numbers) where
+  pub possibility-told :
+      (a : ℕ) (conflicted : List Bool) → a < layoutOf s .a → ConflictOf s (truthsAt d flags) a conflicted
+      → possibilityBy (actionsIn s (layoutOf s)) (truthsAt d flags) conflicted (actionsNamed numbers) a ≡ possibility s st a
+  possibility-told a conflicted h e =
+      let allowed = allowed-marked (effectsIn s (layoutOf s)) (actionsIn s (layoutOf s)) (truthsAt d flags) conflicted a (λ t. e ∙ t) (λ t. sym e ∙ t) in
+      let same = possible-same _ _ (saidBy (truthsAt d flags)) (saysIn (worldOf s) st) _ (J .truths-are) a (action-of s accepted a h .0) (conditions-below s accepted a h) in
+      let small = le-ltb 65533 a (omega (arith, laid s accepted .a)) in
+      let set = J .prepared .named-in .actions a h in
+      rw small (λ i. record { possible = (rw small at (allowed ∙ same)) i; names = set i })
