@@ -30,13 +30,13 @@ use Rattle.leaves.proofs.Measuring.{distances-below}
 use Rattle.leaves.proofs.Skipping.{skips-settled}
 use Rattle.leaves.proofs.Entries.{finals-whole, counts-whole}
 use Rattle.engine.specs.Tables.{Only, flagPlaces, endableIn, truthsFrom, truthsAt, finalsAt, numberPlaces, skipsIn, distancesIn, mayConflictIn, countsFrom, countsAt}
-use Rattle.engine.specs.Tables.{extendedSizeOf, ListsMayConflict, NamedIn, Prepared, Judged, ConflictedAt, Surveyed}
+use Rattle.engine.specs.Tables.{extendedSizeOf, ListsMayConflict, Prepared, Judged, ConflictedAt, Surveyed}
 use Rattle.sheet.specs.Inspection.{Of}
 use Rattle.sheet.specs.declared.Inspection.{Inspection}
 use Rattle.sheet.proofs.Found.{by-found, of-found}
 use Rattle.engine.proofs.Actions.{acts-read}
 use Rattle.engine.proofs.Seen.{sees-possible, sees}
-use Rattle.engine.proofs.Tables.{finals-long, counts-long, endable-kept, skips-kept, distances-kept, may-conflict-kept, named-kept, none-by}
+use Rattle.engine.proofs.Tables.{finals-long, counts-long, endable-kept, skips-kept, distances-kept, may-conflict-kept, none-by}
 
 -- the table that runs and its number of records, by the names of a layout
 abbrev pub runs : List ℕ → Layout → (interrupts : Bool) → ℕ → Program
@@ -70,9 +70,8 @@ module _ {s : List ℕ} {m : Inspection} (O : Of s m) where
       → skipsIn numbers ≡ skipsOf (runs s (m .layout) (m .interrupts)) (many (m .layout) (m .interrupts)) marks
       → distancesIn numbers ≡ distancesOf (runs s (m .layout) (m .interrupts)) (many (m .layout) (m .interrupts))
       → ListsMayConflict s (mayConflictIn numbers)
-      → NamedIn s numbers
       → Prepared s flags numbers
-  prepared {flags} {numbers} marks n k e eb ec es ed J N =
+  prepared {flags} {numbers} marks n k e eb ec es ed J =
       let low = all-lower s (O .accepted) in
       let e₂ = e ∙ of-found O (λ (l : Layout) (b : Bool). marks ≡ finalBoundsOf true (runs s l b) (many l b)) eb in
       let E : Endable (extendedRecords s) (extendedSizeOf s) (endableIn flags) =
@@ -89,7 +88,6 @@ module _ {s : List ℕ} {m : Inspection} (O : Of s m) where
         skipping = subst (Skips (extendedRecords s) (extendedSizeOf s) (endableIn flags)) (sym e₄) S;
         distances = subst (Distances (extendedRecords s) (extendedSizeOf s)) (sym e₅) (distances-below (extendedRecords s) (extendedSizeOf s) low);
         may-conflict = J;
-        named-in = N;
       }
 
   module _ {flags : List Bool} {numbers : List ℕ} (P : Prepared s flags numbers) where
@@ -112,7 +110,6 @@ module _ {s : List ℕ} {m : Inspection} (O : Of s m) where
       skipping = subst (λ (x : List Bool). Skips (extendedRecords s) (extendedSizeOf s) x (skipsIn numbers)) (sym e) (P .skipping);
       distances = P .distances;
       may-conflict = P .may-conflict;
-      named-in = P .named-in;
     }
 
     -- told of a state
@@ -182,7 +179,6 @@ module _ {s : List ℕ} {m : Inspection} (O : Of s m) where
                 skipping = subst (Skips (extendedRecords s) (extendedSizeOf s) (endableIn flags)) (sym (skips-kept (omega arith) K)) (P .skipping);
                 distances = subst (Distances (extendedRecords s) (extendedSizeOf s)) (sym (distances-kept (omega arith) K n (omega (arith, P .numbers-long)))) (P .distances);
                 may-conflict = subst (ListsMayConflict s) (sym (may-conflict-kept (omega arith) K n (omega (arith, P .numbers-long)))) (P .may-conflict);
-                named-in = named-kept (omega arith) K n (omega (arith, P .numbers-long)) (P .named-in);
               };
           truths-are = J .truths-are;
           tabled =

@@ -9,7 +9,7 @@ use borrow.Author.Tests.{le-ltb}
 use lib.ListN.{length}
 use Rattle.records.specs.Records.{actionAt}
 use Rattle.kinds.specs.Formulas.{LowerFormulas}
-use Rattle.named.specs.Tables.{setsOf, actionSetsOf, AreSets, AreActionSets, Ranged}
+use Rattle.named.specs.Tables.{setsOf, actionSetsOf, Ranged}
 use Rattle.named.proofs.Tables.{sets-are, action-sets-are}
 use Rattle.sheet.specs.Layout.{layoutOf, formulasIn, effectsIn, actionsIn}
 use Rattle.sheet.specs.Check.{Accepts}
@@ -26,8 +26,8 @@ use Rattle.state.specs.Ranges.{Names}
 use Rattle.state.specs.Evaluated.{possibilityBy}
 use Rattle.state.proofs.Noting.{allowed-marked}
 use Rattle.state.proofs.Performed.{possible-same}
-use Rattle.engine.specs.Tables.{truthsAt, formulasNamed, actionsNamed, NamedIn, Judged, ConflictOf}
-use Rattle.engine.specs.Evaluated.{possibility}
+use Rattle.engine.specs.Tables.{truthsAt, Judged, ConflictOf}
+use Rattle.engine.specs.Evaluated.{FormulasNamed, ActionsNamed, possibility}
 use Rattle.engine.proofs.Actions.{conditions-below}
 use Rattle.engine.proofs.Conflicting.{listed-at}
 
@@ -51,33 +51,29 @@ module _ {s : List ℕ} {m : Inspection} (O : Of s m) where
       (λ h. let (small, p) = listed-at s (O .accepted) a h in (p .range (omega arith), p .names (omega arith)))
 
   -- what they are
-  pub named-told :
-      {numbers : List ℕ} → (let l = m .layout in let sets = setsOf (formulasIn s l) (l .q) in
-      formulasNamed numbers ≡ sets → actionsNamed numbers ≡ actionSetsOf (effectsIn s l) (actionsIn s l) sets (l .a) → NamedIn s numbers)
-  named-told {numbers} e f =
+  pub formulas-named : {sets : List ℕ} → sets ≡ setsOf (formulasIn s (m .layout)) (m .layout .q) → FormulasNamed s sets
+  formulas-named e =
       let l = layoutOf s in
-      let t = formulasIn s l in
-      let sets = setsOf t (l .q) in
-      let e₂ = e ∙ ap (λ (l : Layout). setsOf (formulasIn s l) (l .q)) (O .layout-is) in
-      let f₂ = f ∙ ap (λ (l : Layout). actionSetsOf (effectsIn s l) (actionsIn s l) (setsOf (formulasIn s l) (l .q)) (l .a)) (O .layout-is) in
-      let are = sets-are t (l .q) (lower-formulas s (O .accepted)) in
-      let W = worldOf s in
-      record {
-        formulas = subst (AreSets (W .formula) (l .q)) (sym e₂) are;
-        actions =
-            subst (AreActionSets (W .formula) (W .effect) (W .action) (l .a)) (sym f₂)
-            (action-sets-are (W .formula) (l .q) sets are (effectsIn s l) (actionsIn s l) (l .a)
-            (λ a h. action-of s (O .accepted) a h .0) (λ a h i (x, y). conditions-below s (O .accepted) a h i x y));
-      }
+      subst (FormulasNamed s) (sym (e ∙ ap (λ (l : Layout). setsOf (formulasIn s l) (l .q)) (O .layout-is)))
+      (sets-are (formulasIn s l) (l .q) (lower-formulas s (O .accepted)))
 
--- in a state that was judged, what evaluating a formula and what a possible-check answer
+  pub actions-named :
+      (sets : List ℕ) → FormulasNamed s sets → {unions : List ℕ} → unions ≡ actionSetsOf (effectsIn s (m .layout)) (actionsIn s (m .layout)) sets (m .layout .a)
+      → ActionsNamed s unions
+  actions-named sets are e =
+      let l = layoutOf s in
+      subst (ActionsNamed s) (sym (e ∙ ap (λ (l : Layout). actionSetsOf (effectsIn s l) (actionsIn s l) sets (l .a)) (O .layout-is)))
+      (action-sets-are (worldOf s .formula) (l .q) sets are (effectsIn s l) (actionsIn s l) (l .a)
+      (λ a h. action-of s (O .accepted) a h .0) (λ a h i (x, y). conditions-below s (O .accepted) a h i x y))
+
+-- in a state that was judged, what a possible-check answers
 module _ {s : List ℕ} (accepted : Accepts s) {st : State} {d : ℕ} {flags : List Bool} {numbers : List ℕ} (J : Judged s st d flags numbers) where
   pub possibility-told :
-      (a : ℕ) (conflicted : List Bool) → a < layoutOf s .a → ConflictOf s (truthsAt d flags) a conflicted
-      → possibilityBy (actionsIn s (layoutOf s)) (truthsAt d flags) conflicted (actionsNamed numbers) a ≡ possibility s st a
-  possibility-told a conflicted h e =
+      (a : ℕ) (conflicted : List Bool) (sets : List ℕ) → a < layoutOf s .a → ConflictOf s (truthsAt d flags) a conflicted → ActionsNamed s sets
+      → possibilityBy (actionsIn s (layoutOf s)) (truthsAt d flags) conflicted sets a ≡ possibility s st a
+  possibility-told a conflicted sets h e named =
       let allowed = allowed-marked (effectsIn s (layoutOf s)) (actionsIn s (layoutOf s)) (truthsAt d flags) conflicted a (λ t. e ∙ t) (λ t. sym e ∙ t) in
       let same = possible-same _ _ (saidBy (truthsAt d flags)) (saysIn (worldOf s) st) _ (J .truths-are) a (action-of s accepted a h .0) (conditions-below s accepted a h) in
       let small = le-ltb 65533 a (omega (arith, laid s accepted .a)) in
-      let set = J .prepared .named-in .actions a h in
+      let set = named a h in
       rw small (λ i. record { possible = (rw small at (allowed ∙ same)) i; names = set i })

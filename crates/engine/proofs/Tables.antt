@@ -14,7 +14,7 @@ use Rattle.golog.specs.declared.State.{State}
 use Rattle.demands.specs.Decoded.{worldOf}
 use Rattle.state.specs.Truths.{AreTruths}
 use Rattle.engine.specs.Tables.{window, Only, setOf, endableIn, truthsFrom, finalsFrom, truthsAt, finalsAt, skipsIn, distancesIn, mayConflictIn, numberPlaces, surveysAt, countsFrom, countsAt}
-use Rattle.engine.specs.Tables.{ListsMayConflict, NamedIn, Prepared, Surveyed, SameTables, Filled}
+use Rattle.engine.specs.Tables.{ListsMayConflict, Prepared, Surveyed, SameTables, Filled}
 use Rattle.engine.proofs.Windows.{window-long, earlier, window-before, window-behind}
 
 module _ {s : List ℕ} {flags : List Bool} {numbers : List ℕ} (P : Prepared s flags numbers) where
@@ -46,18 +46,11 @@ pub may-conflict-kept : {numbers numbers′ : List ℕ} {o n : ℕ} → 586 ≤ 
     → mayConflictIn numbers′ ≡ mayConflictIn numbers
 may-conflict-kept h P n l = window-before P n 521 65 h l
 
-pub named-kept : {s : List ℕ} {numbers numbers′ : List ℕ} {o n : ℕ} → 1162 ≤ o → Only o n numbers numbers′ → length numbers′ ≡ length numbers → 1162 ≤ length numbers
-    → NamedIn s numbers → NamedIn s numbers′
-named-kept {s} h P n l N = record {
-  formulas = rw (window-before P n 586 512 (omega arith) (omega arith)) (N .formulas);
-  actions = rw (window-before P n 1098 64 (omega arith) (omega arith)) (N .actions);
-}
-
--- depths less than seven apart have sets of their own
-apart : (d e : ℕ) → d < e → e < d + 7 → ¬ (setOf d ≡ setOf e)
+-- depths less than eight apart have sets of their own
+apart : (d e : ℕ) → d < e → e < d + 8 → ¬ (setOf d ≡ setOf e)
 apart d e l h z = omega arith
 
--- m places for each of seven sets, from place b on: where those of the set j are written, a window in those of another stands
+-- m places for each of eight sets, from place b on: where those of the set j are written, a window in those of another stands
 module _ {A : Type 0} (b m j : ℕ) {l l′ : List A} (P : Only (b + m * j) m l l′) (n : length l′ ≡ length l) where
   below : (i k : ℕ) → i < k → m * i + m ≤ m * k
   below i k h = omega (arith, mul-suc m i, mul-le-mul-left m h)
@@ -70,7 +63,7 @@ module _ {A : Type 0} (b m j : ℕ) {l l′ : List A} (P : Only (b + m * j) m l 
       go (no x) = window-behind P n o k (omega (arith, below j i (omega (arith, z))))
 
 module _
-    {flags flags′ : List Bool} {numbers numbers′ : List ℕ} (d : ℕ) (fl : length flags ≡ 5664) (nl : length numbers ≡ 2983)
+    {flags flags′ : List Bool} {numbers numbers′ : List ℕ} (d : ℕ) (fl : length flags ≡ 6436) (nl : length numbers ≡ 2667)
     (F : Only (truthsFrom d) 772 flags flags′) (f : length flags′ ≡ length flags)
     (N : Only (countsFrom d) 260 numbers numbers′) (n : length numbers′ ≡ length numbers) where
   -- the tables for depth d were filled, and no others
@@ -80,18 +73,18 @@ module _
       record {
         same-truths = other 260 772 (setOf d) F f (setOf e) (truthsFrom e) 512 z (omega arith) (omega arith) (omega arith);
         same-finals = other 260 772 (setOf d) F f (setOf e) (finalsFrom e) 260 z (omega arith) (omega arith) (omega arith);
-        same-counts = other 1162 260 (setOf d) N n (setOf e) (countsFrom e) 260 z (omega arith) (omega arith) (omega arith);
+        same-counts = other 586 260 (setOf d) N n (setOf e) (countsFrom e) 260 z (omega arith) (omega arith) (omega arith);
       }
 
 -- a place of the counts for depth e, where those for depth d were written anew: it is 0 where it was, or where that is
 pub none-by :
-    (d e i : ℕ) {numbers numbers′ : List ℕ} → length numbers ≡ 2983 → Only (countsFrom d) 260 numbers numbers′ → length numbers′ ≡ length numbers
+    (d e i : ℕ) {numbers numbers′ : List ℕ} → length numbers ≡ 2667 → Only (countsFrom d) 260 numbers numbers′ → length numbers′ ≡ length numbers
     → getD (countsAt e numbers) i 0 ≡ 0 → getD (countsAt d numbers′) i 0 ≡ 0 → getD (countsAt e numbers′) i 0 ≡ 0
 none-by d e i {numbers} {numbers′} l N n old new = go (ℕ-discrete (setOf e) (setOf d))
   where
     go : Dec (setOf e ≡ setOf d) → getD (countsAt e numbers′) i 0 ≡ 0
-    go (yes z) = ap (λ (j : ℕ). getD (window (1162 + 260 * j) 260 numbers′) i 0) z ∙ new
-    go (no z) = ap (λ (x : List ℕ). getD x i 0) (other 1162 260 (setOf d) N n (setOf e) (countsFrom e) 260 z (omega arith) (omega arith) (omega arith)) ∙ old
+    go (yes z) = ap (λ (j : ℕ). getD (window (586 + 260 * j) 260 numbers′) i 0) z ∙ new
+    go (no z) = ap (λ (x : List ℕ). getD x i 0) (other 586 260 (setOf d) N n (setOf e) (countsFrom e) 260 z (omega arith) (omega arith) (omega arith)) ∙ old
 
 -- tables that stand are still those of the state
 pub stands :
@@ -118,7 +111,6 @@ module _ {numbers numbers′ : List ℕ} (N : Only surveysAt 1 numbers numbers�
         skipping = rw (skips-kept (omega arith) N) (P .skipping);
         distances = rw (distances-kept (omega arith) N n (omega arith)) (P .distances);
         may-conflict = subst (ListsMayConflict s) (sym (may-conflict-kept (omega arith) N n (omega arith))) (P .may-conflict);
-        named-in = named-kept (omega arith) N n (omega arith) (P .named-in);
       }
 
   pub counted : {s : List ℕ} {st : State} {d : ℕ} {flags : List Bool} → Surveyed s st d flags numbers → Surveyed s st d flags numbers′

@@ -1,6 +1,6 @@
 -- Own vocabulary: the tables by which a configuration is surveyed, in two lent slices: what is told once of the sheet, and sets of what is
--- told of a state. A set serves the configuration at one depth of a search; there are seven, so that what was told at a depth stands until
--- one seven deeper is surveyed. Nothing above the engine looks into them. Assumes nothing.
+-- told of a state. A set serves the configuration at one depth of a search; there are eight, so that what was told at a depth stands until
+-- one eight deeper is surveyed. Nothing above the engine looks into them. Assumes nothing.
 use Prim.Native.Nat.{ℕ, _+_, _*_, _%_, _≤_, _<_}
 use mathlib.Core.Path.{_≡_}
 use mathlib.Core.Bool.{Bool, true, false}
@@ -11,7 +11,6 @@ use lib.ListN.{length, getD, take, drop}
 use Rattle.records.specs.Records.{actionAt}
 use Rattle.records.specs.declared.Program.{Program}
 use Rattle.kinds.specs.Programs.{acts}
-use Rattle.named.specs.Tables.{AreSets, AreActionSets}
 use Rattle.sheet.specs.Layout.{layoutOf, formulasIn, effectsIn, actionsIn, programsIn}
 use Rattle.golog.specs.declared.State.{State}
 use Rattle.demands.specs.Decoded.{worldOf, recordsOf, interruptsIn}
@@ -38,7 +37,7 @@ pub record Only {A : Type 0} (o n : ℕ) (l l′ : List A) : Type 0 where
 
 -- how many sets there are, and the one that serves depth d
 abbrev pub sets : ℕ
-sets = 7
+sets = 8
 
 abbrev pub setOf : ℕ → ℕ
 setOf d = d % sets
@@ -68,7 +67,7 @@ SameFrom m finals finals′ = (i : ℕ) → m ≤ i → getD finals′ i true �
 
 -- flags: whether each record may be final in some state; then those of each set
 abbrev pub flagPlaces : ℕ
-flagPlaces = 5664
+flagPlaces = 6436
 
 abbrev pub endableIn : List Bool → List Bool
 endableIn flags = take mostRecords flags
@@ -90,13 +89,12 @@ abbrev pub skipPlaces : ℕ
 skipPlaces = 261
 
 -- numbers: from each place on, the first record whose finality depends on the state; then how far each record is from its end; then the
--- actions whose effects may contradict each other; then what each formula names, and what each action does; then for each set how many
--- transitions each record has; then how many configurations were surveyed
+-- actions whose effects may contradict each other; then for each set how many transitions each record has; then how many configurations were surveyed
 abbrev pub numberPlaces : ℕ
-numberPlaces = 2983
+numberPlaces = 2667
 
 abbrev pub surveysAt : ℕ
-surveysAt = 2982
+surveysAt = 2666
 
 abbrev pub surveysIn : List ℕ → ℕ
 surveysIn numbers = getD numbers surveysAt 0
@@ -114,21 +112,8 @@ listPlaces = mostActions + 1
 abbrev pub mayConflictIn : List ℕ → List ℕ
 mayConflictIn numbers = window (skipPlaces + mostRecords) listPlaces numbers
 
--- from where on it stands what is named, in how many places, what formulas name and what actions do (document 02, F-5)
-abbrev pub namedFrom : ℕ
-namedFrom = skipPlaces + mostRecords + listPlaces
-
-abbrev pub namedPlaces : ℕ
-namedPlaces = mostFormulas + mostActions
-
-abbrev pub formulasNamed : List ℕ → List ℕ
-formulasNamed numbers = window namedFrom mostFormulas numbers
-
-abbrev pub actionsNamed : List ℕ → List ℕ
-actionsNamed numbers = window (namedFrom + mostFormulas) mostActions numbers
-
 abbrev pub countsFrom : (d : ℕ) → ℕ
-countsFrom d = namedFrom + namedPlaces + mostRecords * setOf d
+countsFrom d = skipPlaces + mostRecords + listPlaces + mostRecords * setOf d
 
 abbrev pub countsAt : (d : ℕ) → List ℕ → List ℕ
 countsAt d numbers = window (countsFrom d) mostRecords numbers
@@ -149,11 +134,6 @@ pub record ListsMayConflict (s : List ℕ) (list : List ℕ) : Type 0 where
   pub all :
       (i : ℕ) → i < layoutOf s .p → T (acts (recordsOf s i .kind)) → Listed list (recordsOf s i .a) ⊎ ExclusiveIn s (recordsOf s i .a)
 
--- what the sheet's formulas name, and its actions' preconditions with the conditions of their effects
-pub record NamedIn (s : List ℕ) (numbers : List ℕ) : Type 0 where
-  pub formulas : AreSets (worldOf s .formula) (layoutOf s .q) (formulasNamed numbers)
-  pub actions : AreActionSets (worldOf s .formula) (worldOf s .effect) (worldOf s .action) (layoutOf s .a) (actionsNamed numbers)
-
 -- what is told once of a sheet stands in the tables, and behind the records nil
 pub record Prepared (s : List ℕ) (flags : List Bool) (numbers : List ℕ) : Type 0 where
   pub flags-long : length flags ≡ flagPlaces
@@ -163,7 +143,6 @@ pub record Prepared (s : List ℕ) (flags : List Bool) (numbers : List ℕ) : Ty
   pub skipping : Skips (extendedRecords s) (extendedSizeOf s) (endableIn flags) (skipsIn numbers)
   pub distances : Distances (extendedRecords s) (extendedSizeOf s) (distancesIn numbers)
   pub may-conflict : ListsMayConflict s (mayConflictIn numbers)
-  pub named-in : NamedIn s numbers
 
 -- what the formulas say in the state st, and which records are final in it, stands there too, for depth d
 pub record Judged (s : List ℕ) (st : State) (d : ℕ) (flags : List Bool) (numbers : List ℕ) : Type 0 where
@@ -197,6 +176,6 @@ pub record SameTables (d : ℕ) (flags flags′ : List Bool) (numbers numbers′
   pub same-finals : finalsAt d flags′ ≡ finalsAt d flags
   pub same-counts : countsAt d numbers′ ≡ countsAt d numbers
 
--- only tables for the depths from lo to hi were filled: those for lesser depths stand, unless seven sets are too few
+-- only tables for the depths from lo to hi were filled: those for lesser depths stand, unless eight sets are too few
 abbrev pub Filled : (lo hi : ℕ) (flags flags′ : List Bool) (numbers numbers′ : List ℕ) → Type 0
 Filled lo hi flags flags′ numbers numbers′ = (d : ℕ) → d < lo → hi < d + sets → SameTables d flags flags′ numbers numbers′

@@ -25,10 +25,9 @@ ghost use Rattle.state.specs.Truths.{AreTruths};
 ghost use Rattle.engine.specs.Tables.{window, Only, mostFormulas, setFlags, truthsOn, finalsOn, FinalsOn, SameFrom, flagPlaces};
 ghost use Rattle.engine.specs.Tables.{numberPlaces, surveysAt, surveysIn};
 ghost use Rattle.engine.specs.Tables.{endableIn, truthsFrom, finalsAt, distancesIn, countsFrom, countsAt};
-ghost use Rattle.engine.specs.Tables.{namedFrom, namedPlaces, actionsNamed, NamedIn};
 ghost use Rattle.engine.specs.Tables.{ListsMayConflict, Prepared, Judged, ConflictedAt, Surveyed, Filled};
 ghost use Rattle.engine.specs.Tables.{truthsAt, ConflictOf};
-ghost use Rattle.engine.specs.Evaluated.{evaluated, possibility};
+ghost use Rattle.engine.specs.Evaluated.{FormulasNamed, ActionsNamed, evaluated, possibility};
 ghost use Rattle.engine.specs.Frames.{Frame};
 ghost use Rattle.engine.specs.Going.{isFinal, Ahead, Tells, Known, IsAction, moveOf, CanGoOn, GoesOn};
 ghost use Rattle.engine.specs.Turns.{Turns};
@@ -42,22 +41,18 @@ use steps::Setting;
 use steps::Turn;
 
 // How many sets of tables there are: those for a depth stand until a configuration so much deeper is surveyed.
-pub const SETS: usize = 7;
+pub const SETS: usize = 8;
 
 // The places of the two slices that hold the tables.
 pub const FLAGS: usize = leaves::RECORDS + SETS * (sheet::MOST_FORMULAS + leaves::RECORDS);
 
 pub const NUMBERS: usize = SURVEYS + 1;
 
-// Where among the numbers the actions are listed whose effects may contradict each other, behind the skips and the distances; where it
-// stands what formulas name, and what actions do; and where the numbers of the sets begin.
+// Where among the numbers the actions are listed whose effects may contradict each other, behind the skips and the distances, and where
+// those of the sets begin.
 const MAY_CONFLICT: usize = leaves::SKIPS + leaves::RECORDS;
 
-const NAMED: usize = MAY_CONFLICT + state::exclusion::LIST;
-
-const ACTIONS_NAMED: usize = NAMED + named::FORMULAS;
-
-const COUNTS: usize = ACTIONS_NAMED + named::ACTIONS;
+const COUNTS: usize = MAY_CONFLICT + state::exclusion::LIST;
 
 // Where among them it is counted how many configurations were surveyed.
 const SURVEYS: usize = COUNTS + SETS * leaves::RECORDS;
@@ -182,25 +177,8 @@ fn may_conflict_of(s: &[u8], found: Inspection) -> [u32; state::exclusion::LIST]
     state::exclusion::listed(&may_conflict)
 }
 
-// Fills in once which fluents each formula names, and the precondition of each action with the conditions of its effects.
-fn prepare_named(numbers: &mut [u32], s: &[u8], found: Inspection)
-    requires { ⌜ Of (now s) found × (length (now numbers) ≡ numberPlaces) ⌝ }
-    ensures named { λ _. ⌜ NamedIn (now (s .entry)) (now (numbers .exit)) ⌝ }
-    ensures written { λ _. ⌜ Only namedFrom namedPlaces (now (numbers .entry)) (now (numbers .exit)) ⌝ }
-{
-    let l = found.layout;
-    let formulas = l.formulas;
-    let effects = l.effects;
-    let actions = l.actions;
-    let programs = l.programs;
-    let sets = named::sets_of(&s[formulas..effects], l.q);
-    let unions = named::action_sets(&s[effects..actions], &s[actions..programs], l.a, &sets);
-    copy_numbers(&mut numbers[NAMED..ACTIONS_NAMED], &sets);
-    copy_numbers(&mut numbers[ACTIONS_NAMED..COUNTS], &unions);
-}
-
 // Fills in once what depends on the sheet alone: which records may be final in some state, which depend on it, how far each is from its
-// end, which actions' effects may contradict each other, and what formulas and actions name.
+// end, and which actions' effects may contradict each other.
 pub fn prepare(flags: &mut [bool], numbers: &mut [u32], s: &[u8], found: Inspection)
     requires { ⌜ Of (now s) found × (length (now flags) ≡ flagPlaces) × (length (now numbers) ≡ numberPlaces) × ((i : ℕ) → getD (now numbers) i 0 ≡ 0) ⌝ }
     ensures { λ _. ⌜ Prepared (now (s .entry)) (now (flags .exit)) (now (numbers .exit)) ⌝ }
@@ -216,8 +194,7 @@ pub fn prepare(flags: &mut [bool], numbers: &mut [u32], s: &[u8], found: Inspect
     copy_flags(&mut flags[..leaves::RECORDS], &endable);
     copy_numbers(&mut numbers[..leaves::SKIPS], &skips);
     copy_numbers(&mut numbers[leaves::SKIPS..MAY_CONFLICT], &distances);
-    copy_numbers(&mut numbers[MAY_CONFLICT..NAMED], &listed);
-    prepare_named(numbers, s, found);
+    copy_numbers(&mut numbers[MAY_CONFLICT..COUNTS], &listed);
 }
 
 // Where the tables for depth d begin: among the flags what the formulas say, and behind it which records are final.
@@ -301,13 +278,7 @@ pub fn judge(flags: &mut [bool], numbers: &[u32], s: &[u8], found: Inspection, s
     let end = l.end;
     let from = flags_from(d);
     let to = from + sheet::MOST_FORMULAS;
-    state::fill_truths(
-        &s[formulas..effects],
-        l.q,
-        st,
-        &mut flags[from..to],
-        &numbers[NAMED..ACTIONS_NAMED],
-    );
+    state::fill_truths(&s[formulas..effects], l.q, st, &mut flags[from..to]);
     settle(flags, to);
     mark_finals(
         flags,
@@ -342,42 +313,37 @@ pub fn is_final(
     ends::final_rest(&flags[from..to], work, d * found.frame + height::HEADER)
 }
 
-// Which of the listed actions are in conflict, by the truths for depth d.
-fn conflicted_at(
-    flags: &[bool],
-    numbers: &[u32],
-    s: &[u8],
-    found: Inspection,
-    d: usize,
-) -> [bool; state::conflicts::ACTIONS]
-    requires { ⌜ Of (now s) found × Prepared (now s) (now flags) (now numbers) ⌝ }
-    ensures { λ r. ⌜ ConflictedAt (now (s .entry)) d (now (flags .entry)) (now (numbers .entry)) r ⌝ }
+// What each formula of the sheet names: made once, since it does not depend on the state.
+pub fn formula_sets(s: &[u8], found: Inspection) -> [u32; named::FORMULAS]
+    requires { ⌜ Of (now s) found ⌝ }
+    ensures { λ r. ⌜ FormulasNamed (now (s .entry)) r ⌝ }
+{
+    let l = found.layout;
+    let start = l.formulas;
+    let end = l.effects;
+    named::sets_of(&s[start..end], l.q)
+}
+
+// What the precondition of each action and the conditions of its effects name, where `sets` has what each formula does.
+pub fn action_sets(s: &[u8], found: Inspection, sets: &[u32]) -> [u32; named::ACTIONS]
+    requires { ⌜ Of (now s) found × FormulasNamed (now s) (now sets) ⌝ }
+    ensures { λ r. ⌜ ActionsNamed (now (s .entry)) r ⌝ }
 {
     let l = found.layout;
     let effects = l.effects;
     let actions = l.actions;
     let programs = l.programs;
-    let from = flags_from(d);
-    let to = from + sheet::MOST_FORMULAS;
-    state::conflicts::in_conflict(
-        &s[effects..actions],
-        &s[actions..programs],
-        &numbers[MAY_CONFLICT..NAMED],
-        &flags[from..to],
-    )
+    named::action_sets(&s[effects..actions], &s[actions..programs], l.a, sets)
 }
 
-// Evaluates formula q in the state that was judged at depth d.
-pub fn evaluate(flags: &[bool], numbers: &[u32], d: usize, q: usize) -> Evaluated
-    requires { ⌜ (length (now flags) ≡ flagPlaces) × (length (now numbers) ≡ numberPlaces) ⌝ }
-    ensures { λ r. ⌜ ((s : List ℕ) (st : State) → Judged s st d (now (flags .entry)) (now (numbers .entry)) → q < layoutOf s .q → r ≡ evaluated s st q) ⌝ }
+// Evaluates formula q in the state that was judged at depth d, where `sets` has what each formula names.
+pub fn evaluate(flags: &[bool], sets: &[u32], d: usize, q: usize) -> Evaluated
+    requires { ⌜ length (now flags) ≡ flagPlaces ⌝ }
+    ensures { λ r. ⌜ ((s numbers : List ℕ) (st : State) → Judged s st d (now (flags .entry)) numbers → FormulasNamed s (now (sets .entry)) → q < layoutOf s .q → r ≡ evaluated s st q) ⌝ }
 {
     let from = flags_from(d);
     let to = from + sheet::MOST_FORMULAS;
-    Evaluated {
-        holds: records::flag_in(&flags[from..to], q, false),
-        names: records::number_in(&numbers[NAMED..ACTIONS_NAMED], q, 0),
-    }
+    state::evaluate(&flags[from..to], sets, q)
 }
 
 // Whether action a is in conflict, by the truths for depth d, and no other.
@@ -403,17 +369,18 @@ fn only_conflicted(
     conflicted
 }
 
-// A possible-check of action a in the state that was judged at depth d.
-pub fn possible(
+// A possible-check of action a in the state that was judged at depth d, where `sets` has what each action names.
+pub fn possible_check(
     flags: &[bool],
-    numbers: &[u32],
+    sets: &[u32],
     s: &[u8],
     found: Inspection,
     d: usize,
     a: usize,
 ) -> Possibility
-    requires { ⌜ Of (now s) found × Prepared (now s) (now flags) (now numbers) × (a < found .layout .a) ⌝ }
-    ensures { λ r. ⌜ ((st : State) → Judged (now (s .entry)) st d (now (flags .entry)) (now (numbers .entry)) → r ≡ possibility (now (s .entry)) st a) ⌝ }
+    requires { ⌜ Of (now s) found × (length (now flags) ≡ flagPlaces) × (a < found .layout .a) ⌝ }
+    ensures { λ r. ⌜ ((numbers : List ℕ) (st : State) → Judged (now (s .entry)) st d (now (flags .entry)) numbers → ActionsNamed (now (s .entry)) (now (sets .entry))
+        → r ≡ possibility (now (s .entry)) st a) ⌝ }
 {
     let l = found.layout;
     let actions = l.actions;
@@ -421,23 +388,38 @@ pub fn possible(
     let from = flags_from(d);
     let to = from + sheet::MOST_FORMULAS;
     let conflicted = only_conflicted(flags, s, found, d, a);
-    state::possible(
+    state::possible_check(
         &s[actions..programs],
         &flags[from..to],
         &conflicted,
-        &numbers[ACTIONS_NAMED..COUNTS],
+        sets,
         a,
     )
 }
 
-// What the actions name, by value.
-fn actions_named(numbers: &[u32]) -> [u32; named::ACTIONS]
-    requires { ⌜ length (now numbers) ≡ numberPlaces ⌝ }
-    ensures { λ r. ⌜ r ≡ actionsNamed (now (numbers .entry)) ⌝ }
+// Which of the listed actions are in conflict, by the truths for depth d.
+fn conflicted_at(
+    flags: &[bool],
+    numbers: &[u32],
+    s: &[u8],
+    found: Inspection,
+    d: usize,
+) -> [bool; state::conflicts::ACTIONS]
+    requires { ⌜ Of (now s) found × Prepared (now s) (now flags) (now numbers) ⌝ }
+    ensures { λ r. ⌜ ConflictedAt (now (s .entry)) d (now (flags .entry)) (now (numbers .entry)) r ⌝ }
 {
-    let mut sets = [0u32; named::ACTIONS];
-    copy_numbers(&mut sets, &numbers[ACTIONS_NAMED..COUNTS]);
-    sets
+    let l = found.layout;
+    let effects = l.effects;
+    let actions = l.actions;
+    let programs = l.programs;
+    let from = flags_from(d);
+    let to = from + sheet::MOST_FORMULAS;
+    state::conflicts::in_conflict(
+        &s[effects..actions],
+        &s[actions..programs],
+        &numbers[MAY_CONFLICT..COUNTS],
+        &flags[from..to],
+    )
 }
 
 // Fills in how many transitions each record has in a state, in the tables for depth d.
@@ -456,7 +438,6 @@ fn tally(numbers: &mut [u32], flags: &[bool], s: &[u8], found: Inspection, st: S
     let first = counts_from(d);
     let last = first + leaves::RECORDS;
     let conflicted = conflicted_at(flags, numbers, s, found, d);
-    let sets = actions_named(numbers);
     leaves::tallies(
         &mut numbers[first..last],
         &s[programs..end],
@@ -465,7 +446,6 @@ fn tally(numbers: &mut [u32], flags: &[bool], s: &[u8], found: Inspection, st: S
         &s[actions..programs],
         &flags[from..middle],
         &conflicted,
-        &sets,
         st.running,
         &flags[middle..to],
     );

@@ -114,13 +114,12 @@ pub fn performed(programs: &[u8], n: usize) -> [bool; state::conflicts::ACTIONS]
 }
 
 // Whether a record performs an action, and one that is possible.
-fn can_act(r: Program, actions: &[u8], truths: &[bool], conflicted: &[bool], sets: &[u32]) -> bool
+fn can_act(r: Program, actions: &[u8], truths: &[bool], conflicted: &[bool]) -> bool
     requires { ⌜ (T (acts (r .kind)) → InActions (now actions) (r .a)) ⌝ }
     ensures { λ b. ⌜ b ≡ (acts (r .kind) && allowedBy (now (actions .entry)) (now (truths .entry)) (now (conflicted .entry)) (r .a)) ⌝ }
 {
     if kinds::programs::acts(r.kind) {
-        let check = state::possible(actions, truths, conflicted, sets, r.a);
-        return check.possible;
+        return state::possible(actions, truths, conflicted, r.a);
     }
     false
 }
@@ -130,7 +129,6 @@ fn count_at(
     actions: &[u8],
     truths: &[bool],
     conflicted: &[bool],
-    sets: &[u32],
     running: bool,
     finals: &[bool],
     counts: &[u32],
@@ -138,7 +136,7 @@ fn count_at(
     requires { ⌜ (T (acts (r .kind)) → InActions (now actions) (r .a)) ⌝ }
     ensures { λ k. ⌜ k ≡ cappedCountBy r (now (actions .entry)) (now (truths .entry)) (now (conflicted .entry)) running (now (finals .entry)) (now (counts .entry)) ⌝ }
 {
-    let can = can_act(r, actions, truths, conflicted, sets);
+    let can = can_act(r, actions, truths, conflicted);
     capped(
         kinds::programs::count_by(r, can, truths, running, finals, counts),
         CAP,
@@ -153,7 +151,7 @@ pub fn places_of(n: usize, interrupts: bool) -> usize
 }
 
 // Fills in how many transitions each record of the table that runs has in the state that `truths`, the actions, `conflicted` and `running`
-// say, where `finals` tells which are final and `sets` what actions name, whatever stood there: one pass upwards, since a record names lower ones only.
+// say, where `finals` tells which are final, whatever stood there: one pass upwards, since a record names lower ones only.
 pub fn tallies(
     counts: &mut [u32],
     programs: &[u8],
@@ -162,7 +160,6 @@ pub fn tallies(
     actions: &[u8],
     truths: &[bool],
     conflicted: &[bool],
-    sets: &[u32],
     running: bool,
     finals: &[bool],
 )
@@ -176,16 +173,7 @@ pub fn tallies(
     let mut i = 0;
     while i < m {
         let r = record_at(programs, n, interrupts, i);
-        let k = count_at(
-            r,
-            actions,
-            truths,
-            conflicted,
-            sets,
-            running,
-            finals,
-            counts,
-        );
+        let k = count_at(r, actions, truths, conflicted, running, finals, counts);
         counts[i] = k;
         i += 1;
     }

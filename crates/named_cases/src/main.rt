@@ -4,7 +4,7 @@
 ghost use mathlib.Core.Path.{_≡_};
 ghost use lib.ListN.{length};
 ghost use Rattle.sheet.specs.Inspection.{Of};
-ghost use Rattle.engine.specs.Tables.{flagPlaces, numberPlaces, Prepared};
+ghost use Rattle.engine.specs.Tables.{flagPlaces};
 use sheet::Checked;
 use sheet::Inspected;
 use sheet::Inspection;
@@ -31,26 +31,26 @@ fn line(word: &[u8], i: usize, said: bool, set: u32) {
 }
 
 // Each of the first n formulas, evaluated in the state that was judged at depth 0.
-fn formulas(flags: &[bool], numbers: &[u32], n: usize)
-    requires { ⌜ (length (now flags) ≡ flagPlaces) × (length (now numbers) ≡ numberPlaces) ⌝ }
+fn formulas(flags: &[bool], sets: &[u32], n: usize)
+    requires { ⌜ length (now flags) ≡ flagPlaces ⌝ }
 {
     let mut q = 0;
     while q < n {
-        let e = engine::evaluate(flags, numbers, 0, q);
+        let e = engine::evaluate(flags, sets, 0, q);
         line(b"formula", q, e.holds, e.names);
         q += 1;
     }
 }
 
 // Each action of the sheet, checked in that state.
-fn actions(flags: &[bool], numbers: &[u32], s: &[u8], found: Inspection)
-    requires { ⌜ Of (now s) found × Prepared (now s) (now flags) (now numbers) ⌝ }
+fn actions(flags: &[bool], sets: &[u32], s: &[u8], found: Inspection)
+    requires { ⌜ Of (now s) found × (length (now flags) ≡ flagPlaces) ⌝ }
 {
     let l = found.layout;
     let n = l.a;
     let mut a = 0;
     while a < n {
-        let p = engine::possible(flags, numbers, s, found, 0, a);
+        let p = engine::possible_check(flags, sets, s, found, 0, a);
         line(b"action", a, p.possible, p.names);
         a += 1;
     }
@@ -66,8 +66,10 @@ fn tell(s: &[u8], found: Inspection)
     let st = engine::initial_of(s, found);
     engine::judge(&mut flags, &numbers, s, found, st, 0);
     let l = found.layout;
-    formulas(&flags, &numbers, l.q);
-    actions(&flags, &numbers, s, found);
+    let sets = engine::formula_sets(s, found);
+    formulas(&flags, &sets, l.q);
+    let unions = engine::action_sets(s, found, &sets);
+    actions(&flags, &unions, s, found);
 }
 
 // What the check answers.

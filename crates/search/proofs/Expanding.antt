@@ -90,7 +90,7 @@ module _
 
     pub went :
         {w′ trace′ : List ℕ} {flags′ : List Bool} {numbers′ : List ℕ} {o : Outcome} {stale : Bool} → 1 ≤ q .left
-        → Expanded s w moves trace trace′ t v cut (a .cursor) flags₂ numbers₂ o → Preserves s w w′ v flags₂ flags′ numbers₂ numbers′ → stale ≡ leb 7 (q .left)
+        → Expanded s w moves trace trace′ t v cut (a .cursor) flags₂ numbers₂ o → Preserves s w w′ v flags₂ flags′ numbers₂ numbers′ → stale ≡ leb 8 (q .left)
         → Searched s w w′ moves trace trace′ t q v cut p flags flags′ numbers numbers′ o stale
     went {trace′ = trace′} {o = o} l E P z =
         let d = Y .depth-is in
@@ -99,7 +99,7 @@ module _
         record {
           reported = subst (Reported (v .n) (v .depth) trace trace′ o) (sym (unknown .same)) (E deeper);
           preserves = record { kept = P .kept; prepared = P .prepared; filled = F };
-          same = λ y. let few = leb-false 7 (q .left) (sym z ∙ y) in F (q .depth) (omega arith) (omega arith);
+          same = λ y. let few = leb-false 8 (q .left) (sym z ∙ y) in F (q .depth) (omega arith) (omega arith);
         }
 
 -- from where a transition leads, and from all of a list

@@ -1,19 +1,18 @@
--- Own vocabulary: what evaluating a formula and what a possible-check answer (document 02, F-5): truth or possibility, and beside it the
--- fluents named, bit x for fluent x, from the sheet's tables of sets. Assumes nothing.
+-- Own vocabulary: what evaluating a formula and what a possible-check answer (document 02, F-5), by tables: truth or possibility from what is
+-- told of a state, and the fluents named, bit x for fluent x, from what is told once of the sheet. Assumes nothing.
 use Prim.Native.Nat.{ℕ}
 use mathlib.Core.Bool.{Bool, cond}
 use mathlib.Core.List.{List}
 use lib.ListN.{getD}
-use Rattle.records.specs.Records.{formulaAt}
-use Rattle.kinds.specs.Truth.{truthOf}
 use Rattle.golog.specs.World.{special}
+use Rattle.state.specs.Truths.{saidBy}
 use Rattle.state.specs.Conflicts.{allowedBy}
 use Rattle.state.specs.declared.Evaluated.{Evaluated}
 use Rattle.state.specs.declared.Possibility.{Possibility}
 
--- formula i of the table t, given what the lower ones say; `sets` has what each formula names
-abbrev pub evaluatedIn : (t values : List ℕ) (lower : List Bool) (sets : List ℕ) (i : ℕ) → Evaluated
-evaluatedIn t values lower sets i = record { holds = truthOf (formulaAt t i) values lower; names = getD sets i 0 }
+-- formula q, where `sets` has what each formula names
+abbrev pub evaluatedBy : (truths : List Bool) (sets : List ℕ) (q : ℕ) → Evaluated
+evaluatedBy truths sets q = record { holds = saidBy truths q; names = getD sets q 0 }
 
 -- "a possible-check returns the union for its precondition and its effects' conditions": `sets` has it for each action; start and stop ask
 -- for nothing

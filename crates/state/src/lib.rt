@@ -2,23 +2,71 @@
 ghost use mathlib.Core.Path.{_≡_};
 ghost use Prim.Native.Nat.{_+_, _*_, _≤_};
 ghost use lib.ListN.{length};
-ghost use Rattle.records.specs.Records.{effectAt, actionAt};
+ghost use Rattle.records.specs.Records.{formulaAt, effectAt, actionAt};
+ghost use Rattle.kinds.specs.Truth.{truthOf};
 ghost use Rattle.kinds.specs.Formulas.{LowerFormulas};
 ghost use Rattle.golog.specs.declared.State.{State};
 ghost use Rattle.golog.specs.World.{changed, performBy};
 ghost use Rattle.state.specs.Truths.{truthsOf, saidBy};
 ghost use Rattle.state.specs.Ranges.{Names, InActions, Performable};
-ghost use Rattle.state.specs.Evaluated.{evaluatedIn, possibilityBy};
+ghost use Rattle.state.specs.Conflicts.{allowedBy};
+ghost use Rattle.state.specs.Evaluated.{evaluatedBy, possibilityBy};
 use golog::State;
 use records::Action;
 
 pub mod conflicts;
 pub mod exclusion;
 
+// What formula i says, where `lower` has what the formulas before it say.
+fn truth_at(formulas: &[u8], i: usize, values: &[u8], lower: &[bool]) -> bool
+    requires { ⌜ 6 * i + 6 ≤ length (now formulas) ⌝ }
+    ensures { λ r. ⌜ r ≡ truthOf (formulaAt (now (formulas .entry)) i) (now (values .entry)) (now (lower .entry)) ⌝ }
+{
+    kinds::formulas::truth_of(records::formula_at(formulas, i), values, lower)
+}
+
+// Fills in what each of the first n formulas says of a state, whatever stood there: one pass upwards, since a formula names lower ones
+// only.
+pub fn fill_truths(formulas: &[u8], n: usize, s: State, truths: &mut [bool])
+    requires { ⌜ (6 * n ≤ length (now formulas)) × (n ≤ length (now truths)) ⌝ }
+    requires { ⌜ LowerFormulas (now formulas) n ⌝ }
+    ensures { λ _. ⌜ now (truths .exit) ≡ truthsOf (now (formulas .entry)) (s .values) n (now (truths .entry)) ⌝ }
+{
+    let values = s.values;
+    let mut i = 0;
+    while i < n {
+        let r = truth_at(formulas, i, &values, truths);
+        truths[i] = r;
+        i += 1;
+    }
+}
+
+// Whether action a is possible, where `truths` has what the formulas say and `conflicted` which actions are in conflict.
+pub fn possible(actions: &[u8], truths: &[bool], conflicted: &[bool], a: usize) -> bool
+    requires { ⌜ InActions (now actions) a ⌝ }
+    ensures { λ r. ⌜ r ≡ allowedBy (now (actions .entry)) (now (truths .entry)) (now (conflicted .entry)) a ⌝ }
+{
+    if golog::START <= a {
+        return true;
+    }
+    let r = records::action_at(actions, a);
+    records::flag_in(truths, r.precondition, false) & !records::flag_in(conflicted, a, false)
+}
+
 // What evaluating a formula answers: whether it holds, and the set of the fluents that it names, bit x for fluent x.
 pub struct Evaluated {
     pub holds: bool,
     pub names: u32,
+}
+
+// Evaluates formula q, where `truths` has what the formulas say of the state, and `sets`, made once a sheet, what each of them names.
+pub fn evaluate(truths: &[bool], sets: &[u32], q: usize) -> Evaluated
+    ensures { λ r. ⌜ r ≡ evaluatedBy (now (truths .entry)) (now (sets .entry)) q ⌝ }
+{
+    Evaluated {
+        holds: records::flag_in(truths, q, false),
+        names: records::number_in(sets, q, 0),
+    }
 }
 
 // What a possible-check answers: whether the action is possible, and the set of the fluents that its precondition and the conditions of its
@@ -28,36 +76,8 @@ pub struct Possibility {
     pub names: u32,
 }
 
-// Evaluates formula i, where `lower` has what the formulas before it say, and `sets`, made once a sheet, what each formula names.
-fn evaluate(formulas: &[u8], i: usize, values: &[u8], lower: &[bool], sets: &[u32]) -> Evaluated
-    requires { ⌜ 6 * i + 6 ≤ length (now formulas) ⌝ }
-    ensures { λ r. ⌜ r ≡ evaluatedIn (now (formulas .entry)) (now (values .entry)) (now (lower .entry)) (now (sets .entry)) i ⌝ }
-{
-    Evaluated {
-        holds: kinds::formulas::truth_of(records::formula_at(formulas, i), values, lower),
-        names: records::number_in(sets, i, 0),
-    }
-}
-
-// Fills in what each of the first n formulas says of a state, whatever stood there: one pass upwards, since a formula names lower ones
-// only.
-pub fn fill_truths(formulas: &[u8], n: usize, s: State, truths: &mut [bool], sets: &[u32])
-    requires { ⌜ (6 * n ≤ length (now formulas)) × (n ≤ length (now truths)) ⌝ }
-    requires { ⌜ LowerFormulas (now formulas) n ⌝ }
-    ensures { λ _. ⌜ now (truths .exit) ≡ truthsOf (now (formulas .entry)) (s .values) n (now (truths .entry)) ⌝ }
-{
-    let values = s.values;
-    let mut i = 0;
-    while i < n {
-        let e = evaluate(formulas, i, &values, truths, sets);
-        truths[i] = e.holds;
-        i += 1;
-    }
-}
-
-// Whether action a is possible, where `truths` has what the formulas say and `conflicted` which actions are in conflict; and what it asks
-// for, where `sets`, made once a sheet, has what each action's precondition and the conditions of its effects name.
-pub fn possible(
+// A possible-check of action a, as `possible`, where `sets`, made once a sheet, has what each action names.
+pub fn possible_check(
     actions: &[u8],
     truths: &[bool],
     conflicted: &[bool],
@@ -67,17 +87,12 @@ pub fn possible(
     requires { ⌜ InActions (now actions) a ⌝ }
     ensures { λ r. ⌜ r ≡ possibilityBy (now (actions .entry)) (now (truths .entry)) (now (conflicted .entry)) (now (sets .entry)) a ⌝ }
 {
+    let possible = possible(actions, truths, conflicted, a);
     if golog::START <= a {
-        return Possibility {
-            possible: true,
-            names: 0,
-        };
+        return Possibility { possible, names: 0 };
     }
-    let r = records::action_at(actions, a);
-    let holds = records::flag_in(truths, r.precondition, false);
-    let clear = !records::flag_in(conflicted, a, false);
     Possibility {
-        possible: holds & clear,
+        possible,
         names: records::number_in(sets, a, 0),
     }
 }

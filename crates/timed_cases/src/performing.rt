@@ -155,8 +155,7 @@ fn perform_first(s: &[u8], found: Inspection, timed: bool)
     }
     let st = engine::initial_of(s, found);
     let mut truths = [false; sheet::MOST_FORMULAS];
-    let sets = named::sets_of(&s[formulas..effects], l.q);
-    state::fill_truths(&s[formulas..effects], l.q, st, &mut truths, &sets);
+    state::fill_truths(&s[formulas..effects], l.q, st, &mut truths);
     let r = records::action_at(&s[actions..programs], 0);
     let values = st.values;
     compare(&s[effects..actions], r, l.f, &truths, values, timed);

@@ -36,17 +36,14 @@ start-from-flags-from c = c .before .before .before .before .before
 abbrev fill-truths-from-settle : tie.After-settle → tie.After-fill-truths
 fill-truths-from-settle c = c .before .before .before .before
 
-abbrev start-from-settle : tie.After-settle → tie.Start
-start-from-settle c = start-from-flags-from (fill-truths-from-settle c .before .before .before .before)
+abbrev settle-from-sub-mark-finals : tie.After-mark-finals-arg → tie.After-settle
+settle-from-sub-mark-finals c = c .before .before .before
 
-abbrev settle-from-slice-aggregate-mark-finals : tie.After-mark-finals-arg3 → tie.After-settle
-settle-from-slice-aggregate-mark-finals c = c .before .before .before .before .before
+abbrev start-from-sub-mark-finals : tie.After-mark-finals-arg → tie.Start
+start-from-sub-mark-finals c = start-from-flags-from (fill-truths-from-settle (settle-from-sub-mark-finals c) .before .before .before)
 
-abbrev start-from-slice-aggregate-mark-finals : tie.After-mark-finals-arg3 → tie.Start
-start-from-slice-aggregate-mark-finals c = start-from-settle (settle-from-slice-aggregate-mark-finals c)
-
-abbrev settle-from-mark-finals : tie.After-mark-finals → tie.After-settle
-settle-from-mark-finals c = settle-from-slice-aggregate-mark-finals (c .before)
+abbrev mark-finals-arg-from-slice-aggregate-mark-finals : tie.After-mark-finals-arg3 → tie.After-mark-finals-arg
+mark-finals-arg-from-slice-aggregate-mark-finals c = c .before .before
 
 sub-fill-truths : tie.Need-sub-fill-truths
 sub-fill-truths c = in-order (in-sheet (start-from-flags-from c .pre .0)) .formulas
@@ -66,18 +63,9 @@ part-fill-truths-start-2 c = search needs
 part-fill-truths-end-2 : tie.Need-part-fill-truths-end-2
 part-fill-truths-end-2 c = search needs
 
-sub-fill-truths-3 : tie.Need-sub-fill-truths-3
-sub-fill-truths-3 c = search needs
-
-part-fill-truths-start-3 : tie.Need-part-fill-truths-start-3
-part-fill-truths-start-3 c = search needs
-
-part-fill-truths-end-3 : tie.Need-part-fill-truths-end-3
-part-fill-truths-end-3 c = search needs
-
 fill-truths-requires : tie.Need-fill-truths-requires
 fill-truths-requires c κs =
-    let at-flags-from = c .before .before .before in
+    let at-flags-from = c .before .before in
     let at-start = start-from-flags-from at-flags-from in
     let O = at-start .pre .0 in
     let s = now (at-start .args .s) in
@@ -91,24 +79,24 @@ settle-requires : tie.Need-settle-requires
 settle-requires c κs = search needs
 
 sub-mark-finals : tie.Need-sub-mark-finals
-sub-mark-finals c = in-order (in-sheet (start-from-settle (c .before .before .before) .pre .0)) .programs
+sub-mark-finals c = in-order (in-sheet (start-from-sub-mark-finals c .pre .0)) .programs
 
 part-mark-finals-start : tie.Need-part-mark-finals-start
-part-mark-finals-start c = let o = in-order (in-sheet (start-from-settle (c .before .before .before) .pre .0)) in omega arith
+part-mark-finals-start c = let o = in-order (in-sheet (start-from-sub-mark-finals c .pre .0)) in omega arith
 
 part-mark-finals-end : tie.Need-part-mark-finals-end
-part-mark-finals-end c = in-order (in-sheet (start-from-settle (c .before .before .before) .pre .0)) .end
+part-mark-finals-end c = in-order (in-sheet (start-from-sub-mark-finals c .pre .0)) .end
 
 slice-aggregate-mark-finals : tie.Need-slice-aggregate-mark-finals
 slice-aggregate-mark-finals c =
-    let at-start = start-from-slice-aggregate-mark-finals c in
+    let at-start = start-from-sub-mark-finals (mark-finals-arg-from-slice-aggregate-mark-finals c) in
     sym (length-take-le 261 (now (at-start .args .numbers)) (omega (arith, at-start .pre .1 .numbers-long)))
 
 mark-finals-requires : tie.Need-mark-finals-requires
 mark-finals-requires c κs =
-    let at-settle = settle-from-slice-aggregate-mark-finals c in
-    let at-fill-truths = at-settle .before .before .before .before in
-    let at-flags-from = at-fill-truths .before .before .before .before in
+    let at-settle = settle-from-sub-mark-finals (mark-finals-arg-from-slice-aggregate-mark-finals c) in
+    let at-fill-truths = fill-truths-from-settle at-settle in
+    let at-flags-from = at-fill-truths .before .before .before in
     let at-start = start-from-flags-from at-flags-from in
     let O = at-start .pre .0 in
     let P = at-start .pre .1 in
@@ -129,9 +117,9 @@ same-length c = search needs
 returns : tie.Need-returns
 returns c =
     let at-mark-finals = c .before .before in
-    let at-settle = settle-from-mark-finals at-mark-finals in
-    let at-fill-truths = at-settle .before .before .before .before in
-    let at-flags-from = at-fill-truths .before .before .before .before in
+    let at-settle = settle-from-sub-mark-finals (mark-finals-arg-from-slice-aggregate-mark-finals (at-mark-finals .before)) in
+    let at-fill-truths = fill-truths-from-settle at-settle in
+    let at-flags-from = at-fill-truths .before .before .before in
     let at-start = start-from-flags-from at-flags-from in
     let O = at-start .pre .0 in
     let P = at-start .pre .1 in
@@ -181,9 +169,6 @@ judge-spec =
     sub-fill-truths-2
     part-fill-truths-start-2
     part-fill-truths-end-2
-    sub-fill-truths-3
-    part-fill-truths-start-3
-    part-fill-truths-end-3
     fill-truths-requires
     settle-requires
     sub-mark-finals

@@ -11,7 +11,7 @@ use borrow.Rule.Slice.PartMut.{putMid, same-len-mid}
 use Rattle.engine.specs.Tables.{countsFrom, ListsMayConflict}
 use Rattle.sheet.proofs.Parts.{in-order, programs-long}
 use Rattle.sheet.proofs.Found.{in-sheet}
-use Rattle.engine.proofs.Tables.{skips-kept, distances-kept, may-conflict-kept}
+use Rattle.engine.proofs.Tables.{skips-kept, distances-kept}
 use Rattle.engine.proofs.Windows.{window-at-long, only-front, only-put, window-behind, window-put, window-same}
 use Rattle.engine.proofs.Judging.{prepared}
 use borrow.Author.Needs.{needs}
@@ -48,9 +48,6 @@ start-from-copy-flags c = start-from-may-conflict-of (c .before .before .before)
 
 abbrev copy-flags-from-copy-numbers : tie.After-copy-numbers → tie.After-copy-flags
 copy-flags-from-copy-numbers c = c .before .before .before .before .before
-
-abbrev start-from-copy-numbers : tie.After-copy-numbers → tie.Start
-start-from-copy-numbers c = start-from-copy-flags (copy-flags-from-copy-numbers c)
 
 abbrev copy-numbers-from-copy-numbers2 : tie.After-copy-numbers2 → tie.After-copy-numbers
 copy-numbers-from-copy-numbers2 c = c .before .before .before .before .before
@@ -137,21 +134,6 @@ slice-aggregate-copy-numbers-4 c = search needs
 copy-numbers-requires-3 : tie.Need-copy-numbers-requires-3
 copy-numbers-requires-3 c κs = search needs
 
-prepare-named-requires : tie.Need-prepare-named-requires
-prepare-named-requires c κs =
-    let at-copy-numbers3 = c .before .before .before in
-    let at-copy-numbers2 = copy-numbers2-from-copy-numbers3 at-copy-numbers3 in
-    let at-copy-numbers = copy-numbers-from-copy-numbers2 at-copy-numbers2 in
-    let at-start = start-from-copy-numbers at-copy-numbers in
-    let numbers = now (at-start .args .numbers) in
-    let skips = at-copy-numbers .copy-numbers .last .0 in
-    let distances = at-copy-numbers2 .copy-numbers2 .last .0 in
-    let numbers₁ = skips ++ drop 261 numbers in
-    let numbers₂ = putMid 261 260 numbers₁ distances in
-    let nl = length-front numbers skips 261 (at-copy-numbers .copy-numbers .kept .0) in
-    let nl₂ = same-len-mid 261 260 numbers₁ distances (at-copy-numbers2 .copy-numbers2 .kept .0) in
-    (at-start .pre .0, same-len-mid 521 65 numbers₂ (at-copy-numbers3 .copy-numbers3 .last .0) (at-copy-numbers3 .copy-numbers3 .kept .0) ∙ nl₂ ∙ nl ∙ at-start .pre .2)
-
 same-length : tie.Need-same-length
 same-length c = search needs
 
@@ -160,8 +142,7 @@ same-length-2 c = search needs
 
 returns : tie.Need-returns
 returns c =
-    let at-prepare-named = c .before .before in
-    let at-copy-numbers3 = at-prepare-named .before .before .before .before in
+    let at-copy-numbers3 = c .before .before in
     let at-copy-numbers2 = copy-numbers2-from-copy-numbers3 at-copy-numbers3 in
     let at-copy-numbers = copy-numbers-from-copy-numbers2 at-copy-numbers2 in
     let at-copy-flags = copy-flags-from-copy-numbers at-copy-numbers in
@@ -189,27 +170,20 @@ returns c =
     let jl = at-copy-numbers3 .copy-numbers3 .kept .0 ∙ window-at-long 521 586 65 numbers₂ (omega arith) long₂ in
     let nl₃ = same-len-mid 521 65 numbers₂ judged (at-copy-numbers3 .copy-numbers3 .kept .0) in
     let K₂ = only-put 521 586 65 numbers₂ judged (omega arith) long₂ jl in
-    let nl₄ = at-prepare-named .prepare-named .kept .0 in
-    let K₃ = at-prepare-named .prepare-named .ensures .1 in
     prepared (at-start .pre .0) (at-bounds .bounds .result)
     (length-front flags marks 260 (at-copy-flags .copy-flags .kept .0) ∙ at-start .pre .1)
-    (nl₄ ∙ nl₃ ∙ nl₂ ∙ nl ∙ at-start .pre .2)
+    (nl₃ ∙ nl₂ ∙ nl ∙ at-start .pre .2)
     (take-at marks (drop 260 flags) 260 ml ∙ at-copy-flags .copy-flags .ensures)
     (at-bounds .bounds .ensures)
     (λ d i. ap (λ (x : List ℕ). getD x i 0)
-    (window-behind K₃ nl₄ (countsFrom d) 260 (omega arith) ∙ window-behind K₂ nl₃ (countsFrom d) 260 (omega arith) ∙ window-behind K nl₂ (countsFrom d) 260 (omega arith) ∙ window-behind
-    (only-front 261 numbers skips sl) nl (countsFrom d) 260
+    (window-behind K₂ nl₃ (countsFrom d) 260 (omega arith) ∙ window-behind K nl₂ (countsFrom d) 260 (omega arith) ∙ window-behind (only-front 261 numbers skips sl) nl (countsFrom d) 260
     (omega arith))
     ∙ window-same 0 (countsFrom d) 260 numbers (at-start .pre .3) i)
-    (skips-kept (omega arith) K₃ ∙ skips-kept (omega arith) K₂ ∙ skips-kept (omega arith) K ∙ take-at skips (drop 261 numbers) 261 sl ∙ at-copy-numbers .copy-numbers .ensures ∙
-    at-skips .skips .ensures)
-    (distances-kept (omega arith) K₃ nl₄ (omega arith) ∙ distances-kept (omega arith) K₂ nl₃ (omega arith) ∙ window-put 261 521 260 numbers₁ distances (omega arith) long dl ∙
-    at-copy-numbers2 .copy-numbers2 .ensures ∙
+    (skips-kept (omega arith) K₂ ∙ skips-kept (omega arith) K ∙ take-at skips (drop 261 numbers) 261 sl ∙ at-copy-numbers .copy-numbers .ensures ∙ at-skips .skips .ensures)
+    (distances-kept (omega arith) K₂ nl₃ (omega arith) ∙ window-put 261 521 260 numbers₁ distances (omega arith) long dl ∙ at-copy-numbers2 .copy-numbers2 .ensures ∙
     at-distances .distances .ensures)
     (subst (ListsMayConflict (now (at-start .args .s)))
-    (sym (may-conflict-kept (omega arith) K₃ nl₄ (omega arith) ∙ window-put 521 586 65 numbers₂ judged (omega arith) long₂ jl ∙ at-copy-numbers3 .copy-numbers3 .ensures))
-    (at-may-conflict-of .may-conflict-of .ensures))
-    (at-prepare-named .prepare-named .ensures .0)
+    (sym (window-put 521 586 65 numbers₂ judged (omega arith) long₂ jl ∙ at-copy-numbers3 .copy-numbers3 .ensures)) (at-may-conflict-of .may-conflict-of .ensures))
 
 pub prepare-spec : {M : Type 1} → statement M
 prepare-spec =
@@ -241,7 +215,6 @@ prepare-spec =
     part-copy-numbers-end-2
     slice-aggregate-copy-numbers-4
     copy-numbers-requires-3
-    prepare-named-requires
     same-length
     same-length-2
     returns)

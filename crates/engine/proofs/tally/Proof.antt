@@ -45,22 +45,19 @@ start-from-counts-from c = start-from-flags-from (c .before)
 abbrev start-from-conflicted-at : tie.After-conflicted-at → tie.Start
 start-from-conflicted-at c = start-from-counts-from (c .before .before)
 
-abbrev actions-named-from-tallies-requires : tie.After-tallies-arg5 → tie.After-actions-named
-actions-named-from-tallies-requires c = c .before .before .before .before .before .before .before
+abbrev conflicted-at-from-tallies-requires : tie.After-tallies-arg5 → tie.After-conflicted-at
+conflicted-at-from-tallies-requires c = c .before .before .before .before .before .before
 
 abbrev counts-from-from-tallies-requires : tie.After-tallies-arg5 → tie.After-counts-from
-counts-from-from-tallies-requires c = actions-named-from-tallies-requires c .before .before .before .before
+counts-from-from-tallies-requires c = conflicted-at-from-tallies-requires c .before .before
 
 abbrev conflicted-at-from-tallies : tie.After-tallies → tie.After-conflicted-at
-conflicted-at-from-tallies c = actions-named-from-tallies-requires (c .before) .before .before
+conflicted-at-from-tallies c = conflicted-at-from-tallies-requires (c .before)
 
 conflicted-at-requires : tie.Need-conflicted-at-requires
 conflicted-at-requires c κs =
     let at-start = start-from-counts-from (c .before) in
     (at-start .pre .0, at-start .pre .1 .prepared)
-
-actions-named-requires : tie.Need-actions-named-requires
-actions-named-requires c κs = search needs
 
 mul-tallies : tie.Need-mul-tallies
 mul-tallies c = search needs
@@ -75,22 +72,22 @@ part-tallies-end : tie.Need-part-tallies-end
 part-tallies-end c = search needs
 
 sub-tallies-2 : tie.Need-sub-tallies-2
-sub-tallies-2 c = in-order (in-sheet (start-from-conflicted-at (c .before .before .before) .pre .0)) .programs
+sub-tallies-2 c = in-order (in-sheet (start-from-conflicted-at (c .before) .pre .0)) .programs
 
 part-tallies-start-2 : tie.Need-part-tallies-start-2
-part-tallies-start-2 c = let o = in-order (in-sheet (start-from-conflicted-at (c .before .before .before) .pre .0)) in omega arith
+part-tallies-start-2 c = let o = in-order (in-sheet (start-from-conflicted-at (c .before) .pre .0)) in omega arith
 
 part-tallies-end-2 : tie.Need-part-tallies-end-2
-part-tallies-end-2 c = in-order (in-sheet (start-from-conflicted-at (c .before .before .before) .pre .0)) .end
+part-tallies-end-2 c = in-order (in-sheet (start-from-conflicted-at (c .before) .pre .0)) .end
 
 sub-tallies-3 : tie.Need-sub-tallies-3
-sub-tallies-3 c = in-order (in-sheet (start-from-conflicted-at (c .before .before .before .before) .pre .0)) .actions
+sub-tallies-3 c = in-order (in-sheet (start-from-conflicted-at (c .before .before) .pre .0)) .actions
 
 part-tallies-start-3 : tie.Need-part-tallies-start-3
-part-tallies-start-3 c = let o = in-order (in-sheet (start-from-conflicted-at (c .before .before .before .before) .pre .0)) in omega arith
+part-tallies-start-3 c = let o = in-order (in-sheet (start-from-conflicted-at (c .before .before) .pre .0)) in omega arith
 
 part-tallies-end-3 : tie.Need-part-tallies-end-3
-part-tallies-end-3 c = let o = in-order (in-sheet (start-from-conflicted-at (c .before .before .before .before) .pre .0)) in omega arith
+part-tallies-end-3 c = let o = in-order (in-sheet (start-from-conflicted-at (c .before .before) .pre .0)) in omega arith
 
 sub-tallies-4 : tie.Need-sub-tallies-4
 sub-tallies-4 c = search needs
@@ -103,9 +100,6 @@ part-tallies-end-4 c = search needs
 
 slice-aggregate-tallies : tie.Need-slice-aggregate-tallies
 slice-aggregate-tallies c = search needs
-
-slice-aggregate-tallies-2 : tie.Need-slice-aggregate-tallies-2
-slice-aggregate-tallies-2 c = search needs
 
 sub-tallies-5 : tie.Need-sub-tallies-5
 sub-tallies-5 c = search needs
@@ -187,7 +181,6 @@ tally-spec =
     counts-from-requires
     add-last
     conflicted-at-requires
-    actions-named-requires
     mul-tallies
     sub-tallies
     part-tallies-start
@@ -202,7 +195,6 @@ tally-spec =
     part-tallies-start-4
     part-tallies-end-4
     slice-aggregate-tallies
-    slice-aggregate-tallies-2
     sub-tallies-5
     part-tallies-start-5
     part-tallies-end-5

@@ -1,22 +1,17 @@
 -- Only where there is an action is it looked at. Assumes nothing.
-use mathlib.Core.Path.{sym, _∙_, ap}
+use mathlib.Core.Path.{sym, _∙_}
 use borrow.Author.Needs.{needs}
-use Rattle.state.specs.declared.Possibility.{Possibility}
 use Rattle.leaves.proofs.can_act.Statement.{statement}
 use Rattle.leaves.proofs.can_act.Tie as tie
 
 acts-requires : tie.Need-acts-requires
 acts-requires c κs = search needs
 
--- Places: what stands before a need, by name. Written by `named`: run it again when the code changes.
-abbrev start-from-then1 : tie.Then1 → tie.Start
-start-from-then1 c = c .before .before .before .before .before .before
-
 possible-requires : tie.Need-possible-requires
-possible-requires c κs = start-from-then1 c .pre (rw (sym (c .before .acts .ensures) ∙ c .if1 .taken) tt)
+possible-requires c κs = c .before .before .before .before .before .pre (rw (sym (c .before .acts .ensures) ∙ c .if1 .taken) tt)
 
 returns : tie.Need-returns
-returns c = rw (sym (c .before .before .acts .ensures) ∙ c .before .if1 .taken) (ap (λ (p : Possibility). p .possible) (c .possible .ensures))
+returns c = rw (sym (c .before .before .acts .ensures) ∙ c .before .if1 .taken) (c .possible .ensures)
 
 returns-2 : tie.Need-returns-2
 returns-2 c = rw (sym (c .before .acts .ensures) ∙ c .if1 .left)

@@ -19,23 +19,20 @@ use Rattle.leaves.proofs.tallies.Statement.{statement}
 use Rattle.leaves.proofs.tallies.Tie as tie
 
 abbrev Inv-loop : tie.InvT-loop
-Inv-loop counts₀ programs n interrupts actions truths conflicted sets running finals m i₀ counts i =
+Inv-loop counts₀ programs n interrupts actions truths conflicted running finals m i₀ counts i =
     (i ≤ m) × (length counts ≡ 260)
     × ((W : World) (s : State) → Sees W s (extended interrupts (programAt programs) n) (extendedSize interrupts n) truths (allowedBy actions truths conflicted) running →
     Refilled (leafAt W s (extended interrupts (programAt programs) n)) cappedCount counts₀ counts i)
 
 abbrev μ-loop : tie.MeasureT-loop
-μ-loop counts₀ programs n interrupts actions truths conflicted sets running finals m i₀ counts i = m - i
+μ-loop counts₀ programs n interrupts actions truths conflicted running finals m i₀ counts i = m - i
 
 places-of-requires : tie.Need-places-of-requires Inv-loop μ-loop
 places-of-requires c κs = search needs
 
 -- Places: what stands before a need, by name. Written by `named`: run it again when the code changes.
-abbrev shared-slice-known3-from-places-of : tie.After-places-of Inv-loop μ-loop → tie.After-shared-slice-known3 Inv-loop μ-loop
-shared-slice-known3-from-places-of c = c .before .before .before .before
-
 abbrev start-from-places-of : tie.After-places-of Inv-loop μ-loop → tie.Start Inv-loop μ-loop
-start-from-places-of c = shared-slice-known3-from-places-of c .before .before .before .before
+start-from-places-of c = c .before .before .before .before .before .before .before
 
 abbrev start-from-loop : tie.At-loop Inv-loop μ-loop → tie.Start Inv-loop μ-loop
 start-from-loop c = start-from-places-of (c .before)

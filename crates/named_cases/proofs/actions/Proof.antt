@@ -5,16 +5,16 @@ use Rattle.named_cases.proofs.actions.Statement.{statement}
 use Rattle.named_cases.proofs.actions.Tie as tie
 
 abbrev Inv-loop : tie.InvT-loop
-Inv-loop flags numbers s found n a₀ t9 a = a ≤ n
+Inv-loop flags sets s found n a₀ t9 a = a ≤ n
 
 abbrev μ-loop : tie.MeasureT-loop
-μ-loop flags numbers s found n a₀ t9 a = n - a
+μ-loop flags sets s found n a₀ t9 a = n - a
 
 loop-holds : tie.Need-loop-holds Inv-loop μ-loop
 loop-holds c = search needs
 
-possible-requires : tie.Need-possible-requires Inv-loop μ-loop
-possible-requires c κs = search needs
+possible-check-requires : tie.Need-possible-check-requires Inv-loop μ-loop
+possible-check-requires c κs = search needs
 
 slice-aggregate-line : tie.Need-slice-aggregate-line Inv-loop μ-loop
 slice-aggregate-line c = search needs
@@ -41,7 +41,7 @@ actions-spec =
     Inv-loop
     μ-loop
     loop-holds
-    possible-requires
+    possible-check-requires
     slice-aggregate-line
     line-requires
     add-a

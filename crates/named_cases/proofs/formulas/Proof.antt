@@ -5,10 +5,10 @@ use Rattle.named_cases.proofs.formulas.Statement.{statement}
 use Rattle.named_cases.proofs.formulas.Tie as tie
 
 abbrev Inv-loop : tie.InvT-loop
-Inv-loop flags numbers n q₀ t6 q = q ≤ n
+Inv-loop flags sets n q₀ t6 q = q ≤ n
 
 abbrev μ-loop : tie.MeasureT-loop
-μ-loop flags numbers n q₀ t6 q = n - q
+μ-loop flags sets n q₀ t6 q = n - q
 
 loop-holds : tie.Need-loop-holds Inv-loop μ-loop
 loop-holds c = search needs

@@ -26,6 +26,9 @@ slice-aggregate-judge-2 c = search needs
 judge-requires : tie.Need-judge-requires
 judge-requires c κs = search needs
 
+formula-sets-requires : tie.Need-formula-sets-requires
+formula-sets-requires c κs = search needs
+
 slice-aggregate-formulas : tie.Need-slice-aggregate-formulas
 slice-aggregate-formulas c = search needs
 
@@ -34,6 +37,12 @@ slice-aggregate-formulas-2 c = search needs
 
 formulas-requires : tie.Need-formulas-requires
 formulas-requires c κs = search needs
+
+slice-aggregate-action-sets : tie.Need-slice-aggregate-action-sets
+slice-aggregate-action-sets c = search needs
+
+action-sets-requires : tie.Need-action-sets-requires
+action-sets-requires c κs = search needs
 
 slice-aggregate-actions : tie.Need-slice-aggregate-actions
 slice-aggregate-actions c = search needs
@@ -58,9 +67,12 @@ tell-spec =
     slice-aggregate-judge
     slice-aggregate-judge-2
     judge-requires
+    formula-sets-requires
     slice-aggregate-formulas
     slice-aggregate-formulas-2
     formulas-requires
+    slice-aggregate-action-sets
+    action-sets-requires
     slice-aggregate-actions
     slice-aggregate-actions-2
     actions-requires

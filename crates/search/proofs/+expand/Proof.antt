@@ -234,7 +234,7 @@ gone-on : (t : ℕ) → (c : expand-lts.After-expand (claims t) (expand-at t) ex
     let T = turn-made t at-next in
     Searched (now (at-start .args .s)) (at-next .next .last .0) (c .expand .last .0) (now (at-start .args .moves)) (at-loop .loop .trace) (c .expand .last .1 .0) (at-start .args .t)
     (at-start .args .q) (at-follow .follow .result) (at-loop .loop .cut) (leads (going T) (T .first) (at-loop .loop .cut)) (at-refresh .refresh .last .0) (c .expand .last .1 .1 .0)
-    (at-refresh .refresh .last .1 .0) (c .expand .last .1 .1 .1 .0) (c .expand .result) (leb 7 (at-start .args .q .left))
+    (at-refresh .refresh .last .1 .0) (c .expand .last .1 .1 .1 .0) (c .expand .result) (leb 8 (at-start .args .q .left))
 gone-on t c =
     let at-if3 = if3-from-expand-requires (c .before) in
     let at-see = see-from-then3 at-if3 in

@@ -1,15 +1,17 @@
 -- The tables of an accepted sheet lie in it in order, its formulas name lower ones, and the range of its first action lies in the table of
 -- effects and names its fluents. Assumes nothing.
 use denote.Ref.{now}
-use mathlib.Core.Path.{subst}
+use mathlib.Core.Path.{sym, subst}
 use native.Mathlib.Omega.{arith}
 use Prim.Native.Nat.{_<_}
+use Rattle.kinds.specs.Formulas.{LowerFormulas}
+use Rattle.sheet.specs.Layout.{formulasIn}
 use Rattle.sheet.specs.declared.Layout.{Layout}
 use Rattle.sheet.proofs.Accepted.{laid}
 use Rattle.sheet.proofs.Parts.{in-order, formulas-long, actions-long}
+use Rattle.sheet.proofs.Lower.{lower-formulas}
 use Rattle.sheet.proofs.Found.{in-sheet}
 use Rattle.engine.proofs.Actions.{performable}
-use Rattle.engine.proofs.Named.{formulas-lower}
 use borrow.Author.Needs.{needs}
 use Rattle.timed_cases.proofs.performing.perform_first.Statement.{statement}
 use Rattle.timed_cases.proofs.performing.perform_first.Tie as tie
@@ -30,17 +32,11 @@ initial-of-requires c κs = search needs
 abbrev start-from-else1 : tie.Else1 → tie.Start
 start-from-else1 c = c .before .before .before .before
 
-abbrev start-from-fill-truths-requires : tie.After-sets → tie.Start
-start-from-fill-truths-requires c = start-from-else1 (c .before .before .before .before .before .before)
-
 abbrev start-from-sub-action-at : tie.After-truths2 → tie.Start
-start-from-sub-action-at c = start-from-fill-truths-requires (c .before .before)
-
-abbrev sets-from-action-at-requires : tie.After-action-at-arg → tie.After-sets
-sets-from-action-at-requires c = c .before .before .before
+start-from-sub-action-at c = start-from-else1 (c .before .before .before .before .before)
 
 abbrev if1-from-action-at-requires : tie.After-action-at-arg → tie.Else1
-if1-from-action-at-requires c = sets-from-action-at-requires c .before .before .before .before .before .before
+if1-from-action-at-requires c = c .before .before .before .before .before .before
 
 abbrev if1-from-action-at : tie.After-action-at → tie.Else1
 if1-from-action-at c = if1-from-action-at-requires (c .before)
@@ -48,43 +44,26 @@ if1-from-action-at c = if1-from-action-at-requires (c .before)
 abbrev start-from-action-at : tie.After-action-at → tie.Start
 start-from-action-at c = start-from-else1 (if1-from-action-at c)
 
-sub-sets-of : tie.Need-sub-sets-of
-sub-sets-of c = in-order (in-sheet (start-from-else1 (c .before) .pre)) .formulas
-
-part-sets-of-start : tie.Need-part-sets-of-start
-part-sets-of-start c = let o = in-order (in-sheet (start-from-else1 (c .before) .pre)) in omega arith
-
-part-sets-of-end : tie.Need-part-sets-of-end
-part-sets-of-end c = let o = in-order (in-sheet (start-from-else1 (c .before) .pre)) in omega arith
-
-sets-of-requires : tie.Need-sets-of-requires
-sets-of-requires c κs =
-    let at-start = start-from-else1 (c .before .before) in
-    let O = at-start .pre in
-    let f = in-sheet O in
-    (formulas-long (now (at-start .args .s)) _ f, f .q, formulas-lower O)
-
 sub-fill-truths : tie.Need-sub-fill-truths
-sub-fill-truths c = in-order (in-sheet (start-from-else1 (c .before .before .before) .pre)) .formulas
+sub-fill-truths c = in-order (in-sheet (start-from-else1 (c .before) .pre)) .formulas
 
 part-fill-truths-start : tie.Need-part-fill-truths-start
-part-fill-truths-start c = let o = in-order (in-sheet (start-from-else1 (c .before .before .before) .pre)) in omega arith
+part-fill-truths-start c = let o = in-order (in-sheet (start-from-else1 (c .before) .pre)) in omega arith
 
 part-fill-truths-end : tie.Need-part-fill-truths-end
-part-fill-truths-end c = let o = in-order (in-sheet (start-from-else1 (c .before .before .before) .pre)) in omega arith
+part-fill-truths-end c = let o = in-order (in-sheet (start-from-else1 (c .before) .pre)) in omega arith
 
 slice-aggregate-fill-truths : tie.Need-slice-aggregate-fill-truths
 slice-aggregate-fill-truths c = search needs
 
-slice-aggregate-fill-truths-2 : tie.Need-slice-aggregate-fill-truths-2
-slice-aggregate-fill-truths-2 c = search needs
-
 fill-truths-requires : tie.Need-fill-truths-requires
 fill-truths-requires c κs =
-    let at-start = start-from-fill-truths-requires c in
+    let at-start = start-from-else1 (c .before .before .before) in
     let O = at-start .pre in
+    let s = now (at-start .args .s) in
     let f = in-sheet O in
-    ((formulas-long (now (at-start .args .s)) _ f, f .q), formulas-lower O)
+    let low = subst (λ (l : Layout). LowerFormulas (formulasIn s l) (l .q)) (sym (O .layout-is)) (lower-formulas s (O .accepted)) in
+    ((formulas-long s _ f, f .q), low)
 
 sub-action-at : tie.Need-sub-action-at
 sub-action-at c = in-order (in-sheet (start-from-sub-action-at c .pre)) .actions
@@ -135,15 +114,10 @@ perform-first-spec =
     text-requires
     returns
     initial-of-requires
-    sub-sets-of
-    part-sets-of-start
-    part-sets-of-end
-    sets-of-requires
     sub-fill-truths
     part-fill-truths-start
     part-fill-truths-end
     slice-aggregate-fill-truths
-    slice-aggregate-fill-truths-2
     fill-truths-requires
     sub-action-at
     part-action-at-start
