@@ -9,7 +9,7 @@ use native.Mathlib.Decide.{decLt, ℕ-discrete}
 use native.Mathlib.Nat.{zero-div}
 use native.Mathlib.Omega.{arith}
 use lib.Dec.{eqb}
-use lib.ListN.{length, getD, length-set, length-take, length-drop, length-append, length-replicate, List·getD-eq-default}
+use lib.ListN.{length, getD, length-set, length-append, length-replicate, List·getD-eq-default}
 use lib.Seq.{getD-set-same, getD-set-other}
 use Rattle.records.specs.Bytes.{part}
 use Rattle.records.specs.Mask.{hasBit}
@@ -71,10 +71,7 @@ module _ (s s′ : List ℕ) (accepted : Accepts s) (names : ℕ) (but : SameBut
   pub rest-same : SameRest s s′
   rest-same = alike.rest-same s s′ (but .len) (trailerOf s .d) trailer-same accepted (λ i l h. bytes-behind i l)
 
-  -- the fluents' table has as many bytes, and the same but for those initial values
-  pub fluents-length : length (fluentsIn s′ (layoutOf s′)) ≡ length (fluentsIn s (layoutOf s))
-  fluents-length = ap (λ (l : Layout). length (fluentsIn s′ l)) layout-same ∙ simp (length-take, length-drop, but .len)
-
+  -- the fluents' table has the same bytes but for those initial values
   fluents-at :
       (j : ℕ) → ((x : ℕ) → x < layoutOf s .f → hasBit names x ≡ false → ¬ (j ≡ 2 * x + 1))
       → getD (fluentsIn s′ (layoutOf s′)) j 0 ≡ getD (fluentsIn s (layoutOf s)) j 0

@@ -1,5 +1,5 @@
--- What a formula names depends on the lower formulas that its kind has: so tables that agree below it give it the same names, and the same
--- set; and where the sets of the lower ones are those of what they name, its set is that of what it names. Assumes nothing.
+-- The set of a formula depends on the lower formulas that its kind has: so tables that agree below it give it the same set; and where the
+-- sets of the lower ones are those of what they name, its set is that of what it names. Assumes nothing.
 use Prim.Native.Nat.{ℕ, _<_, _^_}
 use mathlib.Core.Path.{_≡_, refl, sym, ap₂, _∙_}
 use mathlib.Core.Bool.{Bool, true, false, _||_, cond}
@@ -25,18 +25,6 @@ bit-is x = go (ltb x setBits) refl
     go false e = sym (mask-past x 32 (ltb-false x 32 e))
 
 module _ (x a b : ℕ) where
-  names-parts :
-      (y : ℕ) (l m : List Bool) (kind : ℕ)
-      → (T (hasA kind) → getD l a false ≡ getD m a false) → (T (hasB kind) → getD l b false ≡ getD m b false)
-      → namesOf (formulaOf kind x a b) y l ≡ namesOf (formulaOf kind x a b) y m
-  unfolding namesOf fieldA fieldB
-  names-parts y l m =
-      by-kind
-      (λ (kind : ℕ). (T (hasA kind) → getD l a false ≡ getD m a false) → (T (hasB kind) → getD l b false ≡ getD m b false)
-      → namesOf (formulaOf kind x a b) y l ≡ namesOf (formulaOf kind x a b) y m)
-      (λ p q. refl) (λ p q. refl) (λ p q. refl) (λ p q. refl) (λ p q. refl) (λ p q. p tt) (λ p q. ap₂ _||_ (p tt) (q tt)) (λ p q. ap₂ _||_ (p tt) (q tt))
-      (λ k p q. refl)
-
   set-parts :
       (l m : List ℕ) (kind : ℕ)
       → (T (hasA kind) → getD l a 0 ≡ getD m a 0) → (T (hasB kind) → getD l b 0 ≡ getD m b 0)
@@ -71,9 +59,6 @@ module _ (x a b : ℕ) where
         (λ p q. p tt) (λ p q. parts (p tt) (q tt)) (λ p q. parts (p tt) (q tt)) (λ k p q. sym (mask-none 32))
 
 module _ (i : ℕ) (r : Formula) (low : PartsLower i r) where
-  pub names-same : (x : ℕ) (l m : List Bool) → ((a : ℕ) → a < i → getD l a false ≡ getD m a false) → namesOf r x l ≡ namesOf r x m
-  names-same x l m h = names-parts (r .x) (r .a) (r .b) x l m (r .kind) (λ t. h (r .a) (low .0 t)) (λ t. h (r .b) (low .1 t))
-
   pub set-same : (l m : List ℕ) → ((a : ℕ) → a < i → getD l a 0 ≡ getD m a 0) → setOf r l ≡ setOf r m
   set-same l m h = set-parts (r .x) (r .a) (r .b) l m (r .kind) (λ t. h (r .a) (low .0 t)) (λ t. h (r .b) (low .1 t))
 
