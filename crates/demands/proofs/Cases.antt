@@ -18,7 +18,7 @@ use Rattle.sheet.specs.Layout.{layoutIn, layoutOf}
 use Rattle.sheet.specs.Check.{refusedAt, tablesChecked, heightChecked, trailerChecked, checkOf}
 use Rattle.records.specs.Some.{someFrom}
 use Rattle.records.specs.Mask.{maskOf}
-use Rattle.golog.specs.World.{holds, conflicting, possibleBy, given, each, changed, performBy}
+use Rattle.golog.specs.World.{holds, conflicting, straying, possibleBy, given, each, changed, performBy}
 use Rattle.golog.specs.Prog.{construct, programOf}
 use Rattle.golog.specs.Transitions.{final, transitions}
 use Rattle.demands.specs.Planning.{verdictOf, acceptsOf, planOf, replayOf}
@@ -31,7 +31,7 @@ unfolding
     fieldX formulaA formulaB formulaOk fieldA fieldB fieldC programOk links
     fluentOk effectOk actionOk heightOver heightAt rise interrupts levels
     trailerIn limitsOk distanceOk layoutIn layoutOf refusedAt tablesChecked heightChecked trailerChecked checkOf
-    maskOf namesOf names conditionsName actionNames tableNames truthOf holds someFrom conflicting possibleBy given each changed performBy construct programOf final transitions
+    maskOf namesOf names conditionsName actionNames tableNames truthOf holds someFrom conflicting straying possibleBy given each changed performBy construct programOf final transitions
     verdictOf acceptsOf planOf replayOf
 computing = tt
 

@@ -11,12 +11,12 @@ use Rattle.height.specs.Work.{levels, frameWords}
 use Rattle.sheet.specs.Layout.{layoutOf}
 use Rattle.sheet.specs.Check.{Accepts}
 use Rattle.sheet.proofs.Accepted.{laid}
-use Rattle.sheet.proofs.Lower.{lower}
+use Rattle.sheet.proofs.Lower.{lower, plain-records}
 use Rattle.golog.specs.Transitions.{Configuration}
-use Rattle.remaining.specs.Rest.{unfolded, nodes, AllLower}
+use Rattle.remaining.specs.Rest.{unfolded, nodes, AllLower, Plain}
 use Rattle.remaining.specs.Leaves.{Compact}
 use Rattle.remaining.specs.Extended.{top}
-use Rattle.remaining.proofs.Started.{table-lower, top-started, top-rise}
+use Rattle.remaining.proofs.Started.{table-lower, table-plain, top-started, top-rise}
 use Rattle.remaining.proofs.Nodes.{Reaches, reached-nodes}
 use Rattle.demands.specs.Decoded.{worldOf, recordsOf, interruptsIn, initialOf, firstOf, boundOf, levelsOf}
 use Rattle.demands.specs.Compact.{extendedRecords, compactFirst}
@@ -27,13 +27,16 @@ fullOf p c = (unfolded p (c .0), c .1)
 
 module _ (s : List ℕ) (accepted : Accepts s) where
   pub all-lower : AllLower (extendedRecords s)
-  all-lower = table-lower (interruptsIn s) (recordsOf s) (layoutOf s .p) (lower s accepted)
+  all-lower = table-lower (interruptsIn s) (recordsOf s) (layoutOf s .p) (lower s accepted) (plain-records s accepted)
+
+  pub all-plain : Plain (extendedRecords s)
+  all-plain = table-plain (interruptsIn s) (recordsOf s) (layoutOf s .p) (lower s accepted) (plain-records s accepted)
 
   some-record : 1 ≤ layoutOf s .p
   some-record = laid s accepted .some-record
 
   pub starts : fullOf (extendedRecords s) (compactFirst s) ≡ firstOf s
-  starts = λ i. (top-started (recordsOf s) (layoutOf s .p) (lower s accepted) some-record (interruptsIn s) i, initialOf s)
+  starts = λ i. (top-started (recordsOf s) (layoutOf s .p) (lower s accepted) some-record (plain-records s accepted) (interruptsIn s) i, initialOf s)
 
   -- document 01's h is the height of the record that runs
   pub top-levels : rise (extendedRecords s) (top (interruptsIn s) (layoutOf s .p)) ≡ levelsOf s

@@ -32,7 +32,7 @@ use Rattle.demands.specs.Planning.{Goes, Ends, transitionsIn, isFinalIn,
 use Rattle.demands.specs.Planning.{refusedBy}
 use Rattle.demands.specs.Planning.{verdictOf, acceptsOf, PlanAnswer, found, answer, plannedFrom, planOf, ReplayAnswer, replied, replayedFrom, replayOf}
 use Rattle.demands.specs.Raised.{SameButBound, withBound}
-use Rattle.demands.proofs.Tables.{world-same, first-same}
+use Rattle.demands.proofs.Tables.{all-same, first-same}
 use Rattle.demands.proofs.Raised.{tables-same, accepted-too, bound-alone, bound-put}
 
 -- the lists of transitions are the paper's Trans, the test for final configurations its Final
@@ -185,7 +185,7 @@ module _ (s s′ : List ℕ) (accepted : Accepts s) (accepted′ : Accepts s′)
   unfolding verdictOf
   verdict-same =
       let same = tables-same s s′ accepted but in
-      ap₂ (λ (W : World) (c : Configuration). firstPlan (transitionsIn W) (isFinalIn W) (boundOf s′) c) (world-same (same .rest)) (first-same same)
+      ap₂ (λ (W : World) (c : Configuration). firstPlan (transitionsIn W) (isFinalIn W) (boundOf s′) c) (all-same same) (first-same same)
 
   -- the very same plan
   pub first-stays-first : (h : List ℕ) (t : ℕ) → planOf s ≡ found h t → planOf s′ ≡ found h t
@@ -194,7 +194,7 @@ module _ (s s′ : List ℕ) (accepted : Accepts s) (accepted′ : Accepts s′)
       let W = worldOf s in
       let F = first-stays (Goes W) (Ends W) (boundOf s′) (boundOf s) (firstOf s) h t raised (first-exactly s accepted h t .0 e) in
       first-exactly s′ accepted′ h t .1
-      (subst (λ (U : World). IsFirst (Goes U) (Ends U) (boundOf s′) (firstOf s′) h t) (sym (world-same (same .rest)))
+      (subst (λ (U : World). IsFirst (Goes U) (Ends U) (boundOf s′) (firstOf s′) h t) (sym (all-same same))
       (subst (λ (c : Configuration). IsFirst (Goes W) (Ends W) (boundOf s′) c h t) (sym (first-same same)) F))
 
   pub plan-stays-plan : (h : List ℕ) (t : ℕ) → planOf s ≡ found h t → (g : List ℕ) × (u : ℕ) × (planOf s′ ≡ found g u)

@@ -17,7 +17,8 @@ use Rattle.height.proofs.Levels.{interrupts-exactly}
 use Rattle.sheet.specs.Layout.{layoutOf}
 use Rattle.sheet.specs.Check.{Accepts}
 use Rattle.sheet.proofs.Accepted.{laid}
-use Rattle.sheet.proofs.Lower.{fields-of, lower}
+use Rattle.sheet.proofs.Lower.{fields-of, lower, plain-records}
+use Rattle.remaining.proofs.Started.{PlainBelow}
 use Rattle.golog.specs.World.{start, stop}
 use Rattle.golog.specs.Prog.{Prog, nil, progAt, programOf, started}
 use Rattle.golog.specs.Transitions.{Configuration}
@@ -36,17 +37,18 @@ module _ (K : ℕ → Type 0) where
   program-acts :
       (p : ℕ → Program) (n : ℕ)
       → Lower p n
+      → PlainBelow p n
       → ((i : ℕ) → i < n → T (acts (p i .kind)) → K (p i .a))
       → (i : ℕ)
       → i < n
       → Acts K (programOf p i)
   unfolding programOf
-  program-acts p n low known =
+  program-acts p n low plain known =
       entry-rule nil (progAt p) (λ (i : ℕ) (P : Prog). i < n → Acts K P)
       (λ i below h l.
       let part : (a : ℕ) → a < i → Acts K (getD below a nil) = λ a m. h a m (omega arith) in
-      construct-acts K (p i .kind) (p i .a) (p i .b) (p i .c) _ _ (known i l) (λ t. part (p i .a) (low i (p i .a) l (link-a (p i) t)))
-      (λ t. part (p i .b) (low i (p i .b) l (link-b (p i) t))))
+      construct-acts K (p i .kind) (p i .a) (p i .b) (p i .c) _ _ _ (known i l) (λ t. part (p i .a) (low i (p i .a) l (link-a (p i) t)))
+      (λ t. part (p i .b) (low i (p i .b) l (link-b (p i) t))) (λ t. absurd (rw (plain i l) at t)))
 
   started-acts : (b : Bool) (root : Prog) → Acts K root → (b ≡ true → K start × K stop) → Acts K (started b root)
   started-acts true root r k = (k refl .0, (r, k refl .1))
@@ -60,7 +62,7 @@ module _ (s : List ℕ) (accepted : Accepts s) where
       let there : interruptsIn s ≡ true → Interrupted (recordsOf s) n = interrupts-exactly (recordsOf s) n .0 in
       let some-record = laid s accepted .some-record in
       started-acts (KnownEntry s) (interruptsIn s) (programOf (recordsOf s) (n - 1))
-      (program-acts (KnownEntry s) (recordsOf s) n (lower s accepted) (λ i l t. inl (action-below _ _ i (fieldA (recordsOf s i .kind)) (fields-of s accepted i l .a) t)) (n - 1) (omega arith))
+      (program-acts (KnownEntry s) (recordsOf s) n (lower s accepted) (plain-records s accepted) (λ i l t. inl (action-below _ _ i (fieldA (recordsOf s i .kind)) (fields-of s accepted i l .a) t)) (n - 1) (omega arith))
       (λ e. (inr (inl refl, there e), inr (inr refl, there e)))
 
   -- every entry of the history of a run, final or not, is known

@@ -5,7 +5,8 @@ use Prim.Native.Nat.{ℕ, _<_}
 use lib.Dec.{T}
 use Rattle.sheet.specs.Layout.{layoutOf}
 use Rattle.sheet.specs.Check.{Accepts}
-use Rattle.sheet.proofs.Lower.{lower-formulas}
+use Rattle.sheet.proofs.Lower.{lower-formulas, plain-formulas}
+use Rattle.kinds.proofs.Truth.{reads-parts}
 use Rattle.golog.specs.declared.State.{State}
 use Rattle.golog.specs.World.{holds}
 use Rattle.golog.specs.Says.{Says}
@@ -20,4 +21,4 @@ pub says-exactly :
     → q < layoutOf s .q
     → (state : State)
     → T (holds (worldOf s) q state) ↔ Says (worldOf s) state (worldOf s .formula q)
-says-exactly s accepted q l state = formula-says (worldOf s) q state (lower-formulas s accepted q l)
+says-exactly s accepted q l state = formula-says (worldOf s) q state (reads-parts q (worldOf s .formula q) (plain-formulas s accepted q l) (lower-formulas s accepted q l))

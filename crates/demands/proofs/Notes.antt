@@ -15,7 +15,7 @@ use Rattle.demands.proofs.Alike.{AnsweredAlike}
 module _ (s other : List ℕ) (first : FirstRecord s) where
   -- the same world and first configuration
   world-same : worldOf (withNotes s other) ≡ worldOf s
-  world-same = tables.world-same (notes.tables-same s other first .rest)
+  world-same = tables.all-same (notes.tables-same s other first)
 
   first-same : firstOf (withNotes s other) ≡ firstOf s
   first-same = tables.first-same (notes.tables-same s other first)

@@ -3,7 +3,8 @@
 use mathlib.Core.Path.{_≡_, refl, sym, _∙_, ap}
 use mathlib.Core.Bool.{Bool, true}
 use mathlib.Core.List.{List}
-use Prim.Native.Nat.{ℕ, _<_}
+use Prim.Native.Nat.{ℕ, _≤_, _<_}
+use native.Mathlib.Decide.{decLt}
 use native.Mathlib.Omega.{arith}
 use lib.Dec.{T}
 use lib.ListN.{List·getD-eq-default}
@@ -11,6 +12,7 @@ use Rattle.records.specs.Records.{formulaAt}
 use Rattle.records.specs.Mask.{hasBit}
 use Rattle.records.proofs.Masks.{mask-has}
 use Rattle.records.proofs.Truth.{is-true}
+use Rattle.kinds.specs.Formulas.{isPlain}
 use Rattle.named.specs.Named.{tableNames}
 use Rattle.named.proofs.Named.{table-covers}
 use Rattle.runs.specs.Earliest.{firstPlan}
@@ -20,14 +22,16 @@ use Rattle.sheet.specs.Layout.{layoutOf, formulasIn}
 use Rattle.sheet.specs.Check.{Accepts}
 use Rattle.sheet.specs.declared.Layout.{Layout}
 use Rattle.sheet.proofs.Accepted.{ruled, laid}
+use Rattle.sheet.proofs.Lower.{plain-formulas}
 use Rattle.sheet.proofs.Parts.{part-length, in-order}
 use Rattle.golog.specs.Agree.{Agree, Covers, AgreeAt}
 use Rattle.golog.proofs.Kept.{alike}
+use Rattle.golog.proofs.Named.{holds-named}
 use Rattle.demands.specs.Decoded.{worldOf, firstOf, initialOf, boundOf}
 use Rattle.demands.specs.Planning.{transitionsIn, isFinalIn, verdictOf, acceptsOf}
 use Rattle.demands.specs.Initials.{SameButInitials}
 use Rattle.demands.proofs.Tables.{world-same, program-same}
-use Rattle.demands.proofs.Initials.{layout-same, bound-same, rest-same, check-initials, values-same, places}
+use Rattle.demands.proofs.Initials.{layout-same, bound-same, rest-same, size-same, check-initials, values-same, places}
 use Rattle.demands.proofs.Alike.{AnsweredAlike}
 
 module _ (s : List ℕ) (accepted : Accepts s) where
@@ -35,15 +39,27 @@ module _ (s : List ℕ) (accepted : Accepts s) where
   abbrev union : ℕ → Bool
   union = tableNames (worldOf s .formula) (layoutOf s .q)
 
-  -- it has every fluent that a formula names: behind the table formulas read as kind 0
-  union-covers : Covers union (worldOf s)
+  -- behind the table formulas read as kind 0
+  none-behind : (q : ℕ) → layoutOf s .q ≤ q → worldOf s .formula q .kind ≡ 0
   unfolding formulaAt
-  union-covers =
+  none-behind q h =
       let l = layoutOf s in
       let f = laid s accepted in
       let o = in-order f in
       let long = part-length s (l .formulas) (l .effects) (o .formulas) (omega (arith, o .effects, o .actions, o .programs, o .end)) in
-      table-covers (worldOf s .formula) (l .q) (λ q h. List·getD-eq-default (formulasIn s l) 0 (omega (arith, long, f .at-effects)))
+      List·getD-eq-default (formulasIn s l) 0 (omega (arith, long, f .at-effects))
+
+  -- so no formula has placeholders, and the union, which has every fluent that one names, decides what they say
+  plain : (q : ℕ) → T (isPlain (worldOf s .formula q .kind))
+  plain q = go (decLt q (layoutOf s .q))
+    where
+      go : Dec (q < layoutOf s .q) → T (isPlain (worldOf s .formula q .kind))
+      go (yes l) = plain-formulas s accepted q l
+      go (no l) = rw (none-behind q (omega arith)) tt
+
+  union-covers : Covers union (worldOf s)
+  union-covers st st′ same q =
+      holds-named (worldOf s) plain st st′ q (λ x t. same x (table-covers (worldOf s .formula) (layoutOf s .q) none-behind q x t))
 
   module _ (s′ : List ℕ) (accepted′ : Accepts s′) (but : SameButInitials (accepted .1) s s′) where
     -- a fluent of the union has its bit in the set that the check answers
@@ -69,7 +85,7 @@ module _ (s : List ℕ) (accepted : Accepts s) where
     pub outside-alike : AnsweredAlike s s′
     unfolding verdictOf acceptsOf
     outside-alike =
-        let world = world-same (rest-same s s′ accepted (accepted .1) but) in
+        let world = world-same (rest-same s s′ accepted (accepted .1) but) (size-same s s′ accepted (accepted .1) but) in
         let bound = bound-same s s′ accepted (accepted .1) but in
         let like = alike union (worldOf s) union-covers in
         record {

@@ -16,9 +16,9 @@ use Rattle.golog.specs.Decoded.{world}
 use Rattle.golog.specs.Prog.{programOf, started}
 use Rattle.golog.specs.Transitions.{Configuration}
 
--- the formulas, effects and actions
+-- the domain sizes, formulas, effects and actions
 abbrev pub worldOf : List ℕ → World
-worldOf s = world (formulasIn s (layoutOf s)) (effectsIn s (layoutOf s)) (actionsIn s (layoutOf s))
+worldOf s = world (fluentsIn s (layoutOf s)) (formulasIn s (layoutOf s)) (effectsIn s (layoutOf s)) (actionsIn s (layoutOf s))
 
 -- the program records
 abbrev pub recordsOf : List ℕ → ℕ → Program

@@ -17,7 +17,7 @@ use Rattle.golog.specs.Prog.{Prog, sequence, together, over}
 use Rattle.golog.specs.Transitions.{Transition, isNone}
 use Rattle.golog.specs.Distance.{distance}
 use Rattle.golog.proofs.Distance.{final-near, step-near}
-use Rattle.remaining.specs.Rest.{Rest, gone, leaf, node, unfolded, largest, AllLower}
+use Rattle.remaining.specs.Rest.{Rest, gone, leaf, node, unfolded, largest, AllLower, Plain}
 use Rattle.remaining.specs.Leaves.{RestTransition, goesRight, wrapRight, leafOf, restFinal, restTransitions}
 use Rattle.remaining.proofs.Counts.{none-length}
 use Rattle.remaining.proofs.Every.{Every, nobody, also, every-append, every-map, every-part, every-at}
@@ -54,7 +54,7 @@ module _ (p : ℕ → Program) (m : ℕ) (distances : List ℕ) (D : Distances p
   far-in (leaf i) H = D i (within-leaf H .0)
   far-in (node tag l r) H = omega (arith, node-distance p tag l r, far-in l (within-left H), far-in r (within-right H))
 
-  module _ (W : World) (low : AllLower p) (s : State) where
+  module _ (W : World) (low : AllLower p) (plain : Plain p) (s : State) where
     -- what it leaves is no nearer than n, the transition counted
     abbrev Far : ℕ → RestTransition → Type 0
     Far n x = n ≤ suc (distance (unfolded p (x .1)))
@@ -66,12 +66,12 @@ module _ (p : ℕ → Program) (m : ℕ) (distances : List ℕ) (D : Distances p
     goes-by : (tag : ℕ) (l : Rest) → InTable p m l → goesRight tag (finalByTable (finalsOf W s p m) l) (eqb (countByTable (finalsOf W s p m) (countsOf W s p m) l) 0) ≡ goesRight tag
         (restFinal W s p l)
         (isNone (restTransitions W s p l))
-    goes-by tag l H = ap₂ (goesRight tag) (final-in W s p m l H) (ap (λ (n : ℕ). eqb n 0) (count-in W s p m low l H) ∙ sym (none-length (restTransitions W s p l)))
+    goes-by tag l H = ap₂ (goesRight tag) (final-in W s p m l H) (ap (λ (n : ℕ). eqb n 0) (count-in W s p m low plain l H) ∙ sym (none-length (restTransitions W s p l)))
 
     leaf-far : (i : ℕ) → InTable p m (leaf i) → (x : RestTransition) → List·Memᴰ x (restTransitions W s p (leaf i)) → Far (soonest (leaf i)) x
     unfolding soonByTable restTransitions unfolded largest
     leaf-far i H x k =
-        let z = counts-exact W s p low m i (within-leaf H .0) (within-leaf H .1) in
+        let z = counts-exact W s p low plain m i (within-leaf H .0) (within-leaf H .1) in
         let some : eqb (getD (countsOf W s p m) i 0) 0 ≡ false = ne-eqb _ 0 (λ e. some-length (leafOf W s p i .transitions) x k (sym z ∙ e)) in
         let of : RestTransition → Transition = λ y. (y .0, (unfolded p (y .1), after W (y .0) s)) in
         let y = subst (List·Memᴰ (of x)) (rest-steps W s p low (leaf i)) (Memᴰ·map of k) in

@@ -9,7 +9,7 @@ use lib.ListN.{length}
 use Rattle.records.specs.declared.Program.{Program}
 use Rattle.golog.specs.declared.State.{State}
 use Rattle.golog.specs.World.{World}
-use Rattle.remaining.specs.Rest.{Rest, gone, leaf, node, largest, high, AllLower}
+use Rattle.remaining.specs.Rest.{Rest, gone, leaf, node, largest, high, AllLower, Plain}
 use Rattle.remaining.specs.Leaves.{restFinal, restTransitions}
 use Rattle.remaining.proofs.Counts.{node-count}
 use Rattle.leaves.specs.Tallies.{finalsOf, countsOf}
@@ -41,11 +41,11 @@ module _ (W : World) (s : State) (p : ℕ → Program) (m : ℕ) where
   pub final-in : (g : Rest) → InTable p m g → finalByTable (finalsOf W s p m) g ≡ restFinal W s p g
   final-in g H = final-by (finalsOf W s p m) (λ i h. finals-at W s p m i h) g H
 
-  module _ (low : AllLower p) where
+  module _ (low : AllLower p) (plain : Plain p) where
     -- they count its transitions
     pub count-in : (g : Rest) → InTable p m g → countByTable (finalsOf W s p m) (countsOf W s p m) g ≡ length (restTransitions W s p g)
     unfolding countByTable restTransitions largest
     count-in gone H = refl
-    count-in (leaf i) H = counts-exact W s p low m i (within-leaf H .0) (within-leaf H .1)
+    count-in (leaf i) H = counts-exact W s p low plain m i (within-leaf H .0) (within-leaf H .1)
     count-in (node tag l r) H =
         rw (count-in l (within-left H), count-in r (within-right H), final-in l (within-left H)) (sym (node-count W s p tag l r))

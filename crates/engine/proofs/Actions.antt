@@ -18,7 +18,9 @@ use Rattle.sheet.proofs.Accepted.{laid}
 use Rattle.sheet.proofs.Lower.{fields-of, action-of, effect-of}
 use Rattle.remaining.specs.Extended.{empty, virtual}
 use Rattle.remaining.proofs.Started.{table-below, table-above}
-use Rattle.demands.specs.Decoded.{recordsOf, interruptsIn}
+use Rattle.golog.specs.World.{straying}
+use Rattle.golog.proofs.Possible.{inside-none}
+use Rattle.demands.specs.Decoded.{worldOf, recordsOf, interruptsIn}
 use Rattle.demands.specs.Compact.{extendedRecords}
 use Rattle.state.specs.Ranges.{InActions, Performable, ConditionsBelow}
 use Rattle.leaves.specs.Tallies.{ReadsActions}
@@ -83,3 +85,14 @@ module _ (s : List ℕ) (accepted : Accepts s) where
       → a < layoutOf s .a
       → ConditionsBelow (effectsIn s (layoutOf s)) (layoutOf s .q) (actionAt (actionsIn s (layoutOf s)) a .first) (actionAt (actionsIn s (layoutOf s)) a .count)
   conditions-below a known i l m = let r = action-of s accepted a known .1 in effect-of s accepted i (omega arith) .0
+
+  -- each value that its range gives lies in its fluent's domain
+  pub inside-range :
+      (a : ℕ)
+      → a < layoutOf s .a
+      → (says : ℕ → Bool)
+      → straying says (worldOf s .size) (worldOf s .effect) (worldOf s .action a .first) (worldOf s .action a .count) ≡ false
+  inside-range a known says =
+      let r = worldOf s .action a in
+      inside-none says (worldOf s .size) (worldOf s .effect) (r .first) (r .count)
+      (λ i (l, m). let k = action-of s accepted a known .1 in effect-of s accepted i (omega arith) .2)

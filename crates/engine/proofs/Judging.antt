@@ -9,16 +9,18 @@ use lib.Seq.{ext-getD, getD-drop}
 use Rattle.records.specs.declared.Program.{Program}
 use Rattle.records.specs.Table.{upTo}
 use Rattle.records.proofs.Fills.{getD-same, default-at, length-up}
-use Rattle.sheet.specs.Layout.{layoutOf, formulasIn, effectsIn, actionsIn, programsIn}
+use Rattle.sheet.specs.Layout.{layoutOf, fluentsIn, formulasIn, effectsIn, actionsIn, programsIn}
 use Rattle.sheet.specs.declared.Layout.{Layout}
 use Rattle.sheet.proofs.Accepted.{laid}
 use Rattle.golog.specs.declared.State.{State}
 use Rattle.remaining.specs.Extended.{tableOf}
 use Rattle.remaining.specs.Leaves.{leafAt}
-use Rattle.remaining.specs.Rest.{AllLower}
+use Rattle.remaining.specs.Rest.{AllLower, Plain}
 use Rattle.demands.specs.Decoded.{worldOf, interruptsIn}
 use Rattle.demands.specs.Compact.{extendedRecords}
-use Rattle.demands.proofs.Compact.{all-lower}
+use Rattle.demands.proofs.Compact.{all-lower, all-plain}
+use Rattle.kinds.specs.Formulas.{PlainFormulas}
+use Rattle.sheet.proofs.Lower.{plain-formulas}
 use Rattle.state.specs.Truths.{truthsOf, AreTruths}
 use Rattle.state.specs.Conflicts.{allowedBy}
 use Rattle.state.proofs.Truths.{are-truths}
@@ -52,13 +54,19 @@ module _ {s : List ℕ} {m : Inspection} (O : Of s m) where
   pub runs-lower : AllLower (runs s (m .layout) (m .interrupts))
   runs-lower = by-found O (λ (l : Layout) (b : Bool). AllLower (runs s l b)) (all-lower s (O .accepted))
 
+  pub runs-plain : Plain (runs s (m .layout) (m .interrupts))
+  runs-plain = by-found O (λ (l : Layout) (b : Bool). Plain (runs s l b)) (all-plain s (O .accepted))
+
+  pub formulas-plain : PlainFormulas (formulasIn s (m .layout)) (m .layout .q)
+  formulas-plain = subst (λ (l : Layout). PlainFormulas (formulasIn s l) (l .q)) (sym (O .layout-is)) (plain-formulas s (O .accepted))
+
   -- what the formulas say in a state
   pub truths-told :
       (st : State) (old : List Bool) {truths : List Bool} → truths ≡ truthsOf (formulasIn s (m .layout)) (st .values) (m .layout .q) old → AreTruths (worldOf s) st (layoutOf s .q) truths
   truths-told st old {truths} e =
       let l = layoutOf s in
       let e₂ = e ∙ ap (λ (l : Layout). truthsOf (formulasIn s l) (st .values) (l .q) old) (O .layout-is) in
-      subst (AreTruths (worldOf s) st (l .q)) (sym e₂) (are-truths (formulasIn s l) (effectsIn s l) (actionsIn s l) st (l .q) old)
+      subst (AreTruths (worldOf s) st (l .q)) (sym e₂) (are-truths (fluentsIn s l) (formulasIn s l) (effectsIn s l) (actionsIn s l) st (l .q) old)
 
   -- once told of a sheet
   pub prepared :
@@ -73,10 +81,11 @@ module _ {s : List ℕ} {m : Inspection} (O : Of s m) where
       → Prepared s flags numbers
   prepared {flags} {numbers} marks n k e eb ec es ed J =
       let low = all-lower s (O .accepted) in
+      let plain = all-plain s (O .accepted) in
       let e₂ = e ∙ of-found O (λ (l : Layout) (b : Bool). marks ≡ finalBoundsOf true (runs s l b) (many l b)) eb in
       let E : Endable (extendedRecords s) (extendedSizeOf s) (endableIn flags) =
-      subst (Endable (extendedRecords s) (extendedSizeOf s)) (sym e₂) (bounds-above (extendedRecords s) low (extendedSizeOf s)) in
-      let S = skips-settled (extendedRecords s) (extendedSizeOf s) (endableIn flags) low E in
+      subst (Endable (extendedRecords s) (extendedSizeOf s)) (sym e₂) (bounds-above (extendedRecords s) low plain (extendedSizeOf s)) in
+      let S = skips-settled (extendedRecords s) (extendedSizeOf s) (endableIn flags) low plain E in
       let e₃ = of-found O (λ (l : Layout) (b : Bool). skipsIn numbers ≡ skipsOf (runs s l b) (many l b) marks) es in
       let e₄ = e₃ ∙ ap (skipsOf (extendedRecords s) (extendedSizeOf s)) (sym e) in
       let e₅ = of-found O (λ (l : Layout) (b : Bool). distancesIn numbers ≡ distancesOf (runs s l b) (many l b)) ed in
@@ -86,7 +95,7 @@ module _ {s : List ℕ} {m : Inspection} (O : Of s m) where
         none-final = λ i l. ap (λ (x : List Bool). getD x i true) e₂ ∙ bounds-after true (extendedRecords s) (extendedSizeOf s) i l;
         none-counted = λ d i l. ec d i;
         skipping = subst (Skips (extendedRecords s) (extendedSizeOf s) (endableIn flags)) (sym e₄) S;
-        distances = subst (Distances (extendedRecords s) (extendedSizeOf s)) (sym e₅) (distances-below (extendedRecords s) (extendedSizeOf s) low);
+        distances = subst (Distances (extendedRecords s) (extendedSizeOf s)) (sym e₅) (distances-below (extendedRecords s) (extendedSizeOf s) low plain);
         may-conflict = J;
       }
 
@@ -137,7 +146,7 @@ module _ {s : List ℕ} {m : Inspection} (O : Of s m) where
     pub tallyable : Tallyable (runs s (m .layout) (m .interrupts)) (many (m .layout) (m .interrupts)) (actionsIn s (m .layout)) (truthsAt d flags) (st .running) (finalsAt d flags)
     tallyable =
         by-found O (λ (l : Layout) (b : Bool). Tallyable (runs s l b) (many l b) (actionsIn s l) (truthsAt d flags) (st .running) (finalsAt d flags))
-        (record { lower = all-lower s (O .accepted); acts-known = acts-read s (O .accepted); finals-known = J .decides })
+        (record { lower = all-lower s (O .accepted); plain = all-plain s (O .accepted); acts-known = acts-read s (O .accepted); finals-known = J .decides })
 
     -- behind the records no transition is counted
     nil-counts : drop (extendedSizeOf s) (countsAt d numbers) ≡ replicate (260 - extendedSizeOf s) 0
@@ -183,7 +192,13 @@ module _ {s : List ℕ} {m : Inspection} (O : Of s m) where
           truths-are = J .truths-are;
           tabled =
               record {
-                counted = record { can = allowedBy (actionsIn s (layoutOf s)) (truthsAt d flags) conflicted; sees = S; lower = all-lower s (O .accepted); counts-are = c };
+                counted = record {
+                  can = allowedBy (actionsIn s (layoutOf s)) (truthsAt d flags) conflicted;
+                  sees = S;
+                  lower = all-lower s (O .accepted);
+                  plain = all-plain s (O .accepted);
+                  counts-are = c;
+                };
                 finals-are = J .finals-are;
               };
         }

@@ -27,7 +27,7 @@ module _ (K : ℕ → Type 0) where
     all-known : (g : Rest) → Every (λ (x : RestTransition). Known K (x .0)) (restTransitions W s p g)
     unfolding restTransitions
     all-known gone = nobody
-    all-known (leaf i) = leaf-every W s p low (λ (i : ℕ) (x : RestTransition). Known K (x .0)) (λ i. known-own (p i) (known i)) (λ i x t h. h) (λ i x t h. h) i
+    all-known (leaf i) = leaf-every W s p low (λ (i : ℕ) (x : RestTransition). Known K (x .0)) (λ i. known-own (p i) (known i)) (λ i x t h. h) (λ i x t h. h) (λ i v x t h. h) i
     all-known (node tag l r) =
         every-append (every-map (λ (g : Rest). node tag g r) (λ x h. h) (all-known l))
         (every-part (goesRight tag (restFinal W s p l) (isNone (restTransitions W s p l))) (wrapRight tag l) (λ t x h. h) (λ t. all-known r))

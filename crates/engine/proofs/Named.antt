@@ -28,7 +28,7 @@ use Rattle.state.proofs.Noting.{allowed-marked}
 use Rattle.state.proofs.Performed.{possible-same}
 use Rattle.engine.specs.Tables.{truthsAt, Judged, ConflictOf}
 use Rattle.engine.specs.Evaluated.{FormulasNamed, ActionsNamed, possibility}
-use Rattle.engine.proofs.Actions.{conditions-below}
+use Rattle.engine.proofs.Actions.{conditions-below, inside-range}
 use Rattle.engine.proofs.Conflicting.{listed-at}
 
 module _ {s : List ℕ} {m : Inspection} (O : Of s m) where
@@ -72,8 +72,9 @@ module _ {s : List ℕ} (accepted : Accepts s) {st : State} {d : ℕ} {flags : L
       (a : ℕ) (conflicted : List Bool) (sets : List ℕ) → a < layoutOf s .a → ConflictOf s (truthsAt d flags) a conflicted → ActionsNamed s sets
       → possibilityBy (actionsIn s (layoutOf s)) (truthsAt d flags) conflicted sets a ≡ possibility s st a
   possibility-told a conflicted sets h e named =
-      let allowed = allowed-marked (effectsIn s (layoutOf s)) (actionsIn s (layoutOf s)) (truthsAt d flags) conflicted a (λ t. e ∙ t) (λ t. sym e ∙ t) in
-      let same = possible-same _ _ (saidBy (truthsAt d flags)) (saysIn (worldOf s) st) _ (J .truths-are) a (action-of s accepted a h .0) (conditions-below s accepted a h) in
+      let allowed = allowed-marked (worldOf s .size) (effectsIn s (layoutOf s)) (actionsIn s (layoutOf s)) (truthsAt d flags) conflicted a
+      (inside-range s accepted a h (saidBy (truthsAt d flags))) (λ t. e ∙ t) (λ t. sym e ∙ t) in
+      let same = possible-same _ _ (saidBy (truthsAt d flags)) (saysIn (worldOf s) st) _ (J .truths-are) (worldOf s .size) a (action-of s accepted a h .0) (conditions-below s accepted a h) in
       let small = le-ltb 65533 a (omega (arith, laid s accepted .a)) in
       let set = named a h in
       rw small (λ i. record { possible = (rw small at (allowed ∙ same)) i; names = set i })

@@ -25,7 +25,7 @@ use Rattle.state.proofs.Performed.{possible-same}
 use Rattle.leaves.specs.Tallies.{SeesRecord, Sees}
 use Rattle.leaves.proofs.Seen.{table-seen}
 use Rattle.engine.specs.Tables.{extendedSizeOf, ExclusiveIn, ListsMayConflict}
-use Rattle.engine.proofs.Actions.{action-known, conditions-below}
+use Rattle.engine.proofs.Actions.{action-known, conditions-below, inside-range}
 
 module _ (s : List ℕ) (accepted : Accepts s) (st : State) (truths : List Bool) (H : AreTruths (worldOf s) st (layoutOf s .q) truths) where
   module _
@@ -67,5 +67,5 @@ module _ (s : List ℕ) (accepted : Accepts s) (st : State) (truths : List Bool)
           let known = action-known s accepted i l t in
           let low = conditions-below s accepted a known in
           let r = actionAt (actionsIn s (layoutOf s)) a in
-          allowed-possible a B (λ e. ⊎-elim (λ k. k) (λ A. absurd (false≢true (sym (none a low A) ∙ and-right (saidBy truths (r .precondition)) _ e))) (J .all i l t))
-          ∙ possible-same _ _ (saidBy truths) (saysIn (worldOf s) st) _ H a (action-of s accepted a known .0) low
+          allowed-possible (worldOf s .size) a (inside-range s accepted a known (saidBy truths)) B (λ e. ⊎-elim (λ k. k) (λ A. absurd (false≢true (sym (none a low A) ∙ and-right (saidBy truths (r .precondition)) _ e))) (J .all i l t))
+          ∙ possible-same _ _ (saidBy truths) (saysIn (worldOf s) st) _ H (worldOf s .size) a (action-of s accepted a known .0) low

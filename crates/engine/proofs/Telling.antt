@@ -38,7 +38,7 @@ module _ {s w : List ℕ} {left d : ℕ} {p : Prog} (accepted : Accepts s) (F : 
     count-told =
         let c = S .tabled .counted in
         ap₂ (λ (l : List Bool) (k : List ℕ). countByTable l k (F .rest)) (S .tabled .finals-are) (c .counts-are)
-        ∙ count-in (worldOf s) st (extendedRecords s) (extendedSizeOf s) (c .lower) (F .rest) (F .roomy .within)
+        ∙ count-in (worldOf s) st (extendedRecords s) (extendedSizeOf s) (c .lower) (c .plain) (F .rest) (F .roomy .within)
         ∙ listed-length accepted F st
 
     -- what the table of distances tells of the transitions
@@ -47,7 +47,7 @@ module _ {s w : List ℕ} {left d : ℕ} {p : Prog} (accepted : Accepts s) (F : 
         let c = S .tabled .counted in
         let y = Memᴰ·of-map (transitionOf s st) (restTransitionsOf s st (F .rest)) (subst (List·Memᴰ x) (sym (listed accepted F st)) k) in
         let e = ap₂ (λ (l : List Bool) (k : List ℕ). soonByTable l (distancesIn numbers) k (F .rest)) (S .tabled .finals-are) (c .counts-are) in
-        let h = soon-in (extendedRecords s) (extendedSizeOf s) (distancesIn numbers) (S .prepared .distances) (worldOf s) (c .lower) st (F .rest) (F .roomy .within) (y .0) (y .1) in
+        let h = soon-in (extendedRecords s) (extendedSizeOf s) (distancesIn numbers) (S .prepared .distances) (worldOf s) (c .lower) (c .plain) st (F .rest) (F .roomy .within) (y .0) (y .1) in
         omega (arith, e, h, ap (λ (q : Transition). distance (q .1 .0)) (y .2))
 
     pub tells :

@@ -15,7 +15,7 @@ ghost use Rattle.golog.specs.Prog.{Prog};
 ghost use Rattle.golog.specs.Transitions.{Configuration, Transition, isNone};
 ghost use Rattle.golog.specs.declared.State.{State};
 ghost use Rattle.demands.specs.Decoded.{worldOf, startingWith, initialOf, firstOf, boundOf};
-ghost use Rattle.remaining.specs.Rest.{Rest, AllLower};
+ghost use Rattle.remaining.specs.Rest.{Rest, AllLower, Plain};
 ghost use Rattle.remaining.specs.Extended.{mostRecords, tableOf, top};
 ghost use Rattle.leaves.specs.Tallies.{extendedSize};
 ghost use Rattle.leaves.specs.Endable.{Skips};
@@ -247,7 +247,7 @@ fn mark_finals(
     running: bool,
 )
     requires { ⌜ ProgramTable (now programs) n × («from» + setFlags ≤ length (now flags)) ⌝ }
-    requires { ⌜ AllLower (tableOf (now programs) n interrupts) ⌝ }
+    requires { ⌜ AllLower (tableOf (now programs) n interrupts) × Plain (tableOf (now programs) n interrupts) ⌝ }
     requires { ⌜ Skips (tableOf (now programs) n interrupts) (extendedSize interrupts n) (finalsOn «from» (now flags)) (now skips) ⌝ }
     ensures finals { λ _. ⌜ FinalsOn (tableOf (now (programs .entry)) n interrupts) (extendedSize interrupts n) «from» running (now (flags .exit)) ⌝ }
     ensures written { λ _. ⌜ Only («from» + mostFormulas) mostRecords (now (flags .entry)) (now (flags .exit)) ⌝ }

@@ -3,11 +3,11 @@
 use mathlib.Core.Logic.{inl, inr}
 use mathlib.Core.Option.{Option, some}
 use mathlib.Core.Path.{_≡_, sym, subst}
-use Prim.Native.Nat.{ℕ}
+use Prim.Native.Nat.{ℕ, _<_}
 use native.Mathlib.Omega.{arith}
 use Rattle.golog.specs.declared.State.{State}
 use Rattle.golog.specs.World.{World}
-use Rattle.golog.specs.Prog.{Prog, nil, act, test, sequence, choice, together, over, star, iteration, ifThenElse, while, interrupt}
+use Rattle.golog.specs.Prog.{Prog, nil, act, test, sequence, choice, together, over, star, iteration, ifThenElse, while, interrupt, pick}
 use Rattle.golog.specs.Trans.{Trans}
 
 module _ (K : ℕ → Type 0) where
@@ -25,6 +25,7 @@ module _ (K : ℕ → Type 0) where
   Acts (ifThenElse q a b) = Acts a × Acts b
   Acts (while q a) = Acts a
   Acts (interrupt q a) = Acts a
+  Acts (pick n f) = (v : ℕ) → v < n → Acts (f v)
 
   -- what a transition leaves, and its move
   abbrev Kept : Option ℕ → Prog → Type 0
@@ -54,3 +55,4 @@ module _ (K : ℕ → Type 0) where
   acts-kept W (over a b) s m q t k (inr (g, e, (idle, st))) = around (λ g. over a g) e (λ l. (k .0, l)) (acts-kept W b s m g t (k .1) st)
   acts-kept W (iteration a) s m q t k (g, e, st) = around (λ g. together g (iteration a)) e (λ l. (l, k)) (acts-kept W a s m g t k st)
   acts-kept W (interrupt c a) s m q t k (g, e, (h, st)) = around (λ g. sequence g (interrupt c a)) e (λ l. (l, k)) (acts-kept W a s m g t k st)
+  acts-kept W (pick n f) s m q t k (v, l, st) = acts-kept W (f v) s m q t (k v l) st

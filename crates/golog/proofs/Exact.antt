@@ -1,21 +1,24 @@
 -- `final` decides the paper's Final, and `steps` lists exactly its Trans: each clause of the one is built from the same parts as the
--- clause of the other, `&&` for `×`, `||` and `++` for `⊎`, `only` for a premise and `map` for ∃, so both go by induction on the
--- program, with one law for each pair. Assumes nothing.
-use Prim.Native.Nat.{ℕ}
+-- clause of the other, `&&` for `×`, `||` and `++` for `⊎`, `only` for a premise, `map` for ∃, and a range of values for ∃ below a number,
+-- so both go by induction on the program, with one law for each pair. Assumes nothing.
+use Prim.Native.Nat.{ℕ, zero, suc, _<_}
+use native.Mathlib.Omega.{arith}
 use mathlib.Core.Bool.{Bool, true, false, not, _&&_}
 use mathlib.Core.List.{List, [], _∷_, map, List·Memᴰ, List·Memᴰ·head, List·Memᴰ·tail, List·Memᴰ·not-nil, List·Memᴰ·cases-cons}
 use mathlib.Core.List.{List·Memᴰ·eq-of-singleton}
-use mathlib.Core.Logic.{_⊎_, inl, inr, _↔_}
+use mathlib.Core.Logic.{_⊎_, inl, inr, _↔_, Iff·trans}
 use mathlib.Core.Option.{Option, none, some}
 use mathlib.Core.Path.{_≡_, refl, ap, _∙_}
 use lib.Dec.{T}
+use Rattle.records.specs.Some.{InRange}
+use Rattle.records.proofs.Some.{some-iff, range-more}
 use Rattle.runs.proofs.Tests.{and-iff, or-iff, only-iff, append-iff}
 use Rattle.golog.proofs.Tests.{same, not-iff}
 use Rattle.golog.specs.declared.State.{State}
 use Rattle.golog.specs.World.{World, holds, possible, perform}
-use Rattle.golog.specs.Prog.{Prog, nil, act, test, sequence, choice, together, over, star, iteration, ifThenElse, while, interrupt}
+use Rattle.golog.specs.Prog.{Prog, nil, act, test, sequence, choice, together, over, star, iteration, ifThenElse, while, interrupt, pick}
 use Rattle.runs.specs.Guide.{only}
-use Rattle.golog.specs.Transitions.{Transition, onProg, isNone, final, transitions}
+use Rattle.golog.specs.Transitions.{Transition, onProg, isNone, listsFrom, final, transitions}
 use Rattle.golog.specs.Trans.{Final, Trans}
 
 -- membership in a list of transitions
@@ -50,6 +53,16 @@ none-iff : {R : Option ℕ → Prog → State → Type 0} (xs : List Transition)
 none-iff [] h = (λ k m g t r. List·Memᴰ·not-nil (h m g t .1 r), λ k. tt)
 none-iff (x ∷ xs) h = (λ k. absurd k, λ k. k (x .0) (x .1 .0) (x .1 .1) (h (x .0) (x .1 .0) (x .1 .1) .0 (List·Memᴰ·head refl)))
 
+-- in one of the lists of a range
+lists-iff : {R : ℕ → Type 0} {x : Transition} (f : ℕ → List Transition) → ((v : ℕ) → List·Memᴰ x (f v) ↔ R v) → (k i : ℕ) → List·Memᴰ x (listsFrom f i k) ↔ ((v : ℕ) × InRange i k v × R v)
+unfolding listsFrom
+lists-iff f h zero i = (λ m. absurd (List·Memᴰ·not-nil m), λ (v, (l, m), r). absurd (omega arith))
+lists-iff {R} f h (suc k) i = Iff·trans (append-iff (f i) (listsFrom f (suc i) k) (h i) (lists-iff f h k (suc i))) (range-more R k i)
+
+-- below a number
+below-iff : {R : ℕ → Type 0} (n : ℕ) → ((v : ℕ) × InRange 0 n v × R v) ↔ ((v : ℕ) × (v < n) × R v)
+below-iff n = (λ (v, (l, m), r). (v, omega arith, r), λ (v, l, r). (v, (omega arith, omega arith), r))
+
 pub final-exact : (W : World) (p : Prog) (s : State) → T (final W p s) ↔ Final W p s
 unfolding final Final
 final-exact W nil s = same (Unit {0})
@@ -65,6 +78,7 @@ final-exact W (together a b) s = and-iff (final W a s) (final W b s) (final-exac
 final-exact W (over a b) s = and-iff (final W a s) (final W b s) (final-exact W a s) (final-exact W b s)
 final-exact W (iteration a) s = same (Unit {0})
 final-exact W (interrupt q a) s = or-iff (not (s .running)) (holds W q s && final W a s) (not-iff (s .running) (same _)) (and-iff (holds W q s) (final W a s) (same _) (final-exact W a s))
+final-exact W (pick n f) s = Iff·trans (some-iff (λ (v : ℕ). final W (f v) s) (λ v. final-exact W (f v) s) n 0) (below-iff n)
 
 pub steps-exact : (W : World) (q : Prog) (s : State) (m : Option ℕ) (p : Prog) (t : State) → List·Memᴰ (m, (p, t)) (transitions W q s) ↔ Trans W q s m p t
 unfolding transitions Trans
@@ -87,3 +101,4 @@ steps-exact W (iteration a) s m p t = map-iff (λ (g : Prog). together g (iterat
 steps-exact W (interrupt q a) s m p t = map-iff (λ (g : Prog). sequence g (interrupt q a)) m p t _
     (λ g. only-iff (s .running && holds W q s) (transitions W a s) (and-iff (s .running) (holds W q s) (same _) (same _))
     (steps-exact W a s m g t))
+steps-exact W (pick n f) s m p t = Iff·trans (lists-iff (λ (v : ℕ). transitions W (f v) s) (λ v. steps-exact W (f v) s m p t) n 0) (below-iff n)

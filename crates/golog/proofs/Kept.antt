@@ -1,4 +1,4 @@
--- Configurations with the same remaining program, in states that agree on every fluent which a formula names, are alike (document 02, F-5):
+-- Configurations with the same remaining program, in states that agree on fluents which decide what formulas say, are alike (document 02, F-5):
 -- every formula says the same in both, so an action is as possible, and performing it keeps the agreement. Assumes nothing.
 use Prim.Native.Nat.{ℕ, zero, suc}
 use native.Mathlib.Omega.{arith}
@@ -8,15 +8,15 @@ use mathlib.Core.Option.{none, some}
 use mathlib.Core.Path.{_≡_, refl, ap, ap₂, subst, fun-ext}
 use lib.Dec.{eqb}
 use lib.ListN.{getD, length}
+use Rattle.records.proofs.Some.{some-same}
 use Rattle.runs.specs.Alike.{Alike}
 use Rattle.runs.proofs.Alikes.{Rows, by-moves, rows-one, rows-append, rows-map, rows-only}
 use Rattle.golog.specs.declared.State.{State}
 use Rattle.golog.specs.World.{World, holds, start, special, possibleBy, given, each, changed, performBy, saysIn, possible, perform}
-use Rattle.golog.specs.Prog.{Prog, nil, act, test, sequence, choice, together, over, star, iteration, ifThenElse, while, interrupt}
-use Rattle.golog.specs.Transitions.{Transition, onProg, isNone, final, transitions}
+use Rattle.golog.specs.Prog.{Prog, nil, act, test, sequence, choice, together, over, star, iteration, ifThenElse, while, interrupt, pick}
+use Rattle.golog.specs.Transitions.{Transition, onProg, isNone, listsFrom, final, transitions}
 use Rattle.golog.specs.Agree.{Agree, Covers, AgreeAt}
 use Rattle.golog.proofs.Moves.{length-each}
-use Rattle.golog.proofs.Named.{holds-named}
 
 each-agree : (f : ℕ → ℕ → ℕ) (x : ℕ) (v w : List ℕ) → length v ≡ length w → (i : ℕ) → getD v i 0 ≡ getD w i 0 → getD (each f x v) i 0 ≡ getD (each f x w) i 0
 unfolding each
@@ -29,13 +29,13 @@ each-agree f x (y ∷ v) (z ∷ w) l (suc i) e = each-agree f (suc x) v w (omega
 module _ (set : ℕ → Bool) (W : World) (covers : Covers set W) where
   module _ (s s′ : State) (g : Agree set s s′) where
     holds-agree : (q : ℕ) → holds W q s ≡ holds W q s′
-    holds-agree q = holds-named W s s′ q (λ x t. g .same x (covers q x t))
+    holds-agree = covers s s′ (g .same)
 
     says-agree : saysIn W s ≡ saysIn W s′
     says-agree = fun-ext holds-agree
 
     possible-agree : (a : ℕ) → possible W a s ≡ possible W a s′
-    possible-agree a = ap (λ says. possibleBy says (W .effect) (W .action) a) says-agree
+    possible-agree a = ap (λ says. possibleBy says (W .size) (W .effect) (W .action) a) says-agree
 
     -- performing an action keeps the agreement
     pub perform-agree : (a : ℕ) → Agree set (perform W a s) (perform W a s′)
@@ -70,12 +70,18 @@ module _ (set : ℕ → Bool) (W : World) (covers : Covers set W) where
     final-agree (over a b) = ap₂ _&&_ (final-agree a) (final-agree b)
     final-agree (iteration a) = refl
     final-agree (interrupt q a) = rw (holds-agree q, final-agree a, g .runs)
+    final-agree (pick n f) = some-same (λ (v : ℕ). final W (f v) s) (λ (v : ℕ). final W (f v) s′) n 0 (λ v l. final-agree (f v))
 
     around : (f : Prog → Prog) {xs ys : List Transition} → Rows (AgreeAt set) xs ys → Rows (AgreeAt set) (map (onProg f) xs) (map (onProg f) ys)
     around f = rows-map (λ c. (f (c .0), c .1)) (λ c d r. (ap f (r .0), r .1))
 
     none-agree : {xs ys : List Transition} → Rows (AgreeAt set) xs ys → isNone xs ≡ isNone ys
     none-agree = by-moves (λ xs ys. isNone xs ≡ isNone ys) refl (λ x y xs ys e r h. refl)
+
+    lists-agree : (f h : ℕ → List Transition) → ((v : ℕ) → Rows (AgreeAt set) (f v) (h v)) → (k i : ℕ) → Rows (AgreeAt set) (listsFrom f i k) (listsFrom h i k)
+    unfolding listsFrom
+    lists-agree f h r zero i = record { same = tt }
+    lists-agree f h r (suc k) i = rows-append (r i) (lists-agree f h r k (suc i))
 
     rows-agree : (p : Prog) → Rows (AgreeAt set) (transitions W p s) (transitions W p s′)
     unfolding transitions
@@ -95,6 +101,7 @@ module _ (set : ℕ → Bool) (W : World) (covers : Covers set W) where
     rows-agree (iteration a) = around (λ x. together x (iteration a)) (rows-agree a)
     rows-agree (interrupt q a) =
         around (λ x. sequence x (interrupt q a)) (rows-only (ap₂ _&&_ (g .runs) (holds-agree q)) (rows-agree a))
+    rows-agree (pick n f) = lists-agree (λ (v : ℕ). transitions W (f v) s) (λ (v : ℕ). transitions W (f v) s′) (λ v. rows-agree (f v)) n 0
 
   -- so configurations with the same remaining program are alike
   pub alike : Alike (AgreeAt set) (λ c. transitions W (c .0) (c .1)) (λ c. final W (c .0) (c .1))

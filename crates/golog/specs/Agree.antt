@@ -1,13 +1,13 @@
 -- Own vocabulary: states that agree on a set of fluents, and configurations with the same remaining program in such states (document 02,
--- F-5). That transitions keep this, where the set has every fluent that a formula names, is proved in proofs/Kept.antt. Assumes nothing.
+-- F-5). That transitions keep this, where what formulas say is decided by the set, is proved in proofs/Kept.antt; that it is where the set has
+-- every fluent which they name, in proofs/Named.antt. Assumes nothing.
 use Prim.Native.Nat.{ℕ}
 use mathlib.Core.Bool.{Bool}
 use mathlib.Core.Path.{_≡_}
 use lib.Dec.{T}
 use lib.ListN.{getD, length}
-use Rattle.named.specs.Named.{names}
 use Rattle.golog.specs.declared.State.{State}
-use Rattle.golog.specs.World.{World}
+use Rattle.golog.specs.World.{World, holds}
 use Rattle.golog.specs.Transitions.{Configuration}
 
 -- the fluents of the set have the same values
@@ -20,9 +20,9 @@ pub record Agree (set : ℕ → Bool) (s s′ : State) : Type 0 where
   pub places : length (s .values) ≡ length (s′ .values)
   pub runs : s .running ≡ s′ .running
 
--- the set has every fluent that a formula names
+-- what every formula says is decided by the values of the set
 abbrev pub Covers : (set : ℕ → Bool) → World → Type 0
-Covers set W = (q x : ℕ) → T (names (W .formula) q x) → T (set x)
+Covers set W = (s s′ : State) → SameAt set s s′ → (q : ℕ) → holds W q s ≡ holds W q s′
 
 -- the same remaining program, in states that agree
 abbrev pub AgreeAt : (set : ℕ → Bool) → Configuration → Configuration → Type 0

@@ -5,5 +5,6 @@ pub mod Prog
 pub mod Trans
 pub mod Transitions
 pub mod Decoded
+pub mod Written
 pub mod Distance
 pub mod Agree

@@ -1,13 +1,15 @@
--- To be believed: programs: the paper's constructs as a tree, unfolded from a table of records. Assumes nothing.
+-- To be believed: programs: the paper's constructs as a tree, unfolded from a table of records. Where there are placeholders, these are
+-- records read in an environment (Written.antt). Assumes nothing.
 use Prim.Native.Nat.{ℕ}
 use mathlib.Core.Bool.{Bool, true, false}
 use mathlib.Core.List.{List, [], _∷_}
 use lib.ListN.{getD}
 use Rattle.records.specs.declared.Program.{Program}
 use Rattle.records.specs.Table.{entryOf}
+use Rattle.records.specs.Placeholders.{putIn}
 use Rattle.golog.specs.World.{start, stop}
 
--- the twelve constructs: actions and formulas by number
+-- the thirteen constructs: actions by their entries in a history, formulas by number
 pub data Prog : Type 0 where
   nil : Prog
   act test : ℕ → Prog
@@ -15,11 +17,12 @@ pub data Prog : Type 0 where
   star iteration : Prog → Prog
   ifThenElse : ℕ → Prog → Prog → Prog
   while interrupt : ℕ → Prog → Prog
-  deriving Discrete as Prog-discrete
+  -- nondeterministic choice of argument (π): for some value below a number, the program with that value put in
+  pick : ℕ → (ℕ → Prog) → Prog
 
--- document 01, "Program" and "Steps and endings": the program of a record, given those of its parts a and b
-unfoldable pub construct : Program → (P Q : Prog) → Prog
-construct r P Q =
+-- document 01, "Program" and "Steps and endings": the program of a record, given those of its parts a and b, and of b with each value put in
+unfoldable pub construct : Program → (P Q : Prog) (F : ℕ → Prog) → Prog
+construct r P Q F =
     getD
     (
     nil ∷  -- 0 nil
@@ -34,13 +37,14 @@ construct r P Q =
     over P Q ∷  -- 9 a over b
     iteration P ∷  -- 10 concurrent iteration of a
     interrupt (r .c) P ∷  -- 11 interrupt c, a
+    pick (r .a) F ∷  -- 12 for some value below a in placeholder c, b
     []
     )
     (r .kind) nil
 
 -- a record, given the programs of the lower ones
 abbrev pub progOf : Program → (lower : List Prog) → Prog
-progOf r lower = construct r (getD lower (r .a) nil) (getD lower (r .b) nil)
+progOf r lower = construct r (getD lower (r .a) nil) (getD lower (r .b) nil) (λ (v : ℕ). getD lower (putIn (r .b) (r .c) v) nil)
 
 -- record i of the table p, given the lower ones
 abbrev pub progAt : (ℕ → Program) → ℕ → (lower : List Prog) → Prog

@@ -7,6 +7,7 @@ use mathlib.Core.Path.{_≡_}
 use lib.Dec.{T}
 use lib.ListN.{getD}
 use Rattle.records.specs.declared.Formula.{Formula}
+use Rattle.records.specs.Placeholders.{putIn}
 use Rattle.golog.specs.declared.State.{State}
 use Rattle.golog.specs.World.{World, holds}
 
@@ -27,6 +28,9 @@ Says W s r =
     (¬ T (holds W (r .a) s)) ∷  -- 5 not a
     (T (holds W (r .a) s) × T (holds W (r .b) s)) ∷  -- 6 a and b
     (T (holds W (r .a) s) ⊎ T (holds W (r .b) s)) ∷  -- 7 a or b
+    (valueOf s (r .x) ≡ r .a) ∷  -- 8 fluent x equals a placeholder, in which a stands
+    ((v : ℕ) × (v < r .x) × T (holds W (putIn (r .a) (r .b) v) s)) ∷  -- 9 for some value below x in placeholder b, a
+    ((v : ℕ) → v < r .x → T (holds W (putIn (r .a) (r .b) v) s)) ∷  -- 10 for every value below x in placeholder b, a
     []
     )
     (r .kind) ⊥

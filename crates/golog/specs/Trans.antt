@@ -1,13 +1,13 @@
 -- To be believed: the paper's Final and Trans, axiom by axiom (000, sections 4.1 and 5), with the move that a transition makes: the
--- action's number, none for a test. Assumes nothing.
-use Prim.Native.Nat.{ℕ}
+-- action's entry in a history, none for a test. Assumes nothing.
+use Prim.Native.Nat.{ℕ, _<_}
 use mathlib.Core.Logic.{_⊎_}
 use mathlib.Core.Option.{Option, none, some}
 use mathlib.Core.Path.{_≡_}
 use lib.Dec.{T}
 use Rattle.golog.specs.declared.State.{State}
 use Rattle.golog.specs.World.{World, holds, possible, perform}
-use Rattle.golog.specs.Prog.{Prog, nil, act, test, sequence, choice, together, over, star, iteration, ifThenElse, while, interrupt}
+use Rattle.golog.specs.Prog.{Prog, nil, act, test, sequence, choice, together, over, star, iteration, ifThenElse, while, interrupt, pick}
 
 unfoldable pub Final : World → Prog → State → Type 0
 -- section 4.1, axioms F: 1 empty program
@@ -20,6 +20,8 @@ Final W (test q) s = ⊥
 Final W (sequence a b) s = Final W a s × Final W b s
 -- 5 nondeterministic branch
 Final W (choice a b) s = Final W a s ⊎ Final W b s
+-- 6 nondeterministic choice of argument, where the arguments are the values below n
+Final W (pick n f) s = (v : ℕ) × (v < n) × Final W (f v) s
 -- 7 iteration
 Final W (star a) s = Unit {0}
 -- section 5: synchronized conditional
@@ -47,6 +49,8 @@ Trans W (test q) s m p t = T (holds W q s) × (m ≡ none) × (p ≡ nil) × (t 
 Trans W (sequence a b) s m p t = ((g : Prog) × (p ≡ sequence g b) × Trans W a s m g t) ⊎ (Final W a s × Trans W b s m p t)
 -- 5 nondeterministic branch
 Trans W (choice a b) s m p t = Trans W a s m p t ⊎ Trans W b s m p t
+-- 6 nondeterministic choice of argument: choosing is no transition of its own
+Trans W (pick n f) s m p t = (v : ℕ) × (v < n) × Trans W (f v) s m p t
 -- 7 iteration
 Trans W (star a) s m p t = (g : Prog) × (p ≡ sequence g (star a)) × Trans W a s m g t
 -- section 5: synchronized conditional

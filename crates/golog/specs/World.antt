@@ -1,5 +1,5 @@
 -- To be believed: what formulas say of a state, when an action is possible and what performing it does (document 01, "The sheet" and "Moves";
--- document 02, F-2); what a formula says of values, kind by kind, is in kinds/specs/Truth.antt. Assumes nothing.
+-- document 02, F-2 and F-6); what a formula says of values, kind by kind, is in kinds/specs/Truth.antt. Assumes nothing.
 use Prim.Native.Nat.{ℕ, zero, suc}
 use mathlib.Core.Bool.{Bool, false, not, cond, _&&_, _||_}
 use mathlib.Core.List.{List, [], _∷_}
@@ -13,8 +13,10 @@ use Rattle.records.specs.Some.{someFrom}
 use Rattle.kinds.specs.Truth.{truthOf}
 use Rattle.golog.specs.declared.State.{State}
 
--- the three tables that conditions and actions are read in, each a function of the record's number. Bound, initial values and program stand apart
+-- the domain sizes of the fluents, and the three tables that conditions and actions are read in, each a function of the record's number,
+-- actions of their entries in a history. Bound, initial values and program stand apart
 pub record World : Type 0 where
+  pub size : ℕ → ℕ
   pub formula : ℕ → Formula
   pub effect : ℕ → Effect
   pub action : ℕ → Action
@@ -50,10 +52,23 @@ contradict says d e = (says (d .condition) && says (e .condition)) && (eqb (d .f
 unfoldable pub conflicting : (says : ℕ → Bool) (effect : ℕ → Effect) (i k : ℕ) → Bool
 conflicting says effect i k = someFrom (λ (a : ℕ). someFrom (λ (b : ℕ). contradict says (effect a) (effect b)) i k) i k
 
+-- an effect holds and gives its fluent a value outside the domain
+abbrev pub strays : (says : ℕ → Bool) (size : ℕ → ℕ) → Effect → Bool
+strays says size e = says (e .condition) && not (ltb (e .value) (size (e .fluent)))
+
+-- so does one of the k effects from number i on
+unfoldable pub straying : (says : ℕ → Bool) (size : ℕ → ℕ) (effect : ℕ → Effect) (i k : ℕ) → Bool
+straying says size effect i k = someFrom (λ (a : ℕ). strays says size (effect a)) i k
+
+-- neither is so of an action's range
+abbrev pub sound : (says : ℕ → Bool) (size : ℕ → ℕ) (effect : ℕ → Effect) → Action → Bool
+sound says size effect r = not (conflicting says effect (r .first) (r .count)) && not (straying says size effect (r .first) (r .count))
+
 -- "An action is possible when its precondition holds"; "Start and stop are always possible"; document 02, F-2: "An action with two holding
--- effects that give one fluent different values is now impossible"
-unfoldable pub possibleBy : (says : ℕ → Bool) (effect : ℕ → Effect) (action : ℕ → Action) → ℕ → Bool
-possibleBy says effect action a = special a || (says (action a .precondition) && not (conflicting says effect (action a .first) (action a .count)))
+-- effects that give one fluent different values is now impossible"; F-6: "a holding effect whose value is outside its domain makes the
+-- action impossible"
+unfoldable pub possibleBy : (says : ℕ → Bool) (size : ℕ → ℕ) (effect : ℕ → Effect) (action : ℕ → Action) → ℕ → Bool
+possibleBy says size effect action a = special a || (says (action a .precondition) && sound says size effect (action a))
 
 -- an effect names fluent x and its condition holds
 abbrev pub changes : (says : ℕ → Bool) → Effect → (x : ℕ) → Bool
@@ -86,7 +101,7 @@ saysIn W s q = holds W q s
 
 -- the paper's Poss(a, s), and its do(a, s)
 abbrev pub possible : World → ℕ → State → Bool
-possible W a s = possibleBy (saysIn W s) (W .effect) (W .action) a
+possible W a s = possibleBy (saysIn W s) (W .size) (W .effect) (W .action) a
 
 abbrev pub perform : World → ℕ → State → State
 perform W a s = performBy (saysIn W s) (W .effect) (W .action) a s

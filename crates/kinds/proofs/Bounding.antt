@@ -38,7 +38,7 @@ module _ (fa fb ma mb h running : Bool) where
       by-kind (λ (k : ℕ). (T (hasA k) → Under fa ma) → (T (hasB k) → Under fb mb) → Under (finalOf k fa fb h running) (finalBoundOf k true ma mb))
       (λ p q e. refl) (λ p q e. e) (λ p q e. e) (λ p q. both fa fb ma mb (p tt) (q tt)) (λ p q. either fa fb ma mb (p tt) (q tt)) (λ p q e. refl)
       (λ p q e. or-right (ma && mb) (ma || mb) (branch h fa fb ma mb (p tt) (q tt) e)) (λ p q e. refl) (λ p q. both fa fb ma mb (p tt) (q tt))
-      (λ p q. both fa fb ma mb (p tt) (q tt)) (λ p q e. refl) (λ p q e. refl) (λ k p q e. refl)
+      (λ p q. both fa fb ma mb (p tt) (q tt)) (λ p q e. refl) (λ p q e. refl) (λ p q. q tt) (λ k p q e. refl)
 
   -- what is marked is final
   pub marked-final : (kind : ℕ) → (T (hasA kind) → Under ma fa) → (T (hasB kind) → Under mb fb) → Under (finalBoundOf kind false ma mb) (finalOf kind fa fb h running)
@@ -47,4 +47,4 @@ module _ (fa fb ma mb h running : Bool) where
       by-kind (λ (k : ℕ). (T (hasA k) → Under ma fa) → (T (hasB k) → Under mb fb) → Under (finalBoundOf k false ma mb) (finalOf k fa fb h running))
       (λ p q e. e) (λ p q e. e) (λ p q e. e) (λ p q. both ma mb fa fb (p tt) (q tt)) (λ p q. either ma mb fa fb (p tt) (q tt)) (λ p q e. e)
       (λ p q e. chosen h ma mb fa fb (p tt) (q tt) (or-only (ma && mb) e)) (λ p q e. or-right (not h) fa (p tt e)) (λ p q. both ma mb fa fb (p tt) (q tt))
-      (λ p q. both ma mb fa fb (p tt) (q tt)) (λ p q e. e) (λ p q e. cc) (λ k p q e. e)
+      (λ p q. both ma mb fa fb (p tt) (q tt)) (λ p q e. e) (λ p q e. cc) (λ p q. q tt) (λ k p q e. e)

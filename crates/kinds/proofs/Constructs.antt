@@ -6,7 +6,7 @@ use Prim.Native.Nat.{ℕ, zero, suc, _≤_}
 use native.Mathlib.Omega.{arith}
 use lib.Dec.{T, eqb, leb}
 use Rattle.kinds.specs.declared.programs.Field.{Field}
-use Rattle.kinds.specs.declared.programs.Field.the-variants.{Unused, Action, Formula, Record}
+use Rattle.kinds.specs.declared.programs.Field.the-variants.{Unused, Action, Formula, Record, Choices, Placeholder}
 use Rattle.kinds.specs.Programs.{fieldA, fieldB, isRecord, hasA, hasB, hasCondition, ownBy, ownOf, hasOwn, usesA, usesB, tagA, loops, tagB}
 use Rattle.kinds.proofs.ProgramKinds.{by-kind}
 use Rattle.kinds.proofs.Reading.{uses-a-reads, uses-b-reads}
@@ -23,11 +23,11 @@ three (suc (suc (suc t))) h n = omega arith
 
 tags-a : (kind : ℕ) → T (isTag (tagA kind))
 unfolding tagA
-tags-a = by-kind (λ (kind : ℕ). T (isTag (tagA kind))) tt tt tt tt tt tt tt tt tt tt tt tt (λ k. tt)
+tags-a = by-kind (λ (kind : ℕ). T (isTag (tagA kind))) tt tt tt tt tt tt tt tt tt tt tt tt tt (λ k. tt)
 
 tags-b : (kind : ℕ) → T (isTag (tagB kind))
 unfolding tagB
-tags-b = by-kind (λ (kind : ℕ). T (isTag (tagB kind))) tt tt tt tt tt tt tt tt tt tt tt tt (λ k. tt)
+tags-b = by-kind (λ (kind : ℕ). T (isTag (tagB kind))) tt tt tt tt tt tt tt tt tt tt tt tt tt (λ k. tt)
 
 pub construct-a : (kind : ℕ) {tag : ℕ} → tag ≡ tagA kind → (tag ≡ 0 → ⊥) → 3 ≤ tag
 construct-a kind e n = omega (arith, three (tagA kind) (tags-a kind) (λ z. n (e ∙ z)))
@@ -38,11 +38,11 @@ construct-b kind e n = omega (arith, three (tagB kind) (tags-b kind) (λ z. n (e
 -- beside what part a leaves stands the record itself, or the part b that its kind has; beside what part b leaves, the part a
 pub sibling-a : (kind : ℕ) → T (eqb (tagA kind) 0 || (loops kind || hasB kind))
 unfolding tagA loops fieldB
-sibling-a = by-kind (λ (kind : ℕ). T (eqb (tagA kind) 0 || (loops kind || hasB kind))) tt tt tt tt tt tt tt tt tt tt tt tt (λ k. tt)
+sibling-a = by-kind (λ (kind : ℕ). T (eqb (tagA kind) 0 || (loops kind || hasB kind))) tt tt tt tt tt tt tt tt tt tt tt tt tt (λ k. tt)
 
 pub sibling-b : (kind : ℕ) → T (eqb (tagB kind) 0 || hasA kind)
 unfolding tagB fieldA
-sibling-b = by-kind (λ (kind : ℕ). T (eqb (tagB kind) 0 || hasA kind)) tt tt tt tt tt tt tt tt tt tt tt tt (λ k. tt)
+sibling-b = by-kind (λ (kind : ℕ). T (eqb (tagB kind) 0 || hasA kind)) tt tt tt tt tt tt tt tt tt tt tt tt tt (λ k. tt)
 
 -- an action or a test is no part
 own-no-a : (f : Field) → ownBy f true true ≡ true → isRecord f ≡ false
@@ -50,12 +50,15 @@ own-no-a Unused e = refl
 own-no-a Action e = refl
 own-no-a Formula e = refl
 own-no-a Record e = cc
+own-no-a Choices e = refl
+own-no-a Placeholder e = refl
 
 own-no-b : (kind : ℕ) → hasOwn kind ≡ true → hasB kind ≡ false
 unfolding fieldA fieldB
 own-no-b =
     by-kind (λ (kind : ℕ). hasOwn kind ≡ true → hasB kind ≡ false)
-    (λ e. refl) (λ e. refl) (λ e. refl) (λ e. cc) (λ e. cc) (λ e. refl) (λ e. cc) (λ e. refl) (λ e. cc) (λ e. cc) (λ e. refl) (λ e. refl) (λ k e. refl)
+    (λ e. refl) (λ e. refl) (λ e. refl) (λ e. cc) (λ e. cc) (λ e. refl) (λ e. cc) (λ e. refl) (λ e. cc) (λ e. cc) (λ e. refl) (λ e. refl) (λ e. cc)
+    (λ k e. refl)
 
 -- a record with a transition of its own uses no part, and another has none of its own
 module _ (kind : ℕ) where
@@ -74,3 +77,5 @@ module _ (kind : ℕ) where
       go Action e = cc
       go Formula e = cc
       go Record e = refl
+      go Choices e = refl
+      go Placeholder e = refl

@@ -28,7 +28,7 @@ count-adds can passes fa h running ca cb =
     by-kind
     (λ (k : ℕ). countOf k can passes fa h running ca cb ≡ cond (ownOf k can passes) 1 0 + (cond (usesA k h running) ca 0 + cond (usesB k fa h (eqb ca 0)) cb 0))
     (omega arith) (omega arith) (omega arith) (omega arith) (omega arith) (omega arith) (omega (arith, either h ca cb)) (omega arith)
-    (omega arith) (omega arith) (omega arith) (omega arith) (λ k. omega arith)
+    (omega arith) (omega arith) (omega arith) (omega arith) (omega arith) (λ k. omega arith)
 
 -- a number, where it counts
 pub where-used : (b : Bool) (x y : ℕ) → (T b → x ≡ y) → cond b x 0 ≡ cond b y 0

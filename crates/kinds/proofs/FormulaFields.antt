@@ -6,11 +6,11 @@ use mathlib.Core.Logic.{inl, inr, ⊎-elim, _↔_}
 use Prim.Native.Nat.{ℕ, _≤_, _<_}
 use native.Mathlib.Omega.{arith}
 use borrow.Author.Tests.{eqb-true, ltb-true, leb-true, eq-eqb, lt-ltb, le-leb}
-use lib.Dec.{T}
+use lib.Dec.{T, ltb, leb}
 use Rattle.records.specs.declared.Formula.{Formula}
-use Rattle.records.proofs.Truth.{and-four, and-both}
+use Rattle.records.proofs.Truth.{and-four, and-both, and-exactly}
 use Rattle.kinds.specs.declared.formulas.Field.{Field}
-use Rattle.kinds.specs.declared.formulas.Field.the-variants.{Unused, Fluent, Value, Limit, Lower}
+use Rattle.kinds.specs.declared.formulas.Field.the-variants.{Unused, Fluent, Value, Limit, Lower, Placeholder, Choices}
 use Rattle.kinds.specs.Rules.{FormulaRule}
 use Rattle.kinds.specs.Formulas.{fieldX, fieldA, fieldB, fieldOk, formulaOk, isLower, PartsLower}
 use Rattle.kinds.proofs.FormulaKinds.{by-kind, formulaOf}
@@ -23,6 +23,8 @@ module _ (nf size i : ℕ) where
   FieldRule Value x = x < size
   FieldRule Limit x = x ≤ size
   FieldRule Lower x = x < i
+  FieldRule Placeholder x = x < 2
+  FieldRule Choices x = (1 ≤ x) × (x ≤ 16)
 
   -- the kind is known, and each field keeps its role
   record Fields (r : Formula) : Type 0 where
@@ -37,6 +39,8 @@ module _ (nf size i : ℕ) where
   field-exactly Value x = (ltb-true x size, lt-ltb x size)
   field-exactly Limit x = (leb-true x size, le-leb x size)
   field-exactly Lower x = (ltb-true x i, lt-ltb x i)
+  field-exactly Placeholder x = (ltb-true x 2, lt-ltb x 2)
+  field-exactly Choices x = and-exactly (ltb 0 x) (leb x 16) (ltb-true 0 x, lt-ltb 0 x) (leb-true x 16, le-leb x 16)
 
   -- document 01's rule of each kind, from the roles
   rule-of : (x a b kind : ℕ) → kind ≤ 7 → FieldRule (fieldX kind) x → FieldRule (fieldA kind) a → FieldRule (fieldB kind) b → FormulaRule nf size i (formulaOf kind x a b)
@@ -51,6 +55,9 @@ module _ (nf size i : ℕ) where
       (λ l p q r. inr (inr (inr (inr (inr (inl (refl, p, q, r)))))))
       (λ l p q r. inr (inr (inr (inr (inr (inr (inl (refl, p, q, r))))))))
       (λ l p q r. inr (inr (inr (inr (inr (inr (inr (refl, p, q, r))))))))
+      (λ l p q r. absurd (omega arith))
+      (λ l p q r. absurd (omega arith))
+      (λ l p q r. absurd (omega arith))
       (λ k l p q r. absurd (omega arith))
 
   module _ (r : Formula) where
@@ -97,6 +104,8 @@ module _ (nf size i : ℕ) where
     lower-below Value k t = absurd t
     lower-below Limit k t = absurd t
     lower-below Lower k t = k
+    lower-below Placeholder k t = absurd t
+    lower-below Choices k t = absurd t
 
     -- a formula that keeps its rule names lower ones
     pub parts-lower : FormulaRule nf size i r → PartsLower i r

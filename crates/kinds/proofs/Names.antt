@@ -35,7 +35,7 @@ module _ (x a b : ℕ) where
       (λ (kind : ℕ). (T (hasA kind) → getD l a 0 ≡ getD m a 0) → (T (hasB kind) → getD l b 0 ≡ getD m b 0)
       → setOf (formulaOf kind x a b) l ≡ setOf (formulaOf kind x a b) m)
       (λ p q. refl) (λ p q. refl) (λ p q. refl) (λ p q. refl) (λ p q. refl) (λ p q. p tt) (λ p q. ap₂ bitOr (p tt) (q tt)) (λ p q. ap₂ bitOr (p tt) (q tt))
-      (λ k p q. refl)
+      (λ p q. refl) (λ p q. p tt) (λ p q. p tt) (λ k p q. refl)
 
   module _ (lower : ℕ → List Bool) (sets : List ℕ) where
     -- the set of lower formula i is that of what it names
@@ -56,7 +56,7 @@ module _ (x a b : ℕ) where
         (λ (kind : ℕ). (T (hasA kind) → Lower a) → (T (hasB kind) → Lower b)
         → setOf (formulaOf kind x a b) sets ≡ maskOf (λ (y : ℕ). namesOf (formulaOf kind x a b) y (lower y)) 32)
         (λ p q. sym (mask-none 32)) (λ p q. sym (mask-none 32)) (λ p q. bit-is x) (λ p q. bit-is x) (λ p q. two (eqb x) (eqb a) (bit-is x) (bit-is a))
-        (λ p q. p tt) (λ p q. parts (p tt) (q tt)) (λ p q. parts (p tt) (q tt)) (λ k p q. sym (mask-none 32))
+        (λ p q. p tt) (λ p q. parts (p tt) (q tt)) (λ p q. parts (p tt) (q tt)) (λ p q. bit-is x) (λ p q. p tt) (λ p q. p tt) (λ k p q. sym (mask-none 32))
 
 module _ (i : ℕ) (r : Formula) (low : PartsLower i r) where
   pub set-same : (l m : List ℕ) → ((a : ℕ) → a < i → getD l a 0 ≡ getD m a 0) → setOf r l ≡ setOf r m

@@ -1,5 +1,5 @@
 -- The fields of a program record by their roles. A test decides each role; a record whose kind is known and whose fields keep their roles
--- keeps document 01's rule, and conversely, kind by kind; the fields that are program records are document 01's links. So what a role
+-- keeps document 01's rule, and conversely, kind by kind; the fields that are program records are the links. So what a role
 -- tells of a field, acceptance tells of it. Assumes nothing.
 use mathlib.Core.Path.{_≡_, refl}
 use mathlib.Core.Bool.{Bool, true, false}
@@ -8,12 +8,12 @@ use mathlib.Core.Logic.{_⊎_, inl, inr, ⊎-elim, _↔_}
 use Prim.Native.Nat.{ℕ, _≤_, _<_}
 use native.Mathlib.Omega.{arith}
 use borrow.Author.Tests.{eqb-true, ltb-true, leb-true, eq-eqb, lt-ltb, le-leb}
-use lib.Dec.{T}
+use lib.Dec.{T, ltb, leb}
 use Rattle.records.specs.declared.Program.{Program}
-use Rattle.records.proofs.Truth.{and-four, and-both}
+use Rattle.records.proofs.Truth.{and-four, and-both, and-exactly}
 use Rattle.kinds.specs.declared.programs.Field.{Field}
-use Rattle.kinds.specs.declared.programs.Field.the-variants.{Unused, Action, Formula, Record}
-use Rattle.kinds.specs.Rules.{ProgramRule, TwoParts, OnePart, Link}
+use Rattle.kinds.specs.declared.programs.Field.the-variants.{Unused, Action, Formula, Record, Choices, Placeholder}
+use Rattle.kinds.specs.Rules.{ProgramRule, TwoParts, OnePart, PartB, Link}
 use Rattle.kinds.specs.Programs.{fieldA, fieldB, fieldC, fieldOk, programOk, isAction, isFormula, isRecord, hasA, hasB, linkIf, links}
 use Rattle.kinds.proofs.ProgramKinds.{by-kind, recordOf}
 
@@ -24,6 +24,8 @@ module _ (nq na i : ℕ) where
   FieldRule Action x = x < na
   FieldRule Formula x = x < nq
   FieldRule Record x = x < i
+  FieldRule Choices x = (1 ≤ x) × (x ≤ 16)
+  FieldRule Placeholder x = x < 2
 
   -- the kind is known, and each field keeps its role
   pub record Fields (r : Program) : Type 0 where
@@ -37,6 +39,8 @@ module _ (nq na i : ℕ) where
   field-exactly Action x = (ltb-true x na, lt-ltb x na)
   field-exactly Formula x = (ltb-true x nq, lt-ltb x nq)
   field-exactly Record x = (ltb-true x i, lt-ltb x i)
+  field-exactly Choices x = and-exactly (ltb 0 x) (leb x 16) (ltb-true 0 x, lt-ltb 0 x) (leb-true x 16, le-leb x 16)
+  field-exactly Placeholder x = (ltb-true x 2, lt-ltb x 2)
 
   -- what a role tells
   pub action-below : (f : Field) {x : ℕ} → FieldRule f x → T (isAction f) → x < na
@@ -44,18 +48,24 @@ module _ (nq na i : ℕ) where
   action-below Action k t = k
   action-below Formula k t = absurd t
   action-below Record k t = absurd t
+  action-below Choices k t = absurd t
+  action-below Placeholder k t = absurd t
 
   pub formula-below : (f : Field) {x : ℕ} → FieldRule f x → T (isFormula f) → x < nq
   formula-below Unused k t = absurd t
   formula-below Action k t = absurd t
   formula-below Formula k t = k
   formula-below Record k t = absurd t
+  formula-below Choices k t = absurd t
+  formula-below Placeholder k t = absurd t
 
   pub record-below : (f : Field) {x : ℕ} → FieldRule f x → T (isRecord f) → x < i
   record-below Unused k t = absurd t
   record-below Action k t = absurd t
   record-below Formula k t = absurd t
   record-below Record k t = k
+  record-below Choices k t = absurd t
+  record-below Placeholder k t = absurd t
 
   -- document 01's rule of each kind, from the roles
   rule-of : (a b c kind : ℕ) → kind ≤ 11 → FieldRule (fieldA kind) a → FieldRule (fieldB kind) b → FieldRule (fieldC kind) c → ProgramRule nq na i (recordOf kind a b c)
@@ -74,6 +84,7 @@ module _ (nq na i : ℕ) where
       (λ l p q r. inr (inr (inr (inr (inr (inr (inr (inr (inr (inl (refl, p, q, r)))))))))))
       (λ l p q r. inr (inr (inr (inr (inr (inr (inr (inr (inr (inr (inl (refl, p, q, r))))))))))))
       (λ l p q r. inr (inr (inr (inr (inr (inr (inr (inr (inr (inr (inr (refl, p, q, r))))))))))))
+      (λ l p q r. absurd (omega arith))
       (λ k l p q r. absurd (omega arith))
 
   module _ (r : Program) where
@@ -151,21 +162,22 @@ links-lower nq na i r f j k =
     ⊎-elim (λ (t, e). omega (arith, record-below nq na i (fieldA (r .kind)) (f .a) t)) (λ (t, e). omega (arith, record-below nq na i (fieldB (r .kind)) (f .b) t))
     (links-exactly r j .0 k)
 
--- document 01's kinds with one and with two parts
+-- the kinds with two parts, with part a alone, with part b alone
 a-parts : (kind : ℕ) → T (hasA kind) → TwoParts kind ⊎ OnePart kind
 unfolding fieldA
 a-parts =
     by-kind (λ (kind : ℕ). T (hasA kind) → TwoParts kind ⊎ OnePart kind)
     (λ t. absurd t) (λ t. absurd t) (λ t. absurd t) (λ t. inl (inl refl)) (λ t. inl (inr (inl refl))) (λ t. inr (inl refl)) (λ t. inl (inr (inr (inl refl))))
     (λ t. inr (inr (inl refl))) (λ t. inl (inr (inr (inr (inl refl))))) (λ t. inl (inr (inr (inr (inr refl))))) (λ t. inr (inr (inr (inl refl))))
-    (λ t. inr (inr (inr (inr refl)))) (λ k t. absurd t)
+    (λ t. inr (inr (inr (inr refl)))) (λ t. absurd t) (λ k t. absurd t)
 
-b-parts : (kind : ℕ) → T (hasB kind) → TwoParts kind
+b-parts : (kind : ℕ) → T (hasB kind) → TwoParts kind ⊎ PartB kind
 unfolding fieldB
 b-parts =
-    by-kind (λ (kind : ℕ). T (hasB kind) → TwoParts kind)
-    (λ t. absurd t) (λ t. absurd t) (λ t. absurd t) (λ t. inl refl) (λ t. inr (inl refl)) (λ t. absurd t) (λ t. inr (inr (inl refl))) (λ t. absurd t)
-    (λ t. inr (inr (inr (inl refl)))) (λ t. inr (inr (inr (inr refl)))) (λ t. absurd t) (λ t. absurd t) (λ k t. absurd t)
+    by-kind (λ (kind : ℕ). T (hasB kind) → TwoParts kind ⊎ PartB kind)
+    (λ t. absurd t) (λ t. absurd t) (λ t. absurd t) (λ t. inl (inl refl)) (λ t. inl (inr (inl refl))) (λ t. absurd t) (λ t. inl (inr (inr (inl refl))))
+    (λ t. absurd t) (λ t. inl (inr (inr (inr (inl refl))))) (λ t. inl (inr (inr (inr (inr refl))))) (λ t. absurd t) (λ t. absurd t) (λ t. inr refl)
+    (λ k t. absurd t)
 
 two-parts : (kind : ℕ) → TwoParts kind → T (hasA kind) × T (hasB kind)
 unfolding fieldA fieldB
@@ -175,10 +187,16 @@ one-part : (kind : ℕ) → OnePart kind → T (hasA kind)
 unfolding fieldA
 one-part kind = ⊎-elim (λ e. rw e tt) (⊎-elim (λ e. rw e tt) (⊎-elim (λ e. rw e tt) (λ e. rw e tt)))
 
--- the links listed are document 01's
+part-b : (kind : ℕ) → PartB kind → T (hasB kind)
+unfolding fieldB
+part-b kind e = rw e tt
+
+-- the links listed are those of the rules
 pub link-exactly : (r : Program) (j : ℕ) → List·Memᴰ j (links r) ↔ Link r j
 link-exactly r j = (
-  λ m. ⊎-elim (λ (t, e). ⊎-elim (λ two. inl (two, inl e)) (λ one. inr (one, e)) (a-parts (r .kind) t)) (λ (t, e). inl (b-parts (r .kind) t, inr e)) (links-exactly r j .0 m),
+  λ m. ⊎-elim (λ (t, e). ⊎-elim (λ two. inl (two, inl e)) (λ one. inr (inl (one, e))) (a-parts (r .kind) t))
+      (λ (t, e). ⊎-elim (λ two. inl (two, inr e)) (λ b. inr (inr (b, e))) (b-parts (r .kind) t)) (links-exactly r j .0 m),
   λ l. links-exactly r j .1
-      (⊎-elim (λ (two, q). let h = two-parts (r .kind) two in ⊎-elim (λ e. inl (h .0, e)) (λ e. inr (h .1, e)) q) (λ (one, e). inl (one-part (r .kind) one, e)) l),
+      (⊎-elim (λ (two, q). let h = two-parts (r .kind) two in ⊎-elim (λ e. inl (h .0, e)) (λ e. inr (h .1, e)) q)
+      (⊎-elim (λ (one, e). inl (one-part (r .kind) one, e)) (λ (b, e). inr (part-b (r .kind) b, e))) l),
 )

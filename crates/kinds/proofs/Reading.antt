@@ -5,7 +5,7 @@ use mathlib.Core.Bool.{Bool, true, false, _&&_}
 use Prim.Native.Nat.{ℕ}
 use lib.Dec.{T}
 use Rattle.kinds.specs.declared.programs.Field.{Field}
-use Rattle.kinds.specs.declared.programs.Field.the-variants.{Unused, Action, Formula, Record}
+use Rattle.kinds.specs.declared.programs.Field.the-variants.{Unused, Action, Formula, Record, Choices, Placeholder}
 use Rattle.kinds.specs.Programs.{fieldA, fieldB, fieldC, isAction, isFormula, hasA, hasB, hasCondition, acts, tests, finalOf, ownBy, ownOf, usesA, usesB}
 use Rattle.kinds.proofs.ProgramKinds.{by-kind}
 
@@ -22,19 +22,19 @@ final-reads : (fa fb h running : Bool) (kind : ℕ) → finalOf kind fa fb h run
 unfolding finalOf fieldA fieldB fieldC
 final-reads fa fb h running =
     by-kind (λ (k : ℕ). finalOf k fa fb h running ≡ finalOf k (hasA k && fa) (hasB k && fb) (hasCondition k && h) running)
-    refl refl refl refl refl refl refl refl refl refl refl refl (λ k. refl)
+    refl refl refl refl refl refl refl refl refl refl refl refl refl (λ k. refl)
 
 pub uses-a-reads : (h running : Bool) (kind : ℕ) → usesA kind h running ≡ (hasA kind && usesA kind (hasCondition kind && h) running)
 unfolding usesA fieldA fieldC
 uses-a-reads h running =
     by-kind (λ (k : ℕ). usesA k h running ≡ (hasA k && usesA k (hasCondition k && h) running))
-    refl refl refl refl refl refl refl refl refl refl refl refl (λ k. refl)
+    refl refl refl refl refl refl refl refl refl refl refl refl refl (λ k. refl)
 
 pub uses-b-reads : (fa h idle : Bool) (kind : ℕ) → usesB kind fa h idle ≡ (hasB kind && usesB kind (hasA kind && fa) (hasCondition kind && h) (hasA kind && idle))
 unfolding usesB fieldA fieldB fieldC
 uses-b-reads fa h idle =
     by-kind (λ (k : ℕ). usesB k fa h idle ≡ (hasB k && usesB k (hasA k && fa) (hasCondition k && h) (hasA k && idle)))
-    refl refl refl refl refl refl refl refl refl refl refl refl (λ k. refl)
+    refl refl refl refl refl refl refl refl refl refl refl refl refl (λ k. refl)
 
 -- a record uses a part only where its kind has it
 pub uses-a : (kind : ℕ) (h running : Bool) → T (usesA kind h running) → T (hasA kind)
@@ -78,3 +78,5 @@ module _ (kind : ℕ) where
       go Action a t = a tt
       go Formula a t = t tt
       go Record a t = refl
+      go Choices a t = refl
+      go Placeholder a t = refl

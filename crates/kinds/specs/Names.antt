@@ -1,5 +1,5 @@
 -- To be believed: which fluents a formula names, kind by kind (document 02, F-5: "the fluents its formula names, through all its
--- subformulas"). Assumes nothing.
+-- subformulas"). In 9 and 10 x is a number of values and no fluent. Assumes nothing.
 use Prim.Native.Nat.{ℕ}
 use mathlib.Core.Bool.{Bool, false, _||_}
 use mathlib.Core.List.{List, [], _∷_}
@@ -20,6 +20,9 @@ namesOf r x lower =
     getD lower (r .a) false ∷  -- 5 not a
     (getD lower (r .a) false || getD lower (r .b) false) ∷  -- 6 a and b
     (getD lower (r .a) false || getD lower (r .b) false) ∷  -- 7 a or b
+    eqb (r .x) x ∷  -- 8 fluent x equals placeholder a
+    getD lower (r .a) false ∷  -- 9 for some value below x in placeholder b, a
+    getD lower (r .a) false ∷  -- 10 for every value below x in placeholder b, a
     []
     )
     (r .kind) false

@@ -1,7 +1,8 @@
 -- Own vocabulary: what each kind of program record is and does, a column for each question, a place for each of the kinds 0 nil, 1 act,
--- 2 test, 3 a;b, 4 a|b, 5 star, 6 if, 7 while, 8 together, 9 over, 10 concurrent iteration, 11 interrupt. That the fields' roles are
--- document 01's rule is proved in proofs/ProgramFields.antt; that no kind does more, or less, than the columns say, in
--- remaining/proofs/Same.antt. The functions of these names are in src/programs.rt. Assumes nothing.
+-- 2 test, 3 a;b, 4 a|b, 5 star, 6 if, 7 while, 8 together, 9 over, 10 concurrent iteration, 11 interrupt, 12 choice of a value. That the
+-- fields' roles are document 01's rule is proved in proofs/ProgramFields.antt; that no kind does more, or less, than the columns say, in
+-- remaining/proofs/Same.antt. Of 12 the columns say what it is with one value; what it does with each is said there. The functions of these
+-- names are in src/programs.rt. Assumes nothing.
 use Prim.Native.Nat.{ℕ, _+_, min}
 use mathlib.Core.Bool.{Bool, true, false, not, cond, _&&_, _||_}
 use mathlib.Core.List.{List, [], _∷_}
@@ -9,19 +10,20 @@ use lib.Dec.{eqb, ltb, leb}
 use lib.ListN.{getD}
 use Rattle.records.specs.declared.Program.{Program}
 use Rattle.kinds.specs.declared.programs.Field.{Field}
-use Rattle.kinds.specs.declared.programs.Field.the-variants.{Unused, Action, Formula, Record}
+use Rattle.kinds.specs.declared.programs.Field.the-variants.{Unused, Action, Formula, Record, Choices, Placeholder}
 
 -- what a, b and c are
 unfoldable pub fieldA : ℕ → Field
 fieldA kind =
-    getD (Unused ∷ Action ∷ Formula ∷ Record ∷ Record ∷ Record ∷ Record ∷ Record ∷ Record ∷ Record ∷ Record ∷ Record ∷ []) kind Unused
+    getD (Unused ∷ Action ∷ Formula ∷ Record ∷ Record ∷ Record ∷ Record ∷ Record ∷ Record ∷ Record ∷ Record ∷ Record ∷ Choices ∷ []) kind Unused
 
 unfoldable pub fieldB : ℕ → Field
-fieldB kind = getD (Unused ∷ Unused ∷ Unused ∷ Record ∷ Record ∷ Unused ∷ Record ∷ Unused ∷ Record ∷ Record ∷ []) kind Unused
+fieldB kind =
+    getD (Unused ∷ Unused ∷ Unused ∷ Record ∷ Record ∷ Unused ∷ Record ∷ Unused ∷ Record ∷ Record ∷ Unused ∷ Unused ∷ Record ∷ []) kind Unused
 
 unfoldable pub fieldC : ℕ → Field
 fieldC kind =
-    getD (Unused ∷ Unused ∷ Unused ∷ Unused ∷ Unused ∷ Unused ∷ Formula ∷ Formula ∷ Unused ∷ Unused ∷ Unused ∷ Formula ∷ []) kind Unused
+    getD (Unused ∷ Unused ∷ Unused ∷ Unused ∷ Unused ∷ Unused ∷ Formula ∷ Formula ∷ Unused ∷ Unused ∷ Unused ∷ Formula ∷ Placeholder ∷ []) kind Unused
 
 -- a field keeps its role, in record i of a sheet with nq formulas and na actions
 abbrev pub fieldOk : (nq na i : ℕ) → Field → ℕ → Bool
@@ -29,6 +31,8 @@ fieldOk nq na i Unused x = eqb x 0
 fieldOk nq na i Action x = ltb x na
 fieldOk nq na i Formula x = ltb x nq
 fieldOk nq na i Record x = ltb x i
+fieldOk nq na i Choices x = ltb 0 x && leb x 16
+fieldOk nq na i Placeholder x = ltb x 2
 
 -- the kind is known, and each field keeps its role
 unfoldable pub programOk : (nq na i : ℕ) → Program → Bool
@@ -43,18 +47,24 @@ isAction Unused = false
 isAction Action = true
 isAction Formula = false
 isAction Record = false
+isAction Choices = false
+isAction Placeholder = false
 
 abbrev pub isFormula : Field → Bool
 isFormula Unused = false
 isFormula Action = false
 isFormula Formula = true
 isFormula Record = false
+isFormula Choices = false
+isFormula Placeholder = false
 
 abbrev pub isRecord : Field → Bool
 isRecord Unused = false
 isRecord Action = false
 isRecord Formula = false
 isRecord Record = true
+isRecord Choices = false
+isRecord Placeholder = false
 
 -- its part a, its part b is a program record
 abbrev pub hasA : ℕ → Bool
@@ -66,6 +76,10 @@ hasB kind = isRecord (fieldB kind)
 -- its c is a formula
 abbrev pub hasCondition : ℕ → Bool
 hasCondition kind = isFormula (fieldC kind)
+
+-- it chooses a value
+abbrev pub picks : ℕ → Bool
+picks kind = eqb kind 12
 
 -- it performs the action a; it tests the formula a
 abbrev pub acts : ℕ → Bool
@@ -89,7 +103,7 @@ finalOf kind fa fb h running =
     getD
     (
     true ∷ false ∷ false ∷ (fa && fb) ∷ (fa || fb) ∷ true ∷ ((h && fa) || (not h && fb)) ∷ (not h || fa) ∷ (fa && fb)
-    ∷ (fa && fb) ∷ true ∷ (not running || (h && fa)) ∷ []
+    ∷ (fa && fb) ∷ true ∷ (not running || (h && fa)) ∷ fb ∷ []
     )
     kind true
 
@@ -103,7 +117,7 @@ finalBoundOf kind most a b =
     getD
     (
     true ∷ false ∷ false ∷ (a && b) ∷ (a || b) ∷ true ∷ ((a && b) || (most && (a || b))) ∷ (most || a) ∷ (a && b) ∷ (a && b)
-    ∷ true ∷ most ∷ []
+    ∷ true ∷ most ∷ b ∷ []
     )
     kind true
 
@@ -117,6 +131,8 @@ ownBy Unused can passes = false
 ownBy Action can passes = can
 ownBy Formula can passes = passes
 ownBy Record can passes = false
+ownBy Choices can passes = false
+ownBy Placeholder can passes = false
 
 abbrev pub ownOf : (kind : ℕ) (can passes : Bool) → Bool
 ownOf kind can passes = ownBy (fieldA kind) can passes
@@ -167,7 +183,7 @@ firstBy r truths running counts = cond (usesA (r .kind) (getD truths (r .c) fals
 
 -- how far it is from its end at least, in transitions and whatever the states, where its parts are da and db from theirs
 unfoldable pub distanceOf : (kind da db : ℕ) → ℕ
-distanceOf kind da db = getD (0 ∷ 1 ∷ 1 ∷ (da + db) ∷ min da db ∷ 0 ∷ min da db ∷ 0 ∷ (da + db) ∷ (da + db) ∷ 0 ∷ 0 ∷ []) kind 0
+distanceOf kind da db = getD (0 ∷ 1 ∷ 1 ∷ (da + db) ∷ min da db ∷ 0 ∷ min da db ∷ 0 ∷ (da + db) ∷ (da + db) ∷ 0 ∷ 0 ∷ db ∷ []) kind 0
 
 -- the same by what is tabled of lower records
 unfoldable pub distanceBy : Program → (distances : List ℕ) → ℕ

@@ -64,6 +64,10 @@ TwoParts kind = (kind ≡ 3) ⊎ (kind ≡ 4) ⊎ (kind ≡ 6) ⊎ (kind ≡ 8) 
 abbrev pub OnePart : ℕ → Type 0
 OnePart kind = (kind ≡ 5) ⊎ (kind ≡ 7) ⊎ (kind ≡ 10) ⊎ (kind ≡ 11)
 
+-- the kind whose b alone is one: choice of a value (document 02, F-6)
+abbrev pub PartB : ℕ → Type 0
+PartB kind = kind ≡ 12
+
 -- a link from a program record to program record j
 abbrev pub Link : Program → ℕ → Type 0
-Link r j = (TwoParts (r .kind) × ((j ≡ r .a) ⊎ (j ≡ r .b))) ⊎ (OnePart (r .kind) × (j ≡ r .a))
+Link r j = (TwoParts (r .kind) × ((j ≡ r .a) ⊎ (j ≡ r .b))) ⊎ (OnePart (r .kind) × (j ≡ r .a)) ⊎ (PartB (r .kind) × (j ≡ r .b))

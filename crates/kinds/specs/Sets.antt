@@ -29,6 +29,9 @@ setOf r lower =
     getD lower (r .a) 0 ∷  -- 5 not a
     bitOr (getD lower (r .a) 0) (getD lower (r .b) 0) ∷  -- 6 a and b
     bitOr (getD lower (r .a) 0) (getD lower (r .b) 0) ∷  -- 7 a or b
+    bitOf (r .x) ∷  -- 8 fluent x equals placeholder a
+    getD lower (r .a) 0 ∷  -- 9 for some value below x in placeholder b, a
+    getD lower (r .a) 0 ∷  -- 10 for every value below x in placeholder b, a
     []
     )
     (r .kind) 0

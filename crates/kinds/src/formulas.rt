@@ -2,19 +2,23 @@
 ghost use mathlib.Core.Path.{_≡_};
 ghost use Rattle.kinds.specs.Truth.{truthOf};
 ghost use Rattle.kinds.specs.Sets.{bitOf, setOf};
-ghost use Rattle.kinds.specs.Formulas.{fieldX, fieldA, fieldB, fieldOk, formulaOk, asksValue};
+ghost use Rattle.kinds.specs.Formulas.{fieldX, fieldA, fieldB, fieldOk, formulaOk, asksValue, isPlain};
+ghost use lib.Dec.{T};
 use records::Formula;
 
 // The last kind of formula.
 const LAST_KIND: usize = 7;
 
-// What a field of a formula is: a fluent, one of its values, a number up to its size, a lower formula.
+// What a field of a formula is: a fluent, one of its values, a number up to its size, a lower formula, a placeholder, how many values are
+// gone through.
 pub enum Field {
     Unused,
     Fluent,
     Value,
     Limit,
     Lower,
+    Placeholder,
+    Choices,
 }
 
 // Whether it asks that a fluent has a value.
@@ -34,6 +38,9 @@ fn field_x(kind: usize) -> Field
         2 => Field::Fluent,
         3 => Field::Fluent,
         4 => Field::Fluent,
+        8 => Field::Fluent,
+        9 => Field::Choices,
+        10 => Field::Choices,
         _ => Field::Unused,
     }
 }
@@ -48,6 +55,9 @@ fn field_a(kind: usize) -> Field
         5 => Field::Lower,
         6 => Field::Lower,
         7 => Field::Lower,
+        8 => Field::Placeholder,
+        9 => Field::Lower,
+        10 => Field::Lower,
         _ => Field::Unused,
     }
 }
@@ -58,6 +68,8 @@ fn field_b(kind: usize) -> Field
     match kind {
         6 => Field::Lower,
         7 => Field::Lower,
+        9 => Field::Placeholder,
+        10 => Field::Placeholder,
         _ => Field::Unused,
     }
 }
@@ -71,6 +83,8 @@ fn field_ok(nf: usize, size: usize, i: usize, field: Field, x: usize) -> bool
         Field::Value => x < size,
         Field::Limit => x <= size,
         Field::Lower => x < i,
+        Field::Placeholder => x < records::PLACEHOLDERS,
+        Field::Choices => (0 < x) & (x <= records::CHOICES),
     }
 }
 
@@ -84,8 +98,9 @@ pub fn formula_ok(nf: usize, size: usize, i: usize, r: Formula) -> bool
         & field_ok(nf, size, i, field_b(r.kind), r.b)
 }
 
-// What a formula says of values, where `lower` has what the lower ones say.
+// What a formula without placeholders says of values, where `lower` has what the lower ones say.
 pub fn truth_of(r: Formula, values: &[u8], lower: &[bool]) -> bool
+    requires { ⌜ T (isPlain (r .kind)) ⌝ }
     ensures { λ t. ⌜ t ≡ truthOf r (now (values .entry)) (now (lower .entry)) ⌝ }
 {
     let kind = r.kind;
@@ -123,6 +138,9 @@ pub fn names_of(r: Formula, lower: &[u32]) -> u32
         5 => records::number_in(lower, r.a, 0),
         6 => records::number_in(lower, r.a, 0) | records::number_in(lower, r.b, 0),
         7 => records::number_in(lower, r.a, 0) | records::number_in(lower, r.b, 0),
+        8 => bit(r.x),
+        9 => records::number_in(lower, r.a, 0),
+        10 => records::number_in(lower, r.a, 0),
         _ => 0,
     }
 }

@@ -11,12 +11,14 @@ use records::Program;
 // The last kind of program record.
 const LAST_KIND: usize = 11;
 
-// What a field of a program record is.
+// What a field of a program record is: an action, a formula, a lower record, how many values are chosen from, a placeholder.
 pub enum Field {
     Unused,
     Action,
     Formula,
     Record,
+    Choices,
+    Placeholder,
 }
 
 fn field_a(kind: usize) -> Field
@@ -34,6 +36,7 @@ fn field_a(kind: usize) -> Field
         9 => Field::Record,
         10 => Field::Record,
         11 => Field::Record,
+        12 => Field::Choices,
         _ => Field::Unused,
     }
 }
@@ -47,6 +50,7 @@ fn field_b(kind: usize) -> Field
         6 => Field::Record,
         8 => Field::Record,
         9 => Field::Record,
+        12 => Field::Record,
         _ => Field::Unused,
     }
 }
@@ -58,6 +62,7 @@ fn field_c(kind: usize) -> Field
         6 => Field::Formula,
         7 => Field::Formula,
         11 => Field::Formula,
+        12 => Field::Placeholder,
         _ => Field::Unused,
     }
 }
@@ -70,6 +75,8 @@ fn field_ok(nq: usize, na: usize, i: usize, field: Field, x: usize) -> bool
         Field::Action => x < na,
         Field::Formula => x < nq,
         Field::Record => x < i,
+        Field::Choices => (0 < x) & (x <= records::CHOICES),
+        Field::Placeholder => x < records::PLACEHOLDERS,
     }
 }
 
@@ -91,6 +98,8 @@ fn is_record(field: Field) -> bool
         Field::Action => false,
         Field::Formula => false,
         Field::Record => true,
+        Field::Choices => false,
+        Field::Placeholder => false,
     }
 }
 
@@ -165,6 +174,7 @@ pub fn final_by(r: Program, truths: &[bool], running: bool, finals: &[bool]) -> 
         8 => both_final(finals, r.a, r.b),
         9 => both_final(finals, r.a, r.b),
         11 => !running | records::flag_in(truths, r.c, false) & records::flag_in(finals, r.a, true),
+        12 => records::flag_in(finals, r.b, true),
         _ => true,
     }
 }
@@ -184,6 +194,7 @@ pub fn final_bound_by(r: Program, most: bool, marks: &[bool]) -> bool
         8 => both_final(marks, r.a, r.b),
         9 => both_final(marks, r.a, r.b),
         11 => most,
+        12 => records::flag_in(marks, r.b, true),
         _ => true,
     }
 }
@@ -337,6 +348,7 @@ pub fn distance_by(r: Program, distances: &[u32]) -> u64
         6 => lesser(distances, r.a, r.b),
         8 => both_if(distances, r.a, r.b, true),
         9 => both_if(distances, r.a, r.b, true),
+        12 => part(distances, r.b, true),
         _ => 0,
     }
 }

@@ -19,7 +19,7 @@ use Rattle.kinds.proofs.Counting.{where-used}
 use Rattle.height.specs.Height.{rise}
 use Rattle.golog.specs.declared.State.{State}
 use Rattle.golog.specs.World.{World, holds}
-use Rattle.remaining.specs.Rest.{AllLower}
+use Rattle.remaining.specs.Rest.{AllLower, Plain}
 use Rattle.remaining.specs.Leaves.{Leaf, nilLeaf, leafAt, leafOf}
 use Rattle.remaining.proofs.Counts.{leaf-few}
 use Rattle.remaining.proofs.Entries.{lower-a, rise-a}
@@ -66,19 +66,19 @@ module _ (W : World) (s : State) (p : ℕ → Program) where
   unfolding countsOf
   counts-whole m old z = ap (λ (l : List ℕ). map cappedCount (upTo (leafAt W s p) m) ++ l) z
 
-  pub few-steps : AllLower p → (i : ℕ) → rise p i ≤ 18 → length (leafOf W s p i .transitions) ≤ 262144
-  few-steps low i h = let u : 2 ^ rise p i ≤ 2 ^ 18 = pow-le-pow-right (omega arith) h in omega (arith, leaf-few W s p low i)
+  pub few-steps : AllLower p → Plain p → (i : ℕ) → rise p i ≤ 18 → length (leafOf W s p i .transitions) ≤ 262144
+  few-steps low plain i h = let u : 2 ^ rise p i ≤ 2 ^ 18 = pow-le-pow-right (omega arith) h in omega (arith, leaf-few W s p low plain i)
 
-  pub counts-exact : AllLower p → (m i : ℕ) → i < m → rise p i ≤ 18 → getD (countsOf W s p m) i 0 ≡ length (leafOf W s p i .transitions)
-  counts-exact low m i h k = omega (arith, counts-at m i h, few-steps low i k)
+  pub counts-exact : AllLower p → Plain p → (m i : ℕ) → i < m → rise p i ≤ 18 → getD (countsOf W s p m) i 0 ≡ length (leafOf W s p i .transitions)
+  counts-exact low plain m i h k = omega (arith, counts-at m i h, few-steps low plain i k)
 
   -- the transitions of a record's part a, counted
-  pub first-exact : AllLower p → (m i : ℕ) → i < m → rise p i ≤ 18 → {truths : List Bool} {can : ℕ → Bool} {running : Bool} → SeesRecord W s truths can (p i)
+  pub first-exact : AllLower p → Plain p → (m i : ℕ) → i < m → rise p i ≤ 18 → {truths : List Bool} {can : ℕ → Bool} {running : Bool} → SeesRecord W s truths can (p i)
       → s .running ≡ running
       → firstBy (p i) truths running (countsOf W s p m) ≡ cond (usesA (p i .kind) (holds W (p i .c) s) (s .running)) (length (leafOf W s p (p i .a) .transitions)) 0
   unfolding firstBy
-  first-exact low m i h k S e =
+  first-exact low plain m i h k S e =
       let used : Bool = usesA (p i .kind) (holds W (p i .c) s) (s .running) in
       let exact : T used → getD (countsOf W s p m) (p i .a) 0 ≡ length (leafOf W s p (p i .a) .transitions) =
-      λ t. let u = uses-a (p i .kind) (holds W (p i .c) s) (s .running) t in counts-exact low m (p i .a) (omega (arith, lower-a p low i u)) (omega (arith, rise-a p low i u)) in
+      λ t. let u = uses-a (p i .kind) (holds W (p i .c) s) (s .running) t in counts-exact low plain m (p i .a) (omega (arith, lower-a p low i u)) (omega (arith, rise-a p low i u)) in
       rw (← e) (ap (λ (b : Bool). cond b (getD (countsOf W s p m) (p i .a) 0) 0) (uses-a-same (p i .kind) (s .running) (S .condition)) ∙ where-used used _ _ exact)

@@ -14,13 +14,13 @@ use Rattle.kinds.proofs.Counting.{count-same, count-capped}
 use Rattle.golog.specs.declared.State.{State}
 use Rattle.golog.specs.World.{World}
 use Rattle.remaining.specs.Leaves.{Leaf, nilLeaf, leafAt, leafOf}
-use Rattle.remaining.specs.Rest.{AllLower}
+use Rattle.remaining.specs.Rest.{AllLower, Plain}
 use Rattle.remaining.proofs.Counts.{leaf-count}
 use Rattle.remaining.proofs.Entries.{lower-a, lower-b}
 use Rattle.leaves.specs.Tallies.{cap, cappedCount, SeesRecord}
 use Rattle.leaves.specs.Endable.{AreFinal}
 
-module _ (W : World) (s : State) (p : ℕ → Program) (low : AllLower p) {m : ℕ} (finals : List Bool) (F : AreFinal W s p m finals)
+module _ (W : World) (s : State) (p : ℕ → Program) (low : AllLower p) (plain : Plain p) {m : ℕ} (finals : List Bool) (F : AreFinal W s p m finals)
     {old counts : List ℕ} {i : ℕ} (B : Refilled (leafAt W s p) cappedCount old counts i) (l : i < m)
     {truths : List Bool} {can : ℕ → Bool} {running : Bool} (S : SeesRecord W s truths can (p i)) (e : s .running ≡ running) where
   part-in : (a : ℕ) → a < i → let A = getD (upTo (leafAt W s p) i) a nilLeaf in (getD finals a true ≡ A .final) × (getD counts a 0 ≡ cappedCount A)
@@ -30,7 +30,7 @@ module _ (W : World) (s : State) (p : ℕ → Program) (low : AllLower p) {m : �
   count-right : min cap (countBy (p i) (can (p i .a)) truths running finals counts) ≡ cappedCount (leafAt W s p i (upTo (leafAt W s p) i))
   unfolding countBy
   count-right =
-      rw (← e)
+      rw (← e, plain i)
       (ap (min cap)
       (count-same (p i .kind) (s .running) (S .act) (S .test) (S .condition) (λ t. part-in (p i .a) (lower-a p low i t)) (λ t. part-in (p i .b) (lower-b p low i t) .1))
       ∙ sym (count-capped cap _ _ _ _ _ _ _ _ (omega arith))

@@ -1,4 +1,4 @@
--- A record is final in no state unless it is marked among those that may be, and in every state where it is marked among those that are:
+-- Where no record chooses a value: a record is final in no state unless it is marked among those that may be, and in every state where it is marked among those that are:
 -- where its parts are so. So where the two agree, `endable` says it. Assumes nothing.
 use mathlib.Core.Path.{_≡_, refl, sym, _∙_, ap}
 use mathlib.Core.Bool.{Bool, true, false, not, _&&_}
@@ -13,8 +13,8 @@ use Rattle.kinds.specs.Programs.{finalBoundBy}
 use Rattle.kinds.proofs.Bounding.{Under, final-marked, marked-final}
 use Rattle.golog.specs.World.{holds}
 use Rattle.remaining.specs.Leaves.{Leaf, leafWith, leafOf}
-use Rattle.remaining.specs.Rest.{AllLower}
-use Rattle.remaining.proofs.Entries.{entry-rule, lower-a, lower-b, leaf-step}
+use Rattle.remaining.specs.Rest.{AllLower, Plain}
+use Rattle.remaining.proofs.Entries.{entry-rule, lower-a, lower-b, leaf-plain}
 use Rattle.leaves.specs.Tallies.{extendedSize}
 use Rattle.leaves.specs.Endable.{Endable, Sure, finalBoundAt, finalBoundsOf, doubtBy, Settled}
 
@@ -37,7 +37,7 @@ pub places-few : (interrupts : Bool) (n : ℕ) → n ≤ 256 → extendedSize in
 places-few true n l = omega arith
 places-few false n l = omega arith
 
-module _ (p : ℕ → Program) (low : AllLower p) where
+module _ (p : ℕ → Program) (low : AllLower p) (plain : Plain p) where
   -- the table of the records that may be final in some state marks each that is
   pub bounds-above : (m : ℕ) → Endable p m (finalBoundsOf true p m)
   unfolding finalBoundBy leafWith
@@ -47,7 +47,7 @@ module _ (p : ℕ → Program) (low : AllLower p) where
       made : (a : ℕ) (lower : List Bool) → ((k : ℕ) → k < a → Under (leafOf W s p k .final) (getD lower k true)) → Under (leafOf W s p a .final) (finalBoundAt true p a lower)
       made a lower h f =
           final-marked _ _ _ _ (holds W (p a .c) s) (s .running) (p a .kind) (λ t. h (p a .a) (lower-a p low a t)) (λ t. h (p a .b) (lower-b p low a t))
-          (ap (λ (y : Leaf). y .final) (sym (leaf-step W s p low a)) ∙ f)
+          (ap (λ (y : Leaf). y .final) (sym (leaf-plain W s p low a (plain a))) ∙ f)
 
   -- what the table of those that are final in every state marks is
   pub bounds-below : (m : ℕ) → Sure p m (finalBoundsOf false p m)
@@ -57,7 +57,7 @@ module _ (p : ℕ → Program) (low : AllLower p) where
     where
       made : (a : ℕ) (lower : List Bool) → ((k : ℕ) → k < a → Under (getD lower k true) (leafOf W s p k .final)) → Under (finalBoundAt false p a lower) (leafOf W s p a .final)
       made a lower h f =
-          ap (λ (y : Leaf). y .final) (leaf-step W s p low a)
+          ap (λ (y : Leaf). y .final) (leaf-plain W s p low a (plain a))
           ∙ marked-final _ _ _ _ (holds W (p a .c) s) (s .running) (p a .kind) (λ t. h (p a .a) (lower-a p low a t)) (λ t. h (p a .b) (lower-b p low a t)) f
 
 between : (x y f : Bool) → Under f x → Under y f → (x && not y) ≡ false → f ≡ x

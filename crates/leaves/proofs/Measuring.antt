@@ -12,8 +12,8 @@ use Rattle.kinds.specs.Programs.{distanceBy}
 use Rattle.golog.specs.Prog.{programOf}
 use Rattle.golog.specs.Distance.{distance}
 use Rattle.golog.proofs.Distance.{construct-near}
-use Rattle.remaining.specs.Rest.{AllLower}
-use Rattle.remaining.proofs.Entries.{entry-rule, lower-a, lower-b, program-step}
+use Rattle.remaining.specs.Rest.{AllLower, Plain}
+use Rattle.remaining.proofs.Entries.{entry-rule, lower-a, lower-b, chosen, program-step}
 use Rattle.leaves.specs.Distances.{Distances, distanceAt, distancesOf}
 
 -- a record reads the lower ones through their distances alone
@@ -26,14 +26,16 @@ module _ (p : ℕ → Program) (m : ℕ) where
   unfolding distancesOf
   distances-at i l = default-at 0 (upTo (distanceAt p) m) (260 - m) i ∙ up-at 0 (distanceAt p) m i l
 
-  pub distances-below : AllLower p → Distances p m (distancesOf p m)
+  pub distances-below : AllLower p → Plain p → Distances p m (distancesOf p m)
   unfolding distanceBy
-  distances-below low i l = rw (distances-at i l) (entry-rule 0 (distanceAt p) (λ (a d : ℕ). d ≤ distance (programOf p a)) made i)
+  distances-below low plain i l = rw (distances-at i l) (entry-rule 0 (distanceAt p) (λ (a d : ℕ). d ≤ distance (programOf p a)) made i)
     where
       made : (a : ℕ) (lower : List ℕ) → ((k : ℕ) → k < a → getD lower k 0 ≤ distance (programOf p k)) → distanceAt p a lower ≤ distance (programOf p a)
       made a lower h =
           rw (program-step p low a)
           (omega (
             arith,
-            construct-near (p a .kind) (p a .a) (p a .b) (p a .c) _ _ _ _ (λ t. h (p a .a) (lower-a p low a t)) (λ t. h (p a .b) (lower-b p low a t)),
+            construct-near (p a .kind) (p a .a) (p a .b) (p a .c) _ _ (chosen (programOf p) (p a)) _ _ (λ t. h (p a .a) (lower-a p low a t))
+                (λ t. h (p a .b) (lower-b p low a t))
+                (λ t. absurd (rw (plain a) at t)),
           ))

@@ -20,8 +20,8 @@ use Rattle.kinds.proofs.Reading.{final-same}
 use Rattle.golog.specs.declared.State.{State}
 use Rattle.golog.specs.World.{World}
 use Rattle.remaining.specs.Leaves.{Leaf, leafWith, leafOf}
-use Rattle.remaining.specs.Rest.{AllLower}
-use Rattle.remaining.proofs.Entries.{lower-a, lower-b, leaf-step}
+use Rattle.remaining.specs.Rest.{AllLower, Plain}
+use Rattle.remaining.proofs.Entries.{lower-a, lower-b, leaf-plain}
 use Rattle.leaves.specs.Tallies.{SeesRecord}
 use Rattle.leaves.specs.Endable.{Endable, finalBoundsOf, doubtBy, skipFrom, skipsOf, Settled, Skips}
 use Rattle.leaves.proofs.Marking.{bounds-below, settled}
@@ -88,8 +88,8 @@ module _ (p : ℕ → Program) (m : ℕ) (endable : List Bool) where
       go j (no k) = D .after j (omega arith) ∙ sym (skips-after j (omega arith))
 
   -- and what they pass is settled
-  pub skips-settled : AllLower p → Endable p m endable → Skips p m endable (skipsOf p m endable)
-  skips-settled low E = record { onward = λ i l. onward i (decLt i m) l; settled = λ i a l h k. passed i a l k (rw (skips-at i (omega arith)) at h) }
+  pub skips-settled : AllLower p → Plain p → Endable p m endable → Skips p m endable (skipsOf p m endable)
+  skips-settled low plain E = record { onward = λ i l. onward i (decLt i m) l; settled = λ i a l h k. passed i a l k (rw (skips-at i (omega arith)) at h) }
     where
       onward : (i : ℕ) → Dec (i < m) → i ≤ m → i ≤ getD (skipsOf p m endable) i m
       onward i (yes k) l = omega (arith, skips-at i k, from-onward (clear endable (finalBoundsOf false p m) m) (m - i) i)
@@ -97,7 +97,7 @@ module _ (p : ℕ → Program) (m : ℕ) (endable : List Bool) where
 
       passed : (i a : ℕ) → i ≤ a → a < m → a < skipFrom endable (finalBoundsOf false p m) m i → Settled p endable a
       passed i a l k h =
-          settled p endable (finalBoundsOf false p m) E (bounds-below p low m) a k (not-true _ (from-passed (clear endable (finalBoundsOf false p m) m) (m - i) i a l h))
+          settled p endable (finalBoundsOf false p m) E (bounds-below p low plain m) a k (not-true _ (from-passed (clear endable (finalBoundsOf false p m) m) (m - i) i a l h))
 
 -- of the first m records those below i are right, and the others are as they came in
 pub record Done (W : World) (s : State) (p : ℕ → Program) (m : ℕ) (endable finals : List Bool) (i : ℕ) : Type 0 where
@@ -108,7 +108,7 @@ module _ {W : World} {s : State} {p : ℕ → Program} {m : ℕ} {endable : List
   pub first : Done W s p m endable endable (getD skips 0 m)
   first = record { right = λ a l k. sym (S .settled 0 a (omega arith) l k W s); rest = λ a l. refl }
 
-  module _ (low : AllLower p) {finals : List Bool} {i : ℕ} (D : Done W s p m endable finals i) (l : i < m)
+  module _ (low : AllLower p) (plain : Plain p) {finals : List Bool} {i : ℕ} (D : Done W s p m endable finals i) (l : i < m)
       {truths : List Bool} {can : ℕ → Bool} {running : Bool} (seen : SeesRecord W s truths can (p i)) (e : s .running ≡ running) where
     final-right : finalBy (p i) truths running finals ≡ leafOf W s p i .final
     unfolding finalBy leafWith
@@ -116,7 +116,7 @@ module _ {W : World} {s : State} {p : ℕ → Program} {m : ℕ} {endable : List
         let part : (a : ℕ) → a < i → getD finals a true ≡ leafOf W s p a .final = λ a h. D .right a h (omega arith) in
         rw (← e)
         (final-same (p i .kind) (s .running) (λ t. part (p i .a) (lower-a p low i t)) (λ t. part (p i .b) (lower-b p low i t)) (seen .condition)
-        ∙ ap (λ (y : Leaf). y .final) (sym (leaf-step W s p low i)))
+        ∙ ap (λ (y : Leaf). y .final) (sym (leaf-plain W s p low i (plain i))))
 
     pub next : i < length finals → {f : Bool} → f ≡ finalBy (p i) truths running finals → Done W s p m endable (set finals i f) (getD skips (i + 1) m)
     next z {f} ef = record {

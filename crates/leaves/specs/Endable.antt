@@ -13,7 +13,7 @@ use Rattle.golog.specs.declared.State.{State}
 use Rattle.golog.specs.World.{World}
 use Rattle.remaining.specs.Extended.{mostRecords}
 use Rattle.remaining.specs.Leaves.{leafOf}
-use Rattle.remaining.specs.Rest.{AllLower}
+use Rattle.remaining.specs.Rest.{AllLower, Plain}
 use Rattle.leaves.specs.Tallies.{Sees, ReadsActions}
 
 -- of the first m records of p, each that is final in some state is marked
@@ -63,8 +63,10 @@ AreFinal W s p m finals = (i : ℕ) → i < m → getD finals i true ≡ leafOf 
 abbrev pub FinalsKnown : (p : ℕ → Program) (m : ℕ) (truths : List Bool) (running : Bool) (finals : List Bool) → Type 0
 FinalsKnown p m truths running finals = (W : World) (s : State) (can : ℕ → Bool) → Sees W s p m truths can running → AreFinal W s p m finals
 
--- what is asked before transitions are counted: records name lower ones and actions of the table, and which are final is known
+-- what is asked before transitions are counted: records name lower ones and actions of the table and choose no value, and which are final
+-- is known
 pub record Tallyable (p : ℕ → Program) (m : ℕ) (actions : List ℕ) (truths : List Bool) (running : Bool) (finals : List Bool) : Type 0 where
   pub lower : AllLower p
+  pub plain : Plain p
   pub acts-known : ReadsActions actions p
   pub finals-known : FinalsKnown p m truths running finals

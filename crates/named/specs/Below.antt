@@ -18,6 +18,12 @@ NamesItself r x =
     (r .x ≡ x) ∷  -- 2 fluent x has value a
     (r .x ≡ x) ∷  -- 3 fluent x is less than a
     ((r .x ≡ x) ⊎ (r .a ≡ x)) ∷  -- 4 fluents x and a have equal values
+    ⊥ ∷  -- 5 not a
+    ⊥ ∷  -- 6 a and b
+    ⊥ ∷  -- 7 a or b
+    (r .x ≡ x) ∷  -- 8 fluent x equals placeholder a
+    ⊥ ∷  -- 9 for some value below x in placeholder b, a
+    ⊥ ∷  -- 10 for every value below x in placeholder b, a
     []
     )
     (r .kind) ⊥
@@ -35,6 +41,9 @@ Part r j =
     (r .a ≡ j) ∷  -- 5 not a
     ((r .a ≡ j) ⊎ (r .b ≡ j)) ∷  -- 6 a and b
     ((r .a ≡ j) ⊎ (r .b ≡ j)) ∷  -- 7 a or b
+    ⊥ ∷  -- 8 fluent x equals placeholder a
+    (r .a ≡ j) ∷  -- 9 for some value below x in placeholder b, a
+    (r .a ≡ j) ∷  -- 10 for every value below x in placeholder b, a
     []
     )
     (r .kind) ⊥

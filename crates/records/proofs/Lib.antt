@@ -6,3 +6,4 @@ pub mod Some
 pub mod Masks
 pub mod Written
 pub mod Laid
+pub mod Placeholders

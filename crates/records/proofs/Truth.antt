@@ -52,6 +52,9 @@ true-exactly true = (λ t. refl, λ e. tt)
 true-exactly false = (λ t. absurd t, false≢true)
 
 -- a test made of others decides what is made of theirs
+pub and-exactly : {A B : Type 0} (a b : Bool) → (a ≡ true) ↔ A → (b ≡ true) ↔ B → ((a && b) ≡ true) ↔ (A × B)
+and-exactly a b p q = (λ e. (p .0 (and-left a b e), q .0 (and-right a b e)), λ (x, y). and-both a b (p .1 x) (q .1 y))
+
 pub or-exactly : {A B : Type 0} (a b : Bool) → (a ≡ true) ↔ A → (b ≡ true) ↔ B → ((a || b) ≡ true) ↔ (A ⊎ B)
 or-exactly true b p q = (λ e. inl (p .0 e), λ h. refl)
 or-exactly false b p q = (λ e. inr (q .0 e), ⊎-elim (λ x. absurd (false≢true (p .1 x))) (λ y. q .1 y))

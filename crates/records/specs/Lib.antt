@@ -3,5 +3,6 @@ pub mod Records
 pub mod Lowest
 pub mod Table
 pub mod Some
+pub mod Placeholders
 pub mod Mask
 pub mod Laid

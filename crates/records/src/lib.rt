@@ -8,6 +8,11 @@ ghost use Rattle.records.specs.Records.{fluentAt, formulaAt, effectAt, a
 // Numbers of two bytes are below it.
 const LIMIT_16: usize = 65536;
 
+// Document 02, F-6: the placeholders, and the most values that are chosen from.
+pub const PLACEHOLDERS: usize = 2;
+
+pub const CHOICES: usize = 16;
+
 // Document 01: "Fluent, 2 bytes".
 pub struct Fluent {
     pub size: usize,

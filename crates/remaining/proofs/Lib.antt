@@ -4,3 +4,5 @@ pub mod Started
 pub mod Every
 pub mod Nodes
 pub mod Counts
+pub mod Written
+pub mod Chosen

@@ -10,7 +10,8 @@ use native.Mathlib.Nat.{mul-suc}
 use native.Mathlib.Omega.{arith}
 use lib.Dec.{T, eqb}
 use Rattle.records.specs.declared.Program.{Program}
-use Rattle.kinds.specs.Programs.{hasA, hasB, links, tagA, loops, tagB}
+use Rattle.records.specs.Placeholders.{putIn}
+use Rattle.kinds.specs.Programs.{hasA, hasB, picks, links, tagA, loops, tagB}
 use Rattle.kinds.proofs.ProgramFields.{link-a, link-b}
 use Rattle.kinds.proofs.Constructs.{sibling-a, sibling-b}
 use Rattle.height.specs.Height.{rise}
@@ -35,6 +36,7 @@ module _ (W : World) (s : State) (p : ℕ → Program) (low : AllLower p) where
       leaf-every W s p low (λ (i : ℕ) (x : RestTransition). nodes (x .1) ≤ 1 + 2 * rise p i) (λ i. omega arith)
       (λ i x t h. omega (arith, around (eqb (tagA (p i .kind)) 0) (tagA (p i .kind)) (siblingA (p i) i) (x .1) .0, rise-a p low i t))
       (λ i x t h. omega (arith, around (eqb (tagB (p i .kind)) 0) (tagB (p i .kind)) (p i .a) (x .1) .1, rise-b p low i t))
+      (λ i v x t h. omega (arith, low .picked i v t .1))
 
   rest-nodes : (g : Rest) → Every (λ (x : RestTransition). nodes (x .1) ≤ nodes g + 2 * high p g) (restTransitions W s p g)
   unfolding restTransitions nodes largest
@@ -52,13 +54,15 @@ module _ (W : World) (s : State) (p : ℕ → Program) (low : AllLower p) where
   pub step-nodes : (g : Rest) (x : RestTransition) → List·Memᴰ x (restTransitions W s p g) → nodes (x .1) ≤ nodes g + 2 * high p g
   step-nodes g x k = every-at (rest-nodes g) k
 
-  module _ (rank : ℕ → ℕ) (ranked : (i a : ℕ) → List·Memᴰ a (links (p i)) → rank a ≤ rank i) where
+  module _ (rank : ℕ → ℕ) (ranked : (i a : ℕ) → List·Memᴰ a (links (p i)) → rank a ≤ rank i)
+      (chosen-ranked : (i v : ℕ) → T (picks (p i .kind)) → rank (putIn (p i .b) (p i .c) v) ≤ rank i) where
     leaf-largest : (i : ℕ) → Every (λ (x : RestTransition). largest rank (x .1) ≤ rank i) (leafOf W s p i .transitions)
     unfolding largest
     leaf-largest =
         leaf-every W s p low (λ (i : ℕ) (x : RestTransition). largest rank (x .1) ≤ rank i) (λ i. omega arith)
         (λ i x t h. left i (x .1) (omega (arith, ranked i (p i .a) (link-a (p i) t))) (eqb (tagA (p i .kind)) 0) (loops (p i .kind)) (sibling-a (p i .kind)))
         (λ i x t h. right i (x .1) (omega (arith, ranked i (p i .b) (link-b (p i) t))) (eqb (tagB (p i .kind)) 0) (sibling-b (p i .kind)))
+        (λ i v x t h. omega (arith, chosen-ranked i v t))
       where
         left : (i : ℕ) (g : Rest) → largest rank g ≤ rank i → (z own : Bool) → T (z || (own || hasB (p i .kind))) →
             largest rank (cond z g (node (tagA (p i .kind)) g (leaf (cond own i (p i .b))))) ≤ rank i
@@ -89,11 +93,11 @@ module _ (W : World) (s : State) (p : ℕ → Program) (low : AllLower p) where
 
   -- not the height
   pub step-high : (g : Rest) (x : RestTransition) → List·Memᴰ x (restTransitions W s p g) → high p (x .1) ≤ high p g
-  step-high = step-largest (rise p) (λ i a k. omega (arith, rise-lower p low i a k))
+  step-high = step-largest (rise p) (λ i a k. omega (arith, rise-lower p low i a k)) (λ i v t. omega (arith, low .picked i v t .1))
 
   -- and not the largest record number
   pub step-number : (g : Rest) (x : RestTransition) → List·Memᴰ x (restTransitions W s p g) → largest (λ (i : ℕ). i) (x .1) ≤ largest (λ (i : ℕ). i) g
-  step-number = step-largest (λ (i : ℕ). i) (λ i a k. omega (arith, low i a k))
+  step-number = step-largest (λ (i : ℕ). i) (λ i a k. omega (arith, low .linked i a k)) (λ i v t. omega (arith, low .picked i v t .0))
 
   -- what fits after n transitions fits, after one more, as after n + 1
   pub fits-step : (h n : ℕ) (g : Rest) → WithinFigure p h n g → (x : RestTransition) → List·Memᴰ x (restTransitions W s p g) → WithinFigure p h (suc n) (x .1)

@@ -1,6 +1,6 @@
 -- Own vocabulary: finality and transitions of a remaining program. A record's are made upwards, of those of its parts, by one shape for all
--- kinds: its own transition, then those of a, then those of b, each under a condition and in a construct. That they are golog's is proved
--- in proofs/Same.antt. Assumes nothing.
+-- kinds but the choice of a value: its own transition, then those of a, then those of b, each under a condition and in a construct. A choice
+-- has those of its part b with each value. That they are golog's is proved in proofs/Same.antt. Assumes nothing.
 use Prim.Native.Nat.{ℕ}
 use mathlib.Core.Bool.{Bool, true, cond, _&&_}
 use mathlib.Core.List.{List, [], _∷_, _++_, map}
@@ -9,11 +9,13 @@ use lib.Dec.{eqb}
 use lib.ListN.{getD}
 use Rattle.records.specs.declared.Program.{Program}
 use Rattle.records.specs.Table.{entryOf}
-use Rattle.kinds.specs.Programs.{acts, finalOf, ownOf, usesA, usesB, tagA, loops, tagB}
+use Rattle.records.specs.Some.{someFrom}
+use Rattle.records.specs.Placeholders.{putIn}
+use Rattle.kinds.specs.Programs.{acts, picks, finalOf, ownOf, usesA, usesB, tagA, loops, tagB}
 use Rattle.golog.specs.declared.State.{State}
 use Rattle.golog.specs.World.{World, holds, possible, after}
 use Rattle.runs.specs.Guide.{only}
-use Rattle.golog.specs.Transitions.{isNone}
+use Rattle.golog.specs.Transitions.{isNone, listsFrom}
 use Rattle.remaining.specs.Rest.{Rest, gone, leaf, node}
 
 -- a transition: the move, none for a test, and what it leaves. The move gives the state
@@ -58,9 +60,17 @@ leafWith W s r i A B = record {
       ++ map (onRest (wrapB (tagB (r .kind)) (r .a))) (only (usesB (r .kind) (A .final) (holds W (r .c) s) (isNone (A .transitions))) (B .transitions)));
 }
 
+-- a choice between n values, given what each makes of its part: final where one is, the transitions for smaller values first
+unfoldable pub pickLeaf : (n : ℕ) → (F : ℕ → Leaf) → Leaf
+pickLeaf n F = record { final = someFrom (λ (v : ℕ). F v .final) 0 n; transitions = listsFrom (λ (v : ℕ). F v .transitions) 0 n }
+
+-- record r, number i, given the records that it names
+abbrev pub leafFor : World → State → Program → ℕ → (L : ℕ → Leaf) → Leaf
+leafFor W s r i L = cond (picks (r .kind)) (pickLeaf (r .a) (λ (v : ℕ). L (putIn (r .b) (r .c) v))) (leafWith W s r i (L (r .a)) (L (r .b)))
+
 -- record i of the table p, given the lower ones
 abbrev pub leafAt : World → State → (ℕ → Program) → ℕ → (lower : List Leaf) → Leaf
-leafAt W s p i lower = leafWith W s (p i) i (getD lower (p i .a) nilLeaf) (getD lower (p i .b) nilLeaf)
+leafAt W s p i lower = leafFor W s (p i) i (λ (n : ℕ). getD lower n nilLeaf)
 
 -- record i of the table p
 unfoldable pub leafOf : World → State → (ℕ → Program) → ℕ → Leaf

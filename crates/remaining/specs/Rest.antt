@@ -1,11 +1,13 @@
 -- Own vocabulary: the remaining program over record numbers: records at the leaves, not unfolded, and around them what transitions put
 -- there. Assumes nothing.
 use Prim.Native.Nat.{ℕ, _+_, _*_, _≤_, _<_, max}
-use mathlib.Core.Bool.{cond}
+use mathlib.Core.Bool.{false, cond}
+use mathlib.Core.Path.{_≡_}
 use mathlib.Core.List.{List·Memᴰ}
-use lib.Dec.{eqb}
+use lib.Dec.{T, eqb}
 use Rattle.records.specs.declared.Program.{Program}
-use Rattle.kinds.specs.Programs.{links}
+use Rattle.records.specs.Placeholders.{putIn}
+use Rattle.kinds.specs.Programs.{links, picks}
 use Rattle.height.specs.Height.{rise}
 use Rattle.golog.specs.Prog.{Prog, nil, sequence, together, over, programOf}
 
@@ -46,6 +48,11 @@ pub record WithinFigure (p : ℕ → Program) (h n : ℕ) (g : Rest) : Type 0 wh
   pub size : nodes g ≤ 1 + 2 * h * n
   pub height : high p g ≤ h
 
--- document 01: "a and b are lower program records", of every record
-abbrev pub AllLower : (ℕ → Program) → Type 0
-AllLower p = (i a : ℕ) → List·Memᴰ a (links (p i)) → a < i
+-- document 01: "a and b are lower program records", of every record; so is what a choice names with each value, and it is less high
+pub record AllLower (p : ℕ → Program) : Type 0 where
+  pub linked : (i a : ℕ) → List·Memᴰ a (links (p i)) → a < i
+  pub picked : (i v : ℕ) → T (picks (p i .kind)) → (putIn (p i .b) (p i .c) v < i) × (rise p (putIn (p i .b) (p i .c) v) < rise p i)
+
+-- no record chooses a value
+abbrev pub Plain : (ℕ → Program) → Type 0
+Plain p = (i : ℕ) → picks (p i .kind) ≡ false

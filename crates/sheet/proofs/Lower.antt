@@ -1,13 +1,17 @@
--- What acceptance tells of each record: its rule as facts, and that formulas and the links of program records name lower ones. Assumes
--- nothing.
+-- What acceptance tells of each record: its rule as facts, that formulas and the links of program records name lower ones, and that none has
+-- placeholders. Assumes nothing.
 use mathlib.Core.Path.{_≡_}
-use mathlib.Core.Bool.{true}
+use mathlib.Core.Bool.{true, false}
 use mathlib.Core.List.{List}
 use Prim.Native.Nat.{ℕ, _<_}
-use Rattle.records.specs.Records.{programAt}
+use native.Mathlib.Omega.{arith}
+use borrow.Author.Tests.{leb-true, ne-eqb}
+use lib.Dec.{lt→ltb}
+use Rattle.records.specs.Records.{formulaAt, programAt}
 use Rattle.records.specs.declared.Program.{Program}
-use Rattle.kinds.specs.Programs.{programOk}
-use Rattle.kinds.specs.Formulas.{LowerFormulas}
+use Rattle.records.proofs.Truth.{and-four}
+use Rattle.kinds.specs.Programs.{picks, programOk}
+use Rattle.kinds.specs.Formulas.{LowerFormulas, PlainFormulas, formulaOk}
 use Rattle.kinds.proofs.ProgramFields.{Fields, fields-exactly, program-exactly, links-lower}
 use Rattle.kinds.proofs.FormulaFields.{formula-exactly, parts-lower}
 use Rattle.rules.specs.Kept.{FluentKept, FormulaKept, EffectKept, ActionKept, ProgramKept}
@@ -37,6 +41,13 @@ module _ (s : List ℕ) (accepted : Accepts s) where
   pub lower-formulas : LowerFormulas (formulasIn s (layoutOf s)) (layoutOf s .q)
   lower-formulas i l = parts-lower _ _ i _ (formula-of i l)
 
+  -- and none has placeholders
+  pub plain-formulas : PlainFormulas (formulasIn s (layoutOf s)) (layoutOf s .q)
+  unfolding formulaOk
+  plain-formulas i l =
+      let kind = formulaAt (formulasIn s (layoutOf s)) i .kind in
+      lt→ltb kind 8 (omega (arith, leb-true kind 7 (and-four _ _ _ _ (ruled s accepted .formula i l) .0)))
+
   pub effect-of : (i : ℕ) → i < layoutOf s .e → EffectKept fluents (layoutOf s .f) (layoutOf s .q) (effectsIn s (layoutOf s)) i
   effect-of i l = effect-exactly _ _ _ _ .0 (ruled s accepted .effect i l)
 
@@ -49,6 +60,10 @@ module _ (s : List ℕ) (accepted : Accepts s) where
   -- the same by the roles of its fields
   pub fields-of : (i : ℕ) → i < layoutOf s .p → Fields (layoutOf s .q) (layoutOf s .a) i (programAt (programsIn s (layoutOf s)) i)
   fields-of i l = fields-exactly _ _ _ _ .0 (ruled s accepted .program i l)
+
+  -- no program record chooses a value
+  pub plain-records : (i : ℕ) → i < layoutOf s .p → picks (programAt (programsIn s (layoutOf s)) i .kind) ≡ false
+  plain-records i l = let kind = programAt (programsIn s (layoutOf s)) i .kind in ne-eqb kind 12 (λ (e : kind ≡ 12). omega (arith, e, fields-of i l .known))
 
   -- the links of program records lead to lower records
   pub lower : Lower (programAt (programsIn s (layoutOf s))) (layoutOf s .p)

@@ -2,7 +2,7 @@
 -- are those of the listed actions; and by them an action is allowed exactly where it is possible. Assumes nothing.
 use Prim.Native.Nat.{ℕ, suc, _+_, _-_, _≤_, _<_}
 use mathlib.Core.Path.{_≡_, refl, sym, _∙_, ap, subst}
-use mathlib.Core.Bool.{Bool, true, false, not, _&&_, _||_, false≢true}
+use mathlib.Core.Bool.{Bool, true, false, not, _&&_, _||_, false≢true, and-true}
 use mathlib.Core.List.{List}
 use mathlib.Core.Logic.{_⊎_, inl, inr, ⊎-elim}
 use native.Mathlib.Numerals.{add-one}
@@ -17,7 +17,7 @@ use Rattle.records.specs.Records.{effectAt, actionAt}
 use Rattle.records.proofs.Fills.{getD-same}
 use Rattle.records.proofs.Truth.{and-left, and-right, and-both, is-true, is-false}
 use Rattle.records.proofs.Written.{written}
-use Rattle.golog.specs.World.{special, conflicting, possibleBy}
+use Rattle.golog.specs.World.{special, conflicting, straying, possibleBy}
 use Rattle.golog.specs.Possible.{Conflict}
 use Rattle.golog.proofs.Possible.{conflicting-exactly}
 use Rattle.state.specs.Truths.{saidBy}
@@ -182,21 +182,28 @@ both-same false b c f g = refl
 both-same true true c f g = sym (ap not (g refl))
 both-same true false c f g = sym (ap not (is-false c (λ e. false≢true (f e))))
 
--- by its mark an action is allowed exactly where it is possible, if it is marked exactly where it is in conflict
+-- by its mark an action is allowed exactly where it is possible, if it is marked exactly where it is in conflict, and gives no value outside a
+-- domain
 pub allowed-marked :
-    (effects actions : List ℕ) (truths conflicted : List Bool) (a : ℕ)
+    (size : ℕ → ℕ) (effects actions : List ℕ) (truths conflicted : List Bool) (a : ℕ)
+    → straying (saidBy truths) size (effectAt effects) (actionAt actions a .first) (actionAt actions a .count) ≡ false
     → (inConflict effects truths (actionAt actions a) ≡ true → getD conflicted a false ≡ true)
     → (getD conflicted a false ≡ true → inConflict effects truths (actionAt actions a) ≡ true)
-    → allowedBy actions truths conflicted a ≡ possibleBy (saidBy truths) (effectAt effects) (actionAt actions) a
+    → allowedBy actions truths conflicted a ≡ possibleBy (saidBy truths) size (effectAt effects) (actionAt actions) a
 unfolding possibleBy
-allowed-marked effects actions truths conflicted a f g =
+allowed-marked size effects actions truths conflicted a inside f g =
     let r = actionAt actions a in
+    let conflict = conflicting (saidBy truths) (effectAt effects) (r .first) (r .count) in
     ap (λ (b : Bool). special a || b)
-    (both-same (saidBy truths (r .precondition)) (getD conflicted a false) (conflicting (saidBy truths) (effectAt effects) (r .first) (r .count)) f g)
+    (both-same (saidBy truths (r .precondition)) (getD conflicted a false) conflict f g
+    ∙ ap (λ (b : Bool). saidBy truths (r .precondition) && b) (sym (and-true (not conflict)) ∙ ap (λ (b : Bool). not conflict && not b) (sym inside)))
 
 -- so it is if it is listed wherever it is in conflict
 pub allowed-possible :
-    {effects actions list : List ℕ} {truths conflicted : List Bool} (a : ℕ) → Conflicted effects actions list truths conflicted
+    (size : ℕ → ℕ) {effects actions list : List ℕ} {truths conflicted : List Bool} (a : ℕ)
+    → straying (saidBy truths) size (effectAt effects) (actionAt actions a .first) (actionAt actions a .count) ≡ false
+    → Conflicted effects actions list truths conflicted
     → (inConflict effects truths (actionAt actions a) ≡ true → Listed list a)
-    → allowedBy actions truths conflicted a ≡ possibleBy (saidBy truths) (effectAt effects) (actionAt actions) a
-allowed-possible {effects} {actions} {list} {truths} {conflicted} a B listed = allowed-marked effects actions truths conflicted a (λ t. B .whole a (listed t) t) (B .sound a)
+    → allowedBy actions truths conflicted a ≡ possibleBy (saidBy truths) size (effectAt effects) (actionAt actions) a
+allowed-possible size {effects} {actions} {list} {truths} {conflicted} a inside B listed =
+    allowed-marked size effects actions truths conflicted a inside (λ t. B .whole a (listed t) t) (B .sound a)

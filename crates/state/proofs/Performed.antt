@@ -14,9 +14,10 @@ use lib.ListN.{getD, length}
 use Rattle.records.specs.declared.Effect.{Effect}
 use Rattle.records.specs.declared.Action.{Action}
 use Rattle.records.specs.Records.{effectAt, actionAt}
+use Rattle.records.specs.Some.{InRange}
 use Rattle.golog.specs.declared.State.{State}
 use Rattle.golog.specs.World.{start, possibleBy, changes, given, each, changed, performBy}
-use Rattle.golog.proofs.Possible.{conflict-same}
+use Rattle.golog.proofs.Possible.{conflict-same, stray-same}
 use Rattle.golog.proofs.Moves.{given-none, given-here, given-later, length-each, changed-at}
 use Rattle.state.specs.Ranges.{Names, ConditionsBelow}
 
@@ -95,12 +96,17 @@ module _ (effects actions : List ℕ) (says said : ℕ → Bool) (n : ℕ) (same
       rw (same (effectAt effects i .condition) (h i (omega arith) (omega arith)), given-same x old k (suc i) (λ j a b. h j (omega arith) (omega arith)))
 
   pub possible-same :
-      (a : ℕ) → actionAt actions a .precondition < n → ConditionsBelow effects n (actionAt actions a .first) (actionAt actions a .count)
-      → possibleBy says (effectAt effects) (actionAt actions) a ≡ possibleBy said (effectAt effects) (actionAt actions) a
+      (size : ℕ → ℕ) (a : ℕ) → actionAt actions a .precondition < n → ConditionsBelow effects n (actionAt actions a .first) (actionAt actions a .count)
+      → possibleBy says size (effectAt effects) (actionAt actions) a ≡ possibleBy said size (effectAt effects) (actionAt actions) a
   unfolding possibleBy
-  possible-same a l h =
+  possible-same size a l h =
       let r = actionAt actions a in
-      rw (same (r .precondition) l, conflict-same (effectAt effects) says said (r .first) (r .count) (λ i (f, t). same _ (h i f t)))
+      let conditions : (i : ℕ) → InRange (r .first) (r .count) i → says (effectAt effects i .condition) ≡ said (effectAt effects i .condition) = λ i (f, t). same _ (h i f t) in
+      rw (
+        same (r .precondition) l,
+        conflict-same (effectAt effects) says said (r .first) (r .count) conditions,
+        stray-same (effectAt effects) says said (r .first) (r .count) size conditions,
+      )
 
   pub perform-same : (a : ℕ) (s : State) → (a < start → ConditionsBelow effects n (actionAt actions a .first) (actionAt actions a .count)) →
       performBy says (effectAt effects) (actionAt actions) a s ≡ performBy said (effectAt effects) (actionAt actions) a s

@@ -12,7 +12,9 @@ use Rattle.golog.specs.Decoded.{world}
 use Rattle.golog.proofs.Truths.{holds-at}
 use Rattle.state.specs.Truths.{truthIn, truthsOf, AreTruths}
 
-pub are-truths : (formulas effects actions : List ℕ) (s : State) (n : ℕ) (old : List Bool) → AreTruths (world formulas effects actions) s n (truthsOf formulas (s .values) n old)
+pub are-truths :
+    (fluents formulas effects actions : List ℕ) (s : State) (n : ℕ) (old : List Bool)
+    → AreTruths (world fluents formulas effects actions) s n (truthsOf formulas (s .values) n old)
 unfolding truthsOf
-are-truths formulas effects actions s n old q h =
-    List·getD-append (upTo (truthIn formulas (s .values)) n) (drop n old) false q (rw length-up h) ∙ holds-at (world formulas effects actions) s n q h
+are-truths fluents formulas effects actions s n old q h =
+    List·getD-append (upTo (truthIn formulas (s .values)) n) (drop n old) false q (rw length-up h) ∙ holds-at (world fluents formulas effects actions) s n q h

@@ -4,7 +4,8 @@ ghost use Prim.Native.Nat.{_+_, _*_, _≤_};
 ghost use lib.ListN.{length};
 ghost use Rattle.records.specs.Records.{formulaAt, effectAt, actionAt};
 ghost use Rattle.kinds.specs.Truth.{truthOf};
-ghost use Rattle.kinds.specs.Formulas.{LowerFormulas};
+ghost use Rattle.kinds.specs.Formulas.{LowerFormulas, isPlain, PlainFormulas};
+ghost use lib.Dec.{T};
 ghost use Rattle.golog.specs.declared.State.{State};
 ghost use Rattle.golog.specs.World.{changed, performBy};
 ghost use Rattle.state.specs.Truths.{truthsOf, saidBy};
@@ -17,19 +18,19 @@ use records::Action;
 pub mod conflicts;
 pub mod exclusion;
 
-// What formula i says, where `lower` has what the formulas before it say.
+// What formula i, which has no placeholder, says, where `lower` has what the formulas before it say.
 fn truth_at(formulas: &[u8], i: usize, values: &[u8], lower: &[bool]) -> bool
-    requires { ⌜ 6 * i + 6 ≤ length (now formulas) ⌝ }
+    requires { ⌜ (6 * i + 6 ≤ length (now formulas)) × T (isPlain (formulaAt (now formulas) i .kind)) ⌝ }
     ensures { λ r. ⌜ r ≡ truthOf (formulaAt (now (formulas .entry)) i) (now (values .entry)) (now (lower .entry)) ⌝ }
 {
     kinds::formulas::truth_of(records::formula_at(formulas, i), values, lower)
 }
 
-// Fills in what each of the first n formulas says of a state, whatever stood there: one pass upwards, since a formula names lower ones
-// only.
+// Fills in what each of the first n formulas, none of which has placeholders, says of a state, whatever stood there: one pass upwards, since
+// a formula names lower ones only.
 pub fn fill_truths(formulas: &[u8], n: usize, s: State, truths: &mut [bool])
     requires { ⌜ (6 * n ≤ length (now formulas)) × (n ≤ length (now truths)) ⌝ }
-    requires { ⌜ LowerFormulas (now formulas) n ⌝ }
+    requires { ⌜ LowerFormulas (now formulas) n × PlainFormulas (now formulas) n ⌝ }
     ensures { λ _. ⌜ now (truths .exit) ≡ truthsOf (now (formulas .entry)) (s .values) n (now (truths .entry)) ⌝ }
 {
     let values = s.values;

@@ -20,7 +20,7 @@ use Rattle.runs.specs.Guide.{only}
 use Rattle.golog.specs.Transitions.{isNone}
 use Rattle.remaining.specs.Rest.{Rest, gone, leaf, nodes, largest, high, AllLower}
 use Rattle.remaining.specs.Leaves.{RestTransition, onRest, Leaf, leafWith, leafOf, ownMove, siblingA, wrapA, wrapB, restTransitions}
-use Rattle.remaining.proofs.Entries.{leaf-step, lower-a, lower-b, rise-a, rise-b}
+use Rattle.remaining.proofs.Entries.{leaf-plain, lower-a, lower-b, rise-a, rise-b}
 use Rattle.remaining.proofs.Nodes.{step-nodes}
 use Rattle.words.specs.Words.{Put, Room}
 use Rattle.words.proofs.Written.{kept-less, kept-trans, kept-put}
@@ -77,7 +77,7 @@ module _ {W : World} {s : State} {v : Sources} (C : Counted W s v) where
 
   -- a record's count is exact
   pub count-is : (i : ℕ) → i < v .many → rise (v .records) i ≤ mostLevels → getD (v .counts) i 0 ≡ length (leafOf W s (v .records) i .transitions)
-  count-is i h l = ap (λ (c : List ℕ). getD c i 0) (C .counts-are) ∙ counts-exact W s p (C .lower) (v .many) i h l
+  count-is i h l = ap (λ (c : List ℕ). getD c i 0) (C .counts-are) ∙ counts-exact W s p (C .lower) (C .plain) (v .many) i h l
 
   module _ {i : ℕ} {r : Program} (I : IsRecord v i r) where
     A : Leaf
@@ -101,7 +101,7 @@ module _ {W : World} {s : State} {v : Sources} (C : Counted W s v) where
     steps-are : leafOf W s p i .transitions ≡ own ++ parts
     unfolding leafWith A B ua ub own parts
     steps-are = ap (λ (x : Leaf). x .transitions) (subst (λ (r : Program). leafOf W s p i ≡ leafWith W s r i (leafOf W s p (r .a)) (leafOf W s p (r .b))) (sym (I .is))
-        (leaf-step W s p (C .lower) i))
+        (leaf-plain W s p (C .lower) i (C .plain i)))
 
     -- an act or a test: its own
     pub own-step : (k : ℕ) → k < length (leafOf W s (v .records) i .transitions) → hasOwn (r .kind) ≡ true → getElem? (leafOf W s (v .records) i .transitions) k ≡ some (ownMove r, gone)
@@ -147,7 +147,7 @@ module _ {W : World} {s : State} {v : Sources} (C : Counted W s v) where
           ∙ ap (firstBy r (v .truths) (v .running)) (C .counts-are)
           ∙ subst
           (λ (r : Program). firstBy r (v .truths) (v .running) (countsOf W s p (v .many)) ≡ cond (usesA (r .kind) (holds W (r .c) s) (s .running)) (length (leafOf W s p (r .a) .transitions)) 0)
-          (sym (I .is)) (first-exact W s p (C .lower) (v .many) i (I .inside) (I .low) (C .sees .each i (I .inside)) (C .sees .runs))
+          (sym (I .is)) (first-exact W s p (C .lower) (C .plain) (v .many) i (I .inside) (I .low) (C .sees .each i (I .inside)) (C .sees .runs))
 
       -- part a's, where k is below how many of a's there are
       module _ {k : ℕ} (below : k < first) where

@@ -10,7 +10,7 @@ use Rattle.records.specs.Records.{programAt}
 use Rattle.height.specs.Height.{rise}
 use Rattle.golog.specs.declared.State.{State}
 use Rattle.golog.specs.World.{World}
-use Rattle.remaining.specs.Rest.{Rest, nodes, AllLower}
+use Rattle.remaining.specs.Rest.{Rest, nodes, AllLower, Plain}
 use Rattle.remaining.specs.Leaves.{RestTransition, leafOf}
 use Rattle.remaining.specs.Extended.{extended}
 use Rattle.words.specs.Words.{At, Kept, Room}
@@ -49,6 +49,7 @@ pub record Counted (W : World) (s : State) (v : Sources) : Type 0 where
   pub can : ℕ → Bool
   pub sees : Sees W s (v .records) (v .many) (v .truths) can (v .running)
   pub lower : AllLower (v .records)
+  pub plain : Plain (v .records)
   pub counts-are : v .counts ≡ countsOf W s (v .records) (v .many)
 
 -- record i has a k-th transition, and there is room for what it leaves

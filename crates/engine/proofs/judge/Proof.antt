@@ -18,7 +18,7 @@ use Rattle.sheet.proofs.Parts.{in-order, formulas-long, programs-long}
 use Rattle.sheet.proofs.Found.{in-sheet}
 use Rattle.engine.proofs.Tables.{truths-long, endable-kept}
 use Rattle.engine.proofs.Windows.{window-at, window-at-long, only-in, only-then, only-put, window-put, window-before}
-use Rattle.engine.proofs.Judging.{runs, many, runs-lower, skips-by, truths-told, judged}
+use Rattle.engine.proofs.Judging.{runs, many, runs-lower, runs-plain, formulas-plain, skips-by, truths-told, judged}
 use borrow.Author.Needs.{needs}
 use Rattle.engine.proofs.judge.Statement.{statement}
 use Rattle.engine.proofs.judge.Tie as tie
@@ -73,7 +73,7 @@ fill-truths-requires c κs =
     let x = at-flags-from .flags-from .result in
     let T = window-at x (truthsFrom (at-start .args .d)) (x + 512) 512 (now (at-start .args .flags)) (at-flags-from .flags-from .ensures .0) (omega arith) in
     let low = subst (λ (l : Layout). LowerFormulas (formulasIn s l) (l .q)) (sym (O .layout-is)) (lower-formulas s (O .accepted)) in
-    ((formulas-long s _ f, omega (arith, f .q, ap length T, truths-long (at-start .pre .1) (at-start .args .d))), low)
+    ((formulas-long s _ f, omega (arith, f .q, ap length T, truths-long (at-start .pre .1) (at-start .args .d))), (low, formulas-plain O))
 
 settle-requires : tie.Need-settle-requires
 settle-requires c κs = search needs
@@ -109,7 +109,7 @@ mark-finals-requires c κs =
     let first = only-put x (x + 512) 512 flags said (omega arith) (omega arith) long in
     let finals = at-settle .settle .ensures .1 ∙ endable-kept (omega (arith, at-flags-from .flags-from .ensures .0)) first in
     let n = at-settle .settle .kept .0 ∙ same-len-mid x (x + 512 - x) flags said (at-fill-truths .fill-truths .kept .1 .1 .1 .0) in
-    ((r, omega (arith, n)), (runs-lower O, skips-by O P _ _ finals refl))
+    ((r, omega (arith, n)), ((runs-lower O, runs-plain O), skips-by O P _ _ finals refl))
 
 same-length : tie.Need-same-length
 same-length c = search needs

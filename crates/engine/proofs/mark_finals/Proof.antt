@@ -124,7 +124,7 @@ loop-again c =
       length-set flags (at + 512 + i) f ∙ v .1,
       only-then (v .2) (only-set flags _ f (omega arith) (omega arith)),
       λ a h. rw (window-set (at + 512) 260 flags i f few) (getD-set-other finals i a f true (λ u. omega (arith, l)) ∙ v .3 a h),
-      λ W s can S. rw (window-set (at + 512) 260 flags i f few, skip, e) (next (z .1) (z .0) (v .4 W s can S) l (S .each _ l) (S .runs) (omega (arith, long))
+      λ W s can S. rw (window-set (at + 512) 260 flags i f few, skip, e) (next (z .1) (z .0 .0) (z .0 .1) (v .4 W s can S) l (S .each _ l) (S .runs) (omega (arith, long))
           (rw (at-record-at .record-at .ensures .0) at by)),
     )
 

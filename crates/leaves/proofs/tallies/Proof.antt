@@ -74,7 +74,7 @@ loop-again c =
     let v = at-loop .loop .inv in (
       omega arith,
       simp length-set (v .1),
-      λ W s S. next W s _ (z .1 .lower) _ (z .1 .finals-known W s _ S) (v .2 W s S) (omega (arith, at-places-of .places-of .ensures .0))
+      λ W s S. next W s _ (z .1 .lower) (z .1 .plain) _ (z .1 .finals-known W s _ S) (v .2 W s S) (omega (arith, at-places-of .places-of .ensures .0))
           (S .each _ (omega (arith, at-places-of .places-of .ensures .0))) (S .runs)
           (omega arith)
           (rw e at (c .count-at .ensures)),

@@ -24,15 +24,18 @@ loop-holds c = (omega arith, refill-start _ (λ (b : Bool). b) _)
 slice-aggregate-truth-at : tie.Need-slice-aggregate-truth-at Inv-loop μ-loop
 slice-aggregate-truth-at c = search needs
 
-truth-at-requires : tie.Need-truth-at-requires Inv-loop μ-loop
-truth-at-requires c κs = search needs
-
 -- Places: what stands before a need, by name. Written by `named`: run it again when the code changes.
-abbrev loop-from-truth-at : tie.After-truth-at Inv-loop μ-loop → tie.At-loop Inv-loop μ-loop
-loop-from-truth-at c = c .before .before .before .before
+abbrev start-from-in-loop : tie.In-loop Inv-loop μ-loop → tie.Start Inv-loop μ-loop
+start-from-in-loop c = c .before .before .before .before .before
+
+truth-at-requires : tie.Need-truth-at-requires Inv-loop μ-loop
+truth-at-requires c κs =
+    let at-loop-test = c .before .before in
+    let at-start = start-from-in-loop at-loop-test in
+    (omega (arith, at-loop-test .loop-test .taken, at-start .pre .0 .0), at-start .pre .1 .1 _ (at-loop-test .loop-test .taken))
 
 slice-write-truths : tie.Need-slice-write-truths Inv-loop μ-loop
-slice-write-truths c = omega (arith, refill-full _ _ (loop-from-truth-at c .loop .inv .1) (omega arith))
+slice-write-truths c = omega (arith, refill-full _ _ (c .before .before .before .before .loop .inv .1) (omega arith))
 
 add-i : tie.Need-add-i Inv-loop μ-loop
 add-i c = search needs
@@ -42,10 +45,10 @@ loop-less c = search needs
 
 loop-again : tie.Need-loop-again Inv-loop μ-loop
 loop-again c =
-    let at-loop = loop-from-truth-at c in
+    let at-loop = c .before .before .before .before in
     let at-start = at-loop .before .before .before .before in
     let b = at-loop .loop .inv .1 in
-    (omega arith, refill-more _ _ b (omega arith) (c .truth-at .ensures ∙ truth-same _ _ _ _ _ (at-start .pre .1 _ (omega arith)) (refill-at _ _ b false)))
+    (omega arith, refill-more _ _ b (omega arith) (c .truth-at .ensures ∙ truth-same _ _ _ _ _ (at-start .pre .1 .1 _ (omega arith)) (at-start .pre .1 .0 _ (omega arith)) (refill-at _ _ b false)))
 
 same-length : tie.Need-same-length Inv-loop μ-loop
 same-length c = refill-full _ _ (c .before .loop .inv .1) (omega arith)

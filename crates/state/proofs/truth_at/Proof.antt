@@ -7,7 +7,7 @@ formula-at-requires : tie.Need-formula-at-requires
 formula-at-requires c κs = search needs
 
 truth-of-requires : tie.Need-truth-of-requires
-truth-of-requires c κs = search needs
+truth-of-requires c κs = rw (c .formula-at .ensures .0) (c .before .before .before .before .pre .1)
 
 returns : tie.Need-returns
 returns c = rw (← c .before .formula-at .ensures .0) (c .truth-of .ensures)

@@ -36,6 +36,15 @@ number-in-requires-4 c κs = search needs
 number-in-requires-5 : tie.Need-number-in-requires-5
 number-in-requires-5 c κs = search needs
 
+bit-requires-5 : tie.Need-bit-requires-5
+bit-requires-5 c κs = search needs
+
+number-in-requires-6 : tie.Need-number-in-requires-6
+number-in-requires-6 c κs = search needs
+
+number-in-requires-7 : tie.Need-number-in-requires-7
+number-in-requires-7 c κs = search needs
+
 returns : tie.Need-returns
 unfolding setOf
 returns c = rw (c .before .match .keys1) (c .bit .ensures)
@@ -62,11 +71,24 @@ returns-6 c = rw (c .before .before .match .keys6) (ap₂ bitOr (c .before .numb
 
 returns-7 : tie.Need-returns-7
 unfolding setOf
-returns-7 c =
+returns-7 c = rw (c .before .match .keys7) (c .bit5 .ensures)
+
+returns-8 : tie.Need-returns-8
+unfolding setOf
+returns-8 c = rw (c .before .match .keys8) (c .number-in6 .ensures)
+
+returns-9 : tie.Need-returns-9
+unfolding setOf
+returns-9 c = rw (c .before .match .keys9) (c .number-in7 .ensures)
+
+returns-10 : tie.Need-returns-10
+unfolding setOf
+returns-10 c =
     let a = c .before .before .args in
     let r = c .match .rest in
     by-kind (λ (k : ℕ). a .r .kind ≡ k → 0 ≡ setOf (formulaOf k (a .r .x) (a .r .a) (a .r .b)) (now (a .lower)))
-    (λ e. refl) (λ e. refl) (λ e. absurd (r .0 .0 .0 .0 .0 .1 e)) (λ e. absurd (r .0 .0 .0 .0 .1 e)) (λ e. absurd (r .0 .0 .0 .1 e)) (λ e. absurd (r .0 .0 .1 e))
+    (λ e. refl) (λ e. refl) (λ e. absurd (r .0 .0 .0 .0 .0 .0 .0 .0 .1 e)) (λ e. absurd (r .0 .0 .0 .0 .0 .0 .0 .1 e)) (λ e. absurd (r .0 .0 .0 .0 .0 .0 .1 e))
+    (λ e. absurd (r .0 .0 .0 .0 .0 .1 e)) (λ e. absurd (r .0 .0 .0 .0 .1 e)) (λ e. absurd (r .0 .0 .0 .1 e)) (λ e. absurd (r .0 .0 .1 e))
     (λ e. absurd (r .0 .1 e)) (λ e. absurd (r .1 e)) (λ k e. refl)
     (a .r .kind) refl
 
@@ -83,10 +105,16 @@ names-of-spec =
     number-in-requires-3
     number-in-requires-4
     number-in-requires-5
+    bit-requires-5
+    number-in-requires-6
+    number-in-requires-7
     returns
     returns-2
     returns-3
     returns-4
     returns-5
     returns-6
-    returns-7)
+    returns-7
+    returns-8
+    returns-9
+    returns-10)

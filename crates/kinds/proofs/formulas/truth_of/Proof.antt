@@ -1,4 +1,5 @@
--- In each arm the kind is known, so the column has one entry there, which the arm computes; the kinds that no arm names have false. Assumes nothing.
+-- In each arm the kind is known, so the column has one entry there, which the arm computes; of the kinds that no arm names those with
+-- placeholders are not asked for, and the others have false. Assumes nothing.
 use denote.Ref.{now}
 use mathlib.Core.Path.{_≡_, refl}
 use Prim.Native.Nat.{ℕ}
@@ -67,11 +68,14 @@ returns-7 c = rw (c .before .before .match .keys7) cc
 returns-8 : tie.Need-returns-8
 unfolding truthOf
 returns-8 c =
-    let a = c .before .before .before .args in
+    let at-start = c .before .before .before in
+    let a = at-start .args in
+    let plain = at-start .pre in
     let r = c .match .rest in
     by-kind (λ (k : ℕ). a .r .kind ≡ k → false ≡ truthOf (formulaOf k (a .r .x) (a .r .a) (a .r .b)) (now (a .values)) (now (a .lower)))
-    (λ e. absurd (r .0 .0 .0 .0 .0 .0 .1 e)) (λ e. refl) (λ e. absurd (r .0 .0 .0 .0 .0 .1 e)) (λ e. absurd (r .0 .0 .0 .0 .1 e)) (λ e. absurd (r .0 .0 .0 .1 e)) (λ e. absurd (r .0 .0 .1 e))
-    (λ e. absurd (r .0 .1 e)) (λ e. absurd (r .1 e)) (λ k e. refl)
+    (λ e. absurd (r .0 .0 .0 .0 .0 .0 .1 e)) (λ e. refl) (λ e. absurd (r .0 .0 .0 .0 .0 .1 e)) (λ e. absurd (r .0 .0 .0 .0 .1 e))
+    (λ e. absurd (r .0 .0 .0 .1 e)) (λ e. absurd (r .0 .0 .1 e)) (λ e. absurd (r .0 .1 e)) (λ e. absurd (r .1 e)) (λ e. absurd (rw e at plain))
+    (λ e. absurd (rw e at plain)) (λ e. absurd (rw e at plain)) (λ k e. refl)
     (a .r .kind) refl
 
 pub truth-of-spec : {M : Type 1} → statement M

@@ -17,7 +17,8 @@ returns-2 c =
     let kind = c .before .args .kind in
     let r = c .match .rest in
     by-kind (λ (k : ℕ). kind ≡ k → false ≡ acts k)
-    (λ e. refl) (λ e. absurd (r .1 e)) (λ e. refl) (λ e. refl) (λ e. refl) (λ e. refl) (λ e. refl) (λ e. refl) (λ e. refl) (λ e. refl) (λ e. refl) (λ e. refl) (λ k e. refl)
+    (λ e. refl) (λ e. absurd (r .1 e)) (λ e. refl) (λ e. refl) (λ e. refl) (λ e. refl) (λ e. refl) (λ e. refl) (λ e. refl) (λ e. refl) (λ e. refl) (λ e. refl)
+    (λ e. refl) (λ k e. refl)
     kind refl
 
 pub acts-spec : {M : Type 1} → statement M

@@ -96,9 +96,10 @@ returns-10 c =
     let a = c .before .before .before .before .args in
     let r = c .match .rest in
     by-kind (λ (k : ℕ). a .r .kind ≡ k → 0 ≡ countBy (recordOf k (a .r .a) (a .r .b) (a .r .c)) (a .can) (now (a .truths)) (a .running) (now (a .finals)) (now (a .counts)))
-    (λ e. refl) (λ e. absurd (r .0 .0 .0 .0 .0 .0 .0 .0 .1 e)) (λ e. absurd (r .0 .0 .0 .0 .0 .0 .0 .1 e)) (λ e. absurd (r .0 .0 .0 .0 .0 .0 .1 e)) (λ e. absurd (r .0 .0 .0 .0 .0 .1 (inl e)))
-    (λ e. absurd (r .0 .0 .0 .0 .1 (inl e))) (λ e. absurd (r .0 .0 .0 .1 e)) (λ e. absurd (r .0 .0 .1 e)) (λ e. absurd (r .0 .0 .0 .0 .0 .1 (inr e))) (λ e. absurd (r .0 .1 e))
-    (λ e. absurd (r .0 .0 .0 .0 .1 (inr e))) (λ e. absurd (r .1 e)) (λ k e. refl)
+    (λ e. refl) (λ e. absurd (r .0 .0 .0 .0 .0 .0 .0 .0 .1 e)) (λ e. absurd (r .0 .0 .0 .0 .0 .0 .0 .1 e)) (λ e. absurd (r .0 .0 .0 .0 .0 .0 .1 e))
+    (λ e. absurd (r .0 .0 .0 .0 .0 .1 (inl e))) (λ e. absurd (r .0 .0 .0 .0 .1 (inl e))) (λ e. absurd (r .0 .0 .0 .1 e)) (λ e. absurd (r .0 .0 .1 e))
+    (λ e. absurd (r .0 .0 .0 .0 .0 .1 (inr e))) (λ e. absurd (r .0 .1 e)) (λ e. absurd (r .0 .0 .0 .0 .1 (inr e))) (λ e. absurd (r .1 e)) (λ e. refl)
+    (λ k e. refl)
     (a .r .kind) refl
 
 pub count-by-spec : {M : Type 1} → statement M

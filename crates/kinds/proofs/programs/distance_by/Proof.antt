@@ -23,6 +23,9 @@ both-if-requires-2 c κs = search needs
 both-if-requires-3 : tie.Need-both-if-requires-3
 both-if-requires-3 c κs = search needs
 
+part-requires : tie.Need-part-requires
+part-requires c κs = search needs
+
 returns : tie.Need-returns
 unfolding distanceBy distanceOf
 returns c = rw (c .match .keys1) cc
@@ -53,13 +56,18 @@ returns-7 c = rw (c .before .match .keys7) cc
 
 returns-8 : tie.Need-returns-8
 unfolding distanceBy distanceOf
-returns-8 c =
+returns-8 c = rw (c .before .match .keys8) cc
+
+returns-9 : tie.Need-returns-9
+unfolding distanceBy distanceOf
+returns-9 c =
     let a = c .before .before .args in
     let r = c .match .rest in
     by-kind (λ (k : ℕ). a .r .kind ≡ k → 0 ≡ distanceBy (recordOf k (a .r .a) (a .r .b) (a .r .c)) (now (a .distances)))
-    (λ e. refl) (λ e. absurd (r .0 .0 .0 .0 .0 .0 .1 e)) (λ e. absurd (r .0 .0 .0 .0 .0 .1 e)) (λ e. absurd (r .0 .0 .0 .0 .1 e))
-    (λ e. absurd (r .0 .0 .0 .1 e)) (λ e. refl) (λ e. absurd (r .0 .0 .1 e)) (λ e. refl) (λ e. absurd (r .0 .1 e)) (λ e. absurd (r .1 e))
-    (λ e. refl) (λ e. refl) (λ k e. refl) (a .r .kind) refl
+    (λ e. refl) (λ e. absurd (r .0 .0 .0 .0 .0 .0 .0 .1 e)) (λ e. absurd (r .0 .0 .0 .0 .0 .0 .1 e)) (λ e. absurd (r .0 .0 .0 .0 .0 .1 e))
+    (λ e. absurd (r .0 .0 .0 .0 .1 e)) (λ e. refl) (λ e. absurd (r .0 .0 .0 .1 e)) (λ e. refl) (λ e. absurd (r .0 .0 .1 e)) (λ e. absurd (r .0 .1 e))
+    (λ e. refl) (λ e. refl) (λ e. absurd (r .1 e)) (λ k e. refl)
+    (a .r .kind) refl
 
 pub distance-by-spec : {M : Type 1} → statement M
 distance-by-spec =
@@ -70,6 +78,7 @@ distance-by-spec =
     lesser-requires-2
     both-if-requires-2
     both-if-requires-3
+    part-requires
     returns
     returns-2
     returns-3
@@ -77,4 +86,5 @@ distance-by-spec =
     returns-5
     returns-6
     returns-7
-    returns-8)
+    returns-8
+    returns-9)

@@ -53,14 +53,19 @@ returns-11 c = rw (c .match .keys11)
 
 returns-12 : tie.Need-returns-12
 unfolding fieldA
-returns-12 c =
+returns-12 c = rw (c .match .keys12)
+
+returns-13 : tie.Need-returns-13
+unfolding fieldA
+returns-13 c =
     let kind = c .before .args .kind in
     let r = c .match .rest in
     by-kind (λ (k : ℕ). kind ≡ k → Unused ≡ fieldA k)
-    (λ e. refl) (λ e. absurd (r .0 .0 .0 .0 .0 .0 .0 .0 .0 .0 .1 e)) (λ e. absurd (r .0 .0 .0 .0 .0 .0 .0 .0 .0 .1 e)) (λ e. absurd (r .0 .0 .0 .0 .0 .0 .0 .0 .1 e))
-    (λ e. absurd (r .0 .0 .0 .0 .0 .0 .0 .1 e)) (λ e. absurd (r .0 .0 .0 .0 .0 .0 .1 e)) (λ e. absurd (r .0 .0 .0 .0 .0 .1 e)) (λ e. absurd (r .0 .0 .0 .0 .1 e))
-    (λ e. absurd (r .0 .0 .0 .1 e)) (λ e. absurd (r .0 .0 .1 e)) (λ e. absurd (r .0 .1 e)) (λ e. absurd (r .1 e)) (λ k e. refl)
+    (λ e. refl) (λ e. absurd (r .0 .0 .0 .0 .0 .0 .0 .0 .0 .0 .0 .1 e)) (λ e. absurd (r .0 .0 .0 .0 .0 .0 .0 .0 .0 .0 .1 e))
+    (λ e. absurd (r .0 .0 .0 .0 .0 .0 .0 .0 .0 .1 e)) (λ e. absurd (r .0 .0 .0 .0 .0 .0 .0 .0 .1 e)) (λ e. absurd (r .0 .0 .0 .0 .0 .0 .0 .1 e))
+    (λ e. absurd (r .0 .0 .0 .0 .0 .0 .1 e)) (λ e. absurd (r .0 .0 .0 .0 .0 .1 e)) (λ e. absurd (r .0 .0 .0 .0 .1 e)) (λ e. absurd (r .0 .0 .0 .1 e))
+    (λ e. absurd (r .0 .0 .1 e)) (λ e. absurd (r .0 .1 e)) (λ e. absurd (r .1 e)) (λ k e. refl)
     kind refl
 
 pub field-a-spec : {M : Type 1} → statement M
-field-a-spec = tie.close (tie.spec returns returns-2 returns-3 returns-4 returns-5 returns-6 returns-7 returns-8 returns-9 returns-10 returns-11 returns-12)
+field-a-spec = tie.close (tie.spec returns returns-2 returns-3 returns-4 returns-5 returns-6 returns-7 returns-8 returns-9 returns-10 returns-11 returns-12 returns-13)

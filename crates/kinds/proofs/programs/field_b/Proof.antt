@@ -29,13 +29,17 @@ returns-5 c = rw (c .match .keys5)
 
 returns-6 : tie.Need-returns-6
 unfolding fieldB
-returns-6 c =
+returns-6 c = rw (c .match .keys6)
+
+returns-7 : tie.Need-returns-7
+unfolding fieldB
+returns-7 c =
     let kind = c .before .args .kind in
     let r = c .match .rest in
     by-kind (λ (k : ℕ). kind ≡ k → Unused ≡ fieldB k)
-    (λ e. refl) (λ e. refl) (λ e. refl) (λ e. absurd (r .0 .0 .0 .0 .1 e)) (λ e. absurd (r .0 .0 .0 .1 e)) (λ e. refl) (λ e. absurd (r .0 .0 .1 e)) (λ e. refl) (λ e. absurd (r .0 .1 e))
-    (λ e. absurd (r .1 e)) (λ e. refl) (λ e. refl) (λ k e. refl)
+    (λ e. refl) (λ e. refl) (λ e. refl) (λ e. absurd (r .0 .0 .0 .0 .0 .1 e)) (λ e. absurd (r .0 .0 .0 .0 .1 e)) (λ e. refl) (λ e. absurd (r .0 .0 .0 .1 e))
+    (λ e. refl) (λ e. absurd (r .0 .0 .1 e)) (λ e. absurd (r .0 .1 e)) (λ e. refl) (λ e. refl) (λ e. absurd (r .1 e)) (λ k e. refl)
     kind refl
 
 pub field-b-spec : {M : Type 1} → statement M
-field-b-spec = tie.close (tie.spec returns returns-2 returns-3 returns-4 returns-5 returns-6)
+field-b-spec = tie.close (tie.spec returns returns-2 returns-3 returns-4 returns-5 returns-6 returns-7)

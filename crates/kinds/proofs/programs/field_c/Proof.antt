@@ -21,14 +21,17 @@ returns-3 c = rw (c .match .keys3)
 
 returns-4 : tie.Need-returns-4
 unfolding fieldC
-returns-4 c =
+returns-4 c = rw (c .match .keys4)
+
+returns-5 : tie.Need-returns-5
+unfolding fieldC
+returns-5 c =
     let kind = c .before .args .kind in
     let r = c .match .rest in
     by-kind (λ (k : ℕ). kind ≡ k → Unused ≡ fieldC k)
-    (λ e. refl) (λ e. refl) (λ e. refl) (λ e. refl) (λ e. refl) (λ e. refl) (λ e. absurd (r .0 .0 .1 e)) (λ e. absurd (r .0 .1 e)) (λ e. refl) (λ e. refl) (λ e. refl)
-    (λ e. absurd (r .1 e))
-    (λ k e. refl)
+    (λ e. refl) (λ e. refl) (λ e. refl) (λ e. refl) (λ e. refl) (λ e. refl) (λ e. absurd (r .0 .0 .0 .1 e)) (λ e. absurd (r .0 .0 .1 e)) (λ e. refl) (λ e. refl)
+    (λ e. refl) (λ e. absurd (r .0 .1 e)) (λ e. absurd (r .1 e)) (λ k e. refl)
     kind refl
 
 pub field-c-spec : {M : Type 1} → statement M
-field-c-spec = tie.close (tie.spec returns returns-2 returns-3 returns-4)
+field-c-spec = tie.close (tie.spec returns returns-2 returns-3 returns-4 returns-5)

@@ -30,6 +30,9 @@ both-final-requires-3 c κs = search needs
 both-final-requires-4 : tie.Need-both-final-requires-4
 both-final-requires-4 c κs = search needs
 
+flag-in-requires-2 : tie.Need-flag-in-requires-2
+flag-in-requires-2 c κs = search needs
+
 returns : tie.Need-returns
 unfolding finalBoundBy finalBoundOf
 returns c = rw (c .match .keys1) cc
@@ -68,12 +71,17 @@ returns-9 c = rw (c .match .keys9) cc
 
 returns-10 : tie.Need-returns-10
 unfolding finalBoundBy finalBoundOf
-returns-10 c =
+returns-10 c = rw (c .before .match .keys10) cc
+
+returns-11 : tie.Need-returns-11
+unfolding finalBoundBy finalBoundOf
+returns-11 c =
     let a = c .before .before .args in
     let r = c .match .rest in
     by-kind (λ (k : ℕ). a .r .kind ≡ k → true ≡ finalBoundBy (recordOf k (a .r .a) (a .r .b) (a .r .c)) (a .most) (now (a .marks)))
-    (λ e. refl) (λ e. absurd (r .0 .0 .0 .0 .0 .0 .0 .0 .1 e)) (λ e. absurd (r .0 .0 .0 .0 .0 .0 .0 .1 e)) (λ e. absurd (r .0 .0 .0 .0 .0 .0 .1 e)) (λ e. absurd (r .0 .0 .0 .0 .0 .1 e))
-    (λ e. refl) (λ e. absurd (r .0 .0 .0 .0 .1 e)) (λ e. absurd (r .0 .0 .0 .1 e)) (λ e. absurd (r .0 .0 .1 e)) (λ e. absurd (r .0 .1 e)) (λ e. refl) (λ e. absurd (r .1 e)) (λ k e. refl)
+    (λ e. refl) (λ e. absurd (r .0 .0 .0 .0 .0 .0 .0 .0 .0 .1 e)) (λ e. absurd (r .0 .0 .0 .0 .0 .0 .0 .0 .1 e)) (λ e. absurd (r .0 .0 .0 .0 .0 .0 .0 .1 e))
+    (λ e. absurd (r .0 .0 .0 .0 .0 .0 .1 e)) (λ e. refl) (λ e. absurd (r .0 .0 .0 .0 .0 .1 e)) (λ e. absurd (r .0 .0 .0 .0 .1 e))
+    (λ e. absurd (r .0 .0 .0 .1 e)) (λ e. absurd (r .0 .0 .1 e)) (λ e. refl) (λ e. absurd (r .0 .1 e)) (λ e. absurd (r .1 e)) (λ k e. refl)
     (a .r .kind) refl
 
 pub final-bound-by-spec : {M : Type 1} → statement M
@@ -87,6 +95,7 @@ final-bound-by-spec =
     flag-in-requires
     both-final-requires-3
     both-final-requires-4
+    flag-in-requires-2
     returns
     returns-2
     returns-3
@@ -96,4 +105,5 @@ final-bound-by-spec =
     returns-7
     returns-8
     returns-9
-    returns-10)
+    returns-10
+    returns-11)

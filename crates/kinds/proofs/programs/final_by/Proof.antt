@@ -45,6 +45,9 @@ flag-in-requires-6 c κs = search needs
 flag-in-requires-7 : tie.Need-flag-in-requires-7
 flag-in-requires-7 c κs = search needs
 
+flag-in-requires-8 : tie.Need-flag-in-requires-8
+flag-in-requires-8 c κs = search needs
+
 returns : tie.Need-returns
 unfolding finalBy finalOf
 returns c = rw (c .match .keys1) cc
@@ -83,12 +86,17 @@ returns-9 c = rw (c .before .before .match .keys9) cc
 
 returns-10 : tie.Need-returns-10
 unfolding finalBy finalOf
-returns-10 c =
+returns-10 c = rw (c .before .match .keys10) cc
+
+returns-11 : tie.Need-returns-11
+unfolding finalBy finalOf
+returns-11 c =
     let a = c .before .before .before .args in
     let r = c .match .rest in
     by-kind (λ (k : ℕ). a .r .kind ≡ k → true ≡ finalBy (recordOf k (a .r .a) (a .r .b) (a .r .c)) (now (a .truths)) (a .running) (now (a .finals)))
-    (λ e. refl) (λ e. absurd (r .0 .0 .0 .0 .0 .0 .0 .0 .1 e)) (λ e. absurd (r .0 .0 .0 .0 .0 .0 .0 .1 e)) (λ e. absurd (r .0 .0 .0 .0 .0 .0 .1 e)) (λ e. absurd (r .0 .0 .0 .0 .0 .1 e))
-    (λ e. refl) (λ e. absurd (r .0 .0 .0 .0 .1 e)) (λ e. absurd (r .0 .0 .0 .1 e)) (λ e. absurd (r .0 .0 .1 e)) (λ e. absurd (r .0 .1 e)) (λ e. refl) (λ e. absurd (r .1 e)) (λ k e. refl)
+    (λ e. refl) (λ e. absurd (r .0 .0 .0 .0 .0 .0 .0 .0 .0 .1 e)) (λ e. absurd (r .0 .0 .0 .0 .0 .0 .0 .0 .1 e)) (λ e. absurd (r .0 .0 .0 .0 .0 .0 .0 .1 e))
+    (λ e. absurd (r .0 .0 .0 .0 .0 .0 .1 e)) (λ e. refl) (λ e. absurd (r .0 .0 .0 .0 .0 .1 e)) (λ e. absurd (r .0 .0 .0 .0 .1 e))
+    (λ e. absurd (r .0 .0 .0 .1 e)) (λ e. absurd (r .0 .0 .1 e)) (λ e. refl) (λ e. absurd (r .0 .1 e)) (λ e. absurd (r .1 e)) (λ k e. refl)
     (a .r .kind) refl
 
 pub final-by-spec : {M : Type 1} → statement M
@@ -107,6 +115,7 @@ final-by-spec =
     both-final-requires-3
     flag-in-requires-6
     flag-in-requires-7
+    flag-in-requires-8
     returns
     returns-2
     returns-3
@@ -116,4 +125,5 @@ final-by-spec =
     returns-7
     returns-8
     returns-9
-    returns-10)
+    returns-10
+    returns-11)

@@ -29,8 +29,8 @@ returns-5 c =
     let kind = c .before .args .kind in
     let r = c .match .rest in
     by-kind (λ (k : ℕ). kind ≡ k → false ≡ loops k)
-    (λ e. refl) (λ e. refl) (λ e. refl) (λ e. refl) (λ e. refl) (λ e. absurd (r .0 .0 .0 .1 e)) (λ e. refl) (λ e. absurd (r .0 .0 .1 e)) (λ e. refl) (λ e. refl) (λ e. absurd (r .0 .1 e))
-    (λ e. absurd (r .1 e)) (λ k e. refl)
+    (λ e. refl) (λ e. refl) (λ e. refl) (λ e. refl) (λ e. refl) (λ e. absurd (r .0 .0 .0 .1 e)) (λ e. refl) (λ e. absurd (r .0 .0 .1 e)) (λ e. refl) (λ e. refl)
+    (λ e. absurd (r .0 .1 e)) (λ e. absurd (r .1 e)) (λ e. refl) (λ k e. refl)
     kind refl
 
 pub loops-spec : {M : Type 1} → statement M

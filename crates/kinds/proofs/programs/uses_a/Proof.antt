@@ -50,9 +50,9 @@ returns-10 c =
     let kind = at-start .args .kind in
     let r = c .match .rest in
     by-kind (λ (k : ℕ). kind ≡ k → false ≡ usesA k (at-start .args .h) (at-start .args .running))
-    (λ e. refl) (λ e. refl) (λ e. refl) (λ e. absurd (r .0 .0 .0 .0 .0 .0 .0 .0 .1 e)) (λ e. absurd (r .0 .0 .0 .0 .0 .0 .0 .1 e)) (λ e. absurd (r .0 .0 .0 .0 .0 .0 .1 e))
-    (λ e. absurd (r .0 .0 .0 .0 .0 .1 e)) (λ e. absurd (r .0 .0 .0 .0 .1 e)) (λ e. absurd (r .0 .0 .0 .1 e)) (λ e. absurd (r .0 .0 .1 e)) (λ e. absurd (r .0 .1 e)) (λ e. absurd (r .1 e))
-    (λ k e. refl)
+    (λ e. refl) (λ e. refl) (λ e. refl) (λ e. absurd (r .0 .0 .0 .0 .0 .0 .0 .0 .1 e)) (λ e. absurd (r .0 .0 .0 .0 .0 .0 .0 .1 e))
+    (λ e. absurd (r .0 .0 .0 .0 .0 .0 .1 e)) (λ e. absurd (r .0 .0 .0 .0 .0 .1 e)) (λ e. absurd (r .0 .0 .0 .0 .1 e)) (λ e. absurd (r .0 .0 .0 .1 e))
+    (λ e. absurd (r .0 .0 .1 e)) (λ e. absurd (r .0 .1 e)) (λ e. absurd (r .1 e)) (λ e. refl) (λ k e. refl)
     kind refl
 
 pub uses-a-spec : {M : Type 1} → statement M

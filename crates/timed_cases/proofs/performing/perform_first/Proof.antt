@@ -1,4 +1,4 @@
--- The tables of an accepted sheet lie in it in order, its formulas name lower ones, and the range of its first action lies in the table of
+-- The tables of an accepted sheet lie in it in order, its formulas name lower ones and have no placeholders, and the range of its first action lies in the table of
 -- effects and names its fluents. Assumes nothing.
 use denote.Ref.{now}
 use mathlib.Core.Path.{sym, subst}
@@ -12,6 +12,7 @@ use Rattle.sheet.proofs.Parts.{in-order, formulas-long, actions-long}
 use Rattle.sheet.proofs.Lower.{lower-formulas}
 use Rattle.sheet.proofs.Found.{in-sheet}
 use Rattle.engine.proofs.Actions.{performable}
+use Rattle.engine.proofs.Judging.{formulas-plain}
 use borrow.Author.Needs.{needs}
 use Rattle.timed_cases.proofs.performing.perform_first.Statement.{statement}
 use Rattle.timed_cases.proofs.performing.perform_first.Tie as tie
@@ -63,7 +64,7 @@ fill-truths-requires c κs =
     let s = now (at-start .args .s) in
     let f = in-sheet O in
     let low = subst (λ (l : Layout). LowerFormulas (formulasIn s l) (l .q)) (sym (O .layout-is)) (lower-formulas s (O .accepted)) in
-    ((formulas-long s _ f, f .q), low)
+    ((formulas-long s _ f, f .q), (low, formulas-plain O))
 
 sub-action-at : tie.Need-sub-action-at
 sub-action-at c = in-order (in-sheet (start-from-sub-action-at c .pre)) .actions

@@ -1,0 +1,5 @@
+pub mod Bits
+pub mod Placeholders
+pub mod Members
+pub mod Empty
+pub mod Tables
