@@ -11,6 +11,10 @@ environment-small n = omega arith
 pub reading-whole : (n : ℕ) → reading (readIn n) (environmentOf n) ≡ n
 reading-whole n = omega arith
 
+-- readings of a lower record are lower
+pub reading-lower : (a q d e : ℕ) → a < q → d < environments → reading a d < reading q e
+reading-lower a q d e l h = omega arith
+
 -- two placeholders are all that an environment holds
 pub looks-same : (e e′ : ℕ) → look e 0 ≡ look e′ 0 → look e 1 ≡ look e′ 1 → e ≡ e′
 looks-same e e′ p q = omega arith
@@ -21,6 +25,10 @@ module _ (e : ℕ) (small : e < environments) where
 
   pub environment-of : (i : ℕ) → environmentOf (reading i e) ≡ e
   environment-of i = omega arith
+
+  pub look-small : (c : ℕ) → look e c < 16
+  look-small zero = omega arith
+  look-small (suc c) = omega arith
 
   pub put-small : (c v : ℕ) → put e c v < environments
   put-small zero v = omega arith

@@ -5,7 +5,7 @@ use native.Mathlib.Omega.{arith}
 use Rattle.records.specs.Placeholders.{look}
 use Rattle.sets.proofs.Bits.{bit-mod, bit-from}
 use Rattle.sets.proofs.Members.{has-by}
-use Rattle.sets.proofs.Placeholders.{look-fits}
+use Rattle.records.proofs.Placeholders.{look-small}
 use borrow.Author.Needs.{needs}
 use Rattle.sets.proofs.reaching.Statement.{statement}
 use Rattle.sets.proofs.reaching.Tie as tie
@@ -24,7 +24,7 @@ returns c =
     let at-start = c .before in
     let n = at-start .args .n in
     let d = at-start .args .c in
-    has-by (c .among .ensures) (λ e l. let few : look e d < 16 = look-fits e d l in bit-mod (65535 * 2 ^ n) 32 (look e d) (omega arith) ∙ bit-from n (look e d) few)
+    has-by (c .among .ensures) (λ e l. let few : look e d < 16 = look-small e l d in bit-mod (65535 * 2 ^ n) 32 (look e d) (omega arith) ∙ bit-from n (look e d) few)
 
 pub reaching-spec : {M : Type 1} → statement M
 reaching-spec = tie.close (tie.spec cast-among shl-among among-requires returns)
