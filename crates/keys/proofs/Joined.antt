@@ -24,21 +24,25 @@ split m a b c d h p q e = (
     high : (x y : ℕ) → x < m → (x + m * y) / m ≡ y
     high x y l = add-mul-div-left x y h ∙ ap (λ (z : ℕ). z + y) (div-eq-of-lt l) ∙ omega arith
 
--- whether interrupts run, the number of nodes and the label
+-- whether interrupts run, the number of nodes, the label, and whether the nodes are wide
 bit-same : (b b′ : Bool) → _≡_ {A = ℕ} (cond b′ 1 0) (cond b 1 0) → b′ ≡ b
 bit-same true true e = refl
 bit-same true false e = absurd (omega arith)
 bit-same false true e = absurd (omega arith)
 bit-same false false e = refl
 
-pub head-same : (b b′ : Bool) (n n′ l l′ : ℕ) → n < 4096 → n′ < 4096 → headOf b′ n′ l′ ≡ headOf b n l → (b′ ≡ b) × (n′ ≡ n) × (l′ ≡ l)
+pub head-same : (b b′ wide wide′ : Bool) (n n′ l l′ : ℕ) → n < 4096 → n′ < 4096 → l < 65536 → l′ < 65536
+    → headOf b′ n′ l′ wide′ ≡ headOf b n l wide
+    → (b′ ≡ b) × (n′ ≡ n) × (l′ ≡ l) × (wide′ ≡ wide)
 unfolding headOf
-head-same b b′ n n′ l l′ p q e =
+head-same b b′ wide wide′ n n′ l l′ p q x y e =
     let f = part-few b 1 in
     let g = part-few b′ 1 in
-    let s = split 8192 (cond b′ 1 0 + 2 * n′) l′ (cond b 1 0 + 2 * n) l (omega arith) (omega arith) (omega arith) e in
+    let r = split 536870912 (cond b′ 1 0 + 2 * n′ + 8192 * l′) (cond wide′ 1 0) (cond b 1 0 + 2 * n + 8192 * l) (cond wide 1 0)
+    (omega arith) (omega arith) (omega arith) e in
+    let s = split 8192 (cond b′ 1 0 + 2 * n′) l′ (cond b 1 0 + 2 * n) l (omega arith) (omega arith) (omega arith) (r .0) in
     let t = split 2 (cond b′ 1 0) n′ (cond b 1 0) n (omega arith) (omega arith) (omega arith) (s .0) in
-    (bit-same b b′ (t .0), t .1, s .1)
+    (bit-same b b′ (t .0), t .1, s .1, bit-same wide wide′ (r .1))
 
 -- the lower bits of n values from place i on are the same
 abbrev pub Low : (n i : ℕ) (v v′ : List ℕ) → Type 0
@@ -77,24 +81,25 @@ module _ (v v′ : List ℕ) where
       both 4 4 i (four-same i (s .0)) (four-same (i + 4) (s .1))
 
 -- two nodes, or one
-pub pair-two : (w : List ℕ) (i n : ℕ) → 1 < n → pairAt w i n ≡ nodeAt w i + 65536 * nodeAt w (i + 3)
+pub pair-two : (w : List ℕ) (i n : ℕ) → 1 < n → pairAt w i n ≡ nodeAt 4096 w i + 65536 * nodeAt 4096 w (i + 3)
 unfolding pairAt
-pair-two w i n h = ap (λ (b : Bool). nodeAt w i + 65536 * cond b (nodeAt w (i + 3)) 0) (lt-ltb 1 n h)
+pair-two w i n h = ap (λ (b : Bool). nodeAt 4096 w i + 65536 * cond b (nodeAt 4096 w (i + 3)) 0) (lt-ltb 1 n h)
 
-pub pair-one : (w : List ℕ) (i n : ℕ) → n ≤ 1 → pairAt w i n ≡ nodeAt w i
+pub pair-one : (w : List ℕ) (i n : ℕ) → n ≤ 1 → pairAt w i n ≡ nodeAt 4096 w i
 unfolding pairAt
-pair-one w i n h = ap (λ (b : Bool). nodeAt w i + 65536 * cond b (nodeAt w (i + 3)) 0) (le-ltb 1 n h) ∙ omega arith
+pair-one w i n h = ap (λ (b : Bool). nodeAt 4096 w i + 65536 * cond b (nodeAt 4096 w (i + 3)) 0) (le-ltb 1 n h) ∙ omega arith
 
 module _ (w w′ : List ℕ) (i j : ℕ) where
-  -- a node's tag and record
-  pub node-parts : nodeAt w′ j ≡ nodeAt w i → (getD w′ j 0 % 16 ≡ getD w i 0 % 16) × (getD w′ (j + 1) 0 % 4096 ≡ getD w (i + 1) 0 % 4096)
-  node-parts e = split 16 (getD w′ j 0 % 16) _ (getD w i 0 % 16) _ (omega arith) (omega arith) (omega arith) e
+  -- a node's tag and number
+  pub node-parts : (limit : ℕ) → nodeAt limit w′ j ≡ nodeAt limit w i
+      → (getD w′ j 0 % 16 ≡ getD w i 0 % 16) × (getD w′ (j + 1) 0 % limit ≡ getD w (i + 1) 0 % limit)
+  node-parts limit e = split 16 (getD w′ j 0 % 16) _ (getD w i 0 % 16) _ (omega arith) (omega arith) (omega arith) e
 
   -- the first of n nodes, and the second
-  pub first-same : (n : ℕ) → pairAt w′ j n ≡ pairAt w i n → nodeAt w′ j ≡ nodeAt w i
+  pub first-same : (n : ℕ) → pairAt w′ j n ≡ pairAt w i n → nodeAt 4096 w′ j ≡ nodeAt 4096 w i
   unfolding pairAt
-  first-same n e = split 65536 (nodeAt w′ j) _ (nodeAt w i) _ (omega arith) (omega arith) (omega arith) e .0
+  first-same n e = split 65536 (nodeAt 4096 w′ j) _ (nodeAt 4096 w i) _ (omega arith) (omega arith) (omega arith) e .0
 
-  pub second-same : (n : ℕ) → 1 < n → pairAt w′ j n ≡ pairAt w i n → nodeAt w′ (j + 3) ≡ nodeAt w (i + 3)
+  pub second-same : (n : ℕ) → 1 < n → pairAt w′ j n ≡ pairAt w i n → nodeAt 4096 w′ (j + 3) ≡ nodeAt 4096 w (i + 3)
   second-same n h e =
-      split 65536 (nodeAt w′ j) _ (nodeAt w i) _ (omega arith) (omega arith) (omega arith) (sym (pair-two w′ j n h) ∙ e ∙ pair-two w i n h) .1
+      split 65536 (nodeAt 4096 w′ j) _ (nodeAt 4096 w i) _ (omega arith) (omega arith) (omega arith) (sym (pair-two w′ j n h) ∙ e ∙ pair-two w i n h) .1

@@ -1,4 +1,4 @@
--- One key is that of one configuration and one label. Remaining programs whose nodes have the same tags and records, in preorder, are the
+-- One key is that of one configuration and one label. Remaining programs whose nodes have the same tags and numbers, in preorder, are the
 -- same: a tag says how many parts follow it. Assumes nothing.
 use Prim.Native.Nat.{ℕ, _+_, _-_, _*_, _≤_, _<_}
 use mathlib.Core.Path.{_≡_, refl, sym, ap, ap₂, subst, _∙_}
@@ -33,7 +33,7 @@ module _ (w w′ : List ℕ) where
   rest-same gone (leaf q) n i j A B h l S = absurd (omega (arith, A .tag-is, B .tag-is, first n i j S h .tags))
   rest-same gone (node s k r) n i j A B h l S = absurd (omega (arith, A .tag-is, B .0 .tag-is, B .1, first n i j S h .tags))
   rest-same (leaf p) gone n i j A B h l S = absurd (omega (arith, A .tag-is, B .tag-is, first n i j S h .tags))
-  rest-same (leaf p) (leaf q) n i j A B h l S = ap leaf (sym (B .record-is) ∙ first n i j S h .records ∙ A .record-is)
+  rest-same (leaf p) (leaf q) n i j A B h l S = ap leaf (sym (B .record-is) ∙ first n i j S h .numbers ∙ A .record-is)
   rest-same (leaf p) (node s k r) n i j A B h l S = absurd (omega (arith, A .tag-is, B .0 .tag-is, B .1, first n i j S h .tags))
   rest-same (node t a b) gone n i j A B h l S = absurd (omega (arith, A .0 .tag-is, A .1, B .tag-is, first n i j S (omega arith) .tags))
   rest-same (node t a b) (leaf q) n i j A B h l S = absurd (omega (arith, A .0 .tag-is, A .1, B .tag-is, first n i j S (omega arith) .tags))

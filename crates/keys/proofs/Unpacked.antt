@@ -1,34 +1,62 @@
--- One key means one state, one label, and nodes with the same tags and records: each word of the key determines what is joined in it, and
--- no bits were left out. Assumes nothing.
+-- One key means one state, one label, and nodes with the same tags and numbers, all in pairs or all wide: each word of the key determines
+-- what is joined in it, and no bits were left out. Assumes nothing.
 use Prim.Native.Nat.{ℕ, _+_, _-_, _*_, _/_, _%_, _<_}
 use mathlib.Core.Path.{_≡_, sym, ap, ap₂, subst, _∙_}
-use mathlib.Core.Bool.{Bool}
+use mathlib.Core.Bool.{Bool, true, false}
 use mathlib.Core.List.{List}
 use native.Mathlib.Omega.{arith}
 use native.Mathlib.Decide.{decLt}
+use native.Mathlib.Nat.{mod-eq-of-lt}
 use lib.ListN.{getD}
 use lib.Seq.{ext-getD}
 use Rattle.golog.specs.declared.State.{State}
-use Rattle.keys.specs.Packed.{nodeAt, pairAt, Coded, Packed}
+use Rattle.keys.specs.Packed.{nodeAt, limitOf, wordsOf, wordAt, Coded, Packed}
 use Rattle.keys.proofs.Joined.{head-same, eight-same, node-parts, first-same, second-same}
 
--- the node at j has the tag and the record of that at i
+-- the node at j has the tag and the number of that at i
 pub record Alike (i j : ℕ) (w w′ : List ℕ) : Type 0 where
   pub tags : getD w′ j 0 ≡ getD w i 0
-  pub records : getD w′ (j + 1) 0 ≡ getD w (i + 1) 0
+  pub numbers : getD w′ (j + 1) 0 ≡ getD w (i + 1) 0
 
 -- so n nodes from there on
 abbrev pub SameNodes : (n i j : ℕ) (w w′ : List ℕ) → Type 0
 SameNodes n i j w w′ = (k : ℕ) → k < n → Alike (i + 3 * k) (j + 3 * k) w w′
 
-alike : (w w′ : List ℕ) (i j : ℕ) → Coded w i → Coded w′ j → nodeAt w′ j ≡ nodeAt w i → Alike i j w w′
-alike w w′ i j C D e =
-    let p = node-parts w w′ i j e in
-    record { tags = omega (arith, C .tag-small, D .tag-small); records = omega (arith, C .record-small, D .record-small) }
+alike : (limit : ℕ) (w w′ : List ℕ) (i j : ℕ) → Coded limit w i → Coded limit w′ j → nodeAt limit w′ j ≡ nodeAt limit w i → Alike i j w w′
+alike limit w w′ i j C D e =
+    let p = node-parts w w′ i j limit e in
+    record { tags = omega (arith, C .tag-small, D .tag-small); numbers = sym (mod-eq-of-lt (D .number-small)) ∙ p .1 ∙ mod-eq-of-lt (C .number-small) }
+
+-- the words of n nodes are the same, and so their lower bits: node x has a word of its own, or is the first or the second of a pair
+abbrev SameWords : (wide : Bool) (n i j : ℕ) (w w′ : List ℕ) → Type 0
+SameWords wide n i j w w′ = (k : ℕ) → k < wordsOf wide n → wordAt wide w′ j n k ≡ wordAt wide w i n k
+
+node-same : (wide : Bool) (n i j : ℕ) (w w′ : List ℕ) → SameWords wide n i j w w′
+    → (x : ℕ) → x < n → nodeAt (limitOf wide) w′ (j + 3 * x) ≡ nodeAt (limitOf wide) w (i + 3 * x)
+node-same true n i j w w′ S x h = S x h
+node-same false n i j w w′ S x h = go (decLt (2 * (x / 2)) x)
+  where
+    a : ℕ
+    a = i + 6 * (x / 2)
+
+    b : ℕ
+    b = j + 6 * (x / 2)
+
+    go : Dec (2 * (x / 2) < x) → nodeAt 4096 w′ (j + 3 * x) ≡ nodeAt 4096 w (i + 3 * x)
+    go (yes l) =
+        ap (nodeAt 4096 w′) (omega arith)
+        ∙ second-same w w′ a b (n - 2 * (x / 2)) (omega arith) (S (x / 2) (omega arith))
+        ∙ ap (nodeAt 4096 w) (omega arith)
+    go (no l) =
+        ap (nodeAt 4096 w′) (omega arith)
+        ∙ first-same w w′ a b (n - 2 * (x / 2)) (S (x / 2) (omega arith))
+        ∙ ap (nodeAt 4096 w) (omega arith)
 
 module _ {g n n′ i j label label′ : ℕ} {st st′ : State} {w w′ key : List ℕ} (P : Packed g st w i n label key) (Q : Packed g st′ w′ j n′ label′ key) where
-  heads : (st′ .running ≡ st .running) × (n′ ≡ n) × (label′ ≡ label)
-  heads = head-same (st .running) (st′ .running) n n′ label label′ (P .few) (Q .few) (sym (Q .head-is) ∙ P .head-is)
+  heads : (st′ .running ≡ st .running) × (n′ ≡ n) × (label′ ≡ label) × (Q .wide ≡ P .wide)
+  heads =
+      head-same (st .running) (st′ .running) (P .wide) (Q .wide) n n′ label label′ (P .few) (Q .few) (P .label-small) (Q .label-small)
+      (sym (Q .head-is) ∙ P .head-is)
 
   pub sizes-same : n′ ≡ n
   sizes-same = heads .1
@@ -54,30 +82,15 @@ module _ {g n n′ i j label label′ : ℕ} {st st′ : State} {w w′ key : Li
       (ext-getD 0 (st′ .values) (st .values) (Q .many ∙ sym (P .many)) (λ k l. value-same k (omega (arith, Q .many))))
       (heads .0)
 
-  pairs-same : (k : ℕ) → 2 * k < n → pairAt w′ (j + 6 * k) (n - 2 * k) ≡ pairAt w (i + 6 * k) (n - 2 * k)
-  pairs-same k h =
-      subst (λ (m : ℕ). pairAt w′ (j + 6 * k) (m - 2 * k) ≡ getD key (1 + g + k) 0) sizes-same (sym (Q .nodes-are k (omega (arith, sizes-same))))
+  words-same : SameWords (P .wide) n i j w w′
+  words-same k h =
+      subst (λ (b : Bool). k < wordsOf b n → wordAt b w′ j n k ≡ getD key (1 + g + k) 0) (heads .3)
+      (subst (λ (m : ℕ). k < wordsOf (Q .wide) m → wordAt (Q .wide) w′ j m k ≡ getD key (1 + g + k) 0) sizes-same (λ l. sym (Q .nodes-are k l)))
+      h
       ∙ P .nodes-are k h
 
-  -- node x is the first or the second of a pair
-  node-same : (x : ℕ) → x < n → nodeAt w′ (j + 3 * x) ≡ nodeAt w (i + 3 * x)
-  node-same x h = go (decLt (2 * (x / 2)) x)
-    where
-      a : ℕ
-      a = i + 6 * (x / 2)
-
-      b : ℕ
-      b = j + 6 * (x / 2)
-
-      go : Dec (2 * (x / 2) < x) → nodeAt w′ (j + 3 * x) ≡ nodeAt w (i + 3 * x)
-      go (yes l) =
-          ap (nodeAt w′) (omega arith)
-          ∙ second-same w w′ a b (n - 2 * (x / 2)) (omega arith) (pairs-same (x / 2) (omega arith))
-          ∙ ap (nodeAt w) (omega arith)
-      go (no l) =
-          ap (nodeAt w′) (omega arith)
-          ∙ first-same w w′ a b (n - 2 * (x / 2)) (pairs-same (x / 2) (omega arith))
-          ∙ ap (nodeAt w) (omega arith)
-
   pub nodes-same : SameNodes n i j w w′
-  nodes-same x h = alike w w′ (i + 3 * x) (j + 3 * x) (P .coded x h) (Q .coded x (omega (arith, sizes-same))) (node-same x h)
+  nodes-same x h =
+      alike (limitOf (P .wide)) w w′ (i + 3 * x) (j + 3 * x) (P .coded x h)
+      (subst (λ (b : Bool). Coded (limitOf b) w′ (j + 3 * x)) (heads .3) (Q .coded x (omega (arith, sizes-same))))
+      (node-same (P .wide) n i j w w′ words-same x h)

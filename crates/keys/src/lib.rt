@@ -1,12 +1,12 @@
 // The key of a configuration: its remaining program, its state and a label, in few words. Equal keys are those of equal configurations.
 ghost use mathlib.Core.Path.{_≡_};
-ghost use mathlib.Core.Bool.{true, cond};
+ghost use mathlib.Core.Bool.{true, false, cond};
 ghost use Prim.Native.Nat.{ℕ, _+_, _*_, _/_, _%_, _≤_, _<_};
 ghost use lib.ListN.{length, getD, take};
 ghost use Rattle.golog.specs.Prog.{Prog};
 ghost use Rattle.sheet.specs.Inspection.{Of};
 ghost use Rattle.engine.specs.Frames.{Frame};
-ghost use Rattle.keys.specs.Packed.{twoAt, fourAt, eightAt, nodeAt, pairAt, headOf, Coded, CodedPair, WrittenValues, WrittenNodes, Packed};
+ghost use Rattle.keys.specs.Packed.{twoAt, fourAt, eightAt, nodeAt, pairAt, headOf, Coded, CodedPair, WrittenValues, WrittenNodes, Held, Packed};
 ghost use Rattle.keys.specs.Keyed.{Keyed};
 use golog::State;
 use sheet::Inspection;
@@ -14,12 +14,15 @@ use sheet::Inspection;
 // How many words a caller has for a key: a configuration that takes more has none.
 pub const WORDS: usize = 32;
 
-// Limits of what a key holds: 4 bits for a value and for a tag, 12 for a record and for the number of nodes, 16 for the label.
+// Limits of what a key holds: 4 bits for a value and for a tag, 12 for a node's number in a pair, 28 for one in a word of its own, 12 for the
+// count of nodes, 16 for the label.
 const VALUES: u8 = 16;
 
 const TAGS: u32 = 16;
 
-const RECORDS: u32 = 4096;
+const NARROW: u32 = 4096;
+
+const WIDE: u32 = 268435456;
 
 const NODES: usize = 4096;
 
@@ -81,20 +84,28 @@ fn write_values(key: &mut [u32], values: &[u8; 32], n: usize)
     }
 }
 
-// The lower bits of a node's tag and record.
+// The lower bits of a node's tag and number, as many as half a word holds.
 fn node(work: &[u32], i: usize) -> u32
     requires { ⌜ i + 3 ≤ length (now work) ⌝ }
-    ensures { λ r. ⌜ (r ≡ nodeAt (now (work .entry)) i) × (r < 65536) ⌝ }
+    ensures { λ r. ⌜ (r ≡ nodeAt 4096 (now (work .entry)) i) × (r < 65536) ⌝ }
 {
-    work[i] % TAGS + 16 * (work[i + 1] % RECORDS)
+    work[i] % TAGS + 16 * (work[i + 1] % NARROW)
 }
 
-// Whether that is all of them: there are no higher bits.
-fn is_coded(work: &[u32], i: usize) -> bool
+// As many as a word holds.
+fn wide_node(work: &[u32], i: usize) -> u32
     requires { ⌜ i + 3 ≤ length (now work) ⌝ }
-    ensures { λ r. ⌜ (r ≡ true → Coded (now (work .entry)) i) ⌝ }
+    ensures { λ r. ⌜ r ≡ nodeAt 268435456 (now (work .entry)) i ⌝ }
 {
-    (work[i] < TAGS) & (work[i + 1] < RECORDS)
+    work[i] % TAGS + 16 * (work[i + 1] % WIDE)
+}
+
+// Whether that is all of them, a number being held below the limit: there are no higher bits.
+fn is_coded(work: &[u32], i: usize, limit: u32) -> bool
+    requires { ⌜ i + 3 ≤ length (now work) ⌝ }
+    ensures { λ r. ⌜ (r ≡ true → Coded limit (now (work .entry)) i) ⌝ }
+{
+    (work[i] < TAGS) & (work[i + 1] < limit)
 }
 
 // The first of n nodes and, where there is one, the second.
@@ -113,16 +124,16 @@ fn is_coded_pair(work: &[u32], i: usize, n: usize) -> bool
     ensures { λ r. ⌜ (r ≡ true → CodedPair (now (work .entry)) i n) ⌝ }
 {
     if 1 < n {
-        return is_coded(work, i) & is_coded(work, i + 3);
+        return is_coded(work, i, NARROW) & is_coded(work, i + 3, NARROW);
     }
-    is_coded(work, i)
+    is_coded(work, i, NARROW)
 }
 
 // Writes n nodes, two a word, from word `to` on, and tells whether they are all there.
-fn write_nodes(key: &mut [u32], to: usize, work: &[u32], from: usize, n: usize) -> bool
+fn write_pairs(key: &mut [u32], to: usize, work: &[u32], from: usize, n: usize) -> bool
     requires { ⌜ (from + 3 * n ≤ length (now work)) × (to + (n + 1) / 2 ≤ length (now key)) ⌝ }
-    ensures written { λ _. ⌜ WrittenNodes (now (work .entry)) from n to (now (key .entry)) (now (key .exit)) ⌝ }
-    ensures whole { λ r. ⌜ (r ≡ true → (k : ℕ) → k < n → Coded (now (work .entry)) (from + 3 * k)) ⌝ }
+    ensures written { λ _. ⌜ WrittenNodes false (now (work .entry)) from n to (now (key .entry)) (now (key .exit)) ⌝ }
+    ensures whole { λ r. ⌜ (r ≡ true → (k : ℕ) → k < n → Coded 4096 (now (work .entry)) (from + 3 * k)) ⌝ }
 {
     let mut coded = true;
     let mut k = 0;
@@ -136,6 +147,55 @@ fn write_nodes(key: &mut [u32], to: usize, work: &[u32], from: usize, n: usize) 
     coded
 }
 
+// Writes n nodes, a word each, from word `to` on, and tells whether they are all there.
+fn write_wide(key: &mut [u32], to: usize, work: &[u32], from: usize, n: usize) -> bool
+    requires { ⌜ (from + 3 * n ≤ length (now work)) × (to + n ≤ length (now key)) ⌝ }
+    ensures written { λ _. ⌜ WrittenNodes true (now (work .entry)) from n to (now (key .entry)) (now (key .exit)) ⌝ }
+    ensures whole { λ r. ⌜ (r ≡ true → (k : ℕ) → k < n → Coded 268435456 (now (work .entry)) (from + 3 * k)) ⌝ }
+{
+    let mut coded = true;
+    let mut k = 0;
+    while k < n {
+        let i = from + 3 * k;
+        key[to + k] = wide_node(work, i);
+        coded = coded & is_coded(work, i, WIDE);
+        k += 1;
+    }
+    coded
+}
+
+// How nodes stand in a key: in how many words, 0 where they do not fit, and whether each has a word of its own.
+struct Way {
+    words: usize,
+    wide: bool,
+}
+
+// Writes n nodes from word `to` on: in pairs, and where not all fit in pairs, a word each.
+fn write_nodes(key: &mut [u32], to: usize, work: &[u32], from: usize, n: usize) -> Way
+    requires { ⌜ (from + 3 * n ≤ length (now work)) × (to + (n + 1) / 2 ≤ length (now key)) ⌝ }
+    ensures len { λ _. ⌜ length (now (key .exit)) ≡ length (now (key .entry)) ⌝ }
+    ensures held { λ r. ⌜ (0 < r .words → Held (r .wide) (now (work .entry)) from n to (r .words) (now (key .entry)) (now (key .exit))) ⌝ }
+{
+    if write_pairs(key, to, work, from, n) {
+        return Way {
+            words: (n + 1) / 2,
+            wide: false,
+        };
+    }
+    if to + n <= key.len() {
+        if write_wide(key, to, work, from, n) {
+            return Way {
+                words: n,
+                wide: true,
+            };
+        }
+    }
+    Way {
+        words: 0,
+        wide: false,
+    }
+}
+
 // 1 for true, 0 for false.
 fn bit(flag: bool) -> u32
     ensures { λ r. ⌜ (r ≡ cond flag 1 0) × (r ≤ 1) ⌝ }
@@ -143,12 +203,12 @@ fn bit(flag: bool) -> u32
     if flag { 1 } else { 0 }
 }
 
-// Whether interrupts run, the number of nodes and the label, in one word.
-fn head(running: bool, n: usize, label: usize) -> u32
+// Whether interrupts run, the number of nodes, the label, and whether each node has a word of its own, in one word.
+fn head(running: bool, n: usize, label: usize, wide: bool) -> u32
     requires { ⌜ (n < 4096) × (label < 65536) ⌝ }
-    ensures { λ r. ⌜ r ≡ headOf running n label ⌝ }
+    ensures { λ r. ⌜ r ≡ headOf running n label wide ⌝ }
 {
-    bit(running) + 2 * (n as u32) + 8192 * (label as u32)
+    bit(running) + 2 * (n as u32) + 8192 * (label as u32) + 536870912 * bit(wide)
 }
 
 // Packs a state of `groups` groups of values, the n nodes at `at` and a label: how many words that takes, 0 where they do not fit.
@@ -165,16 +225,16 @@ fn pack(
     ensures inside { λ r. ⌜ r ≤ length (now (key .entry)) ⌝ }
     ensures packed { λ r. ⌜ (0 < r → Packed groups st (now (work .entry)) at n label (take r (now (key .exit)))) ⌝ }
 {
-    let size = 1 + groups + (n + 1) / 2;
-    if (key.len() < size) | (NODES <= n) | (LABELS <= label) {
+    let least = 1 + groups + (n + 1) / 2;
+    if (key.len() < least) | (NODES <= n) | (LABELS <= label) {
         return 0;
     }
-    key[0] = head(st.running, n, label);
     let values = st.values;
     write_values(key, &values, groups);
-    let coded = write_nodes(key, 1 + groups, work, at, n);
-    if are_below(&values, 0, VALUES) & are_below(&values, 8 * groups, 1) & coded {
-        return size;
+    let way = write_nodes(key, 1 + groups, work, at, n);
+    if are_below(&values, 0, VALUES) & are_below(&values, 8 * groups, 1) & (0 < way.words) {
+        key[0] = head(st.running, n, label, way.wide);
+        return 1 + groups + way.words;
     }
     0
 }

@@ -144,7 +144,7 @@ digit-few true = omega arith
 digit-few false = omega arith
 
 -- each row full or empty
-bit-rows : (p : ℕ → Bool) (i : ℕ) → i < 32 → hasBit ((digit (p 0) + digit (p 1) * 65536) * 65535) i ≡ p (i / 16)
+pub bit-rows : (p : ℕ → Bool) (i : ℕ) → i < 32 → hasBit ((digit (p 0) + digit (p 1) * 65536) * 65535) i ≡ p (i / 16)
 bit-rows p i h =
     ap (λ (m : ℕ). hasBit m i) (omega arith)
     ∙ by-rows (digit (p 1) * 65535) (digit (p 0) * 65535) (λ (j : ℕ). p (j / 16)) (digit-few (p 0))

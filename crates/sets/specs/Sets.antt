@@ -7,6 +7,7 @@ use mathlib.Core.List.{List}
 use mathlib.Core.Logic.{_⊎_}
 use lib.ListN.{length, getD, take, drop}
 use Rattle.records.specs.Mask.{hasBit}
+use Rattle.records.specs.Some.{someFrom}
 
 -- the words of a set
 abbrev pub setWords : ℕ
@@ -20,6 +21,10 @@ member set e = hasBit (getD set (e / 32) 0) (e % 32)
 pub record Has (U : ℕ → Bool) (set : List ℕ) : Type 0 where
   pub len : length set ≡ setWords
   pub each : (e : ℕ) → e < 256 → member set e ≡ U e
+
+-- the word has the bits that one of the first k words of the set has
+pub record Gathered (set : List ℕ) (k word : ℕ) : Type 0 where
+  pub each : (i : ℕ) → hasBit word i ≡ someFrom (λ (j : ℕ). hasBit (getD set j 0) i) 0 k
 
 -- set i of a table
 unfoldable pub setAt : (table : List ℕ) (i : ℕ) → List ℕ

@@ -7,7 +7,8 @@ ghost use lib.Dec.{eqb, ltb};
 ghost use lib.ListN.{length};
 ghost use Rattle.records.specs.Mask.{hasBit};
 ghost use Rattle.records.specs.Placeholders.{look, put};
-ghost use Rattle.sets.specs.Sets.{member, Has, setAt, PutSet};
+ghost use Rattle.records.specs.Some.{someFrom};
+ghost use Rattle.sets.specs.Sets.{member, Has, Gathered, setAt, PutSet};
 
 // The words of a set.
 pub const WORDS: usize = 8;
@@ -16,6 +17,9 @@ pub const WORDS: usize = 8;
 const FULL: u32 = 0xFFFF_FFFF;
 
 const FULL_ROW: u32 = 0xFFFF;
+
+// What stands before the second row of a word.
+const ROW: u32 = 0x1_0000;
 
 // The lowest bit of each row of a word: times a row, the row twice.
 const EACH_ROW: u32 = 0x1_0001;
@@ -95,7 +99,7 @@ fn in_rows(values: u32) -> [u32; WORDS]
     let mut k = 0;
     while k < WORDS {
         let two = values >> (2 * k);
-        r[k] = (two % 2 + two / 2 % 2 * 0x1_0000) * FULL_ROW;
+        r[k] = (two % 2 + two / 2 % 2 * ROW) * FULL_ROW;
         k += 1;
     }
     r
@@ -162,6 +166,56 @@ pub fn given(x: [u32; WORDS], c: usize, v: usize) -> [u32; WORDS]
     }
 }
 
+// The or of the words of x.
+fn gathered(x: [u32; WORDS]) -> u32
+    ensures { λ r. ⌜ Gathered x 8 r ⌝ }
+{
+    let mut any = 0;
+    let mut k = 0;
+    while k < WORDS {
+        any = any | x[k];
+        k += 1;
+    }
+    any
+}
+
+// The environments that are in x once some value is put into placeholder 0: each row is full or empty, by whether it has a bit. A row that
+// has one, with a full row added, reaches into the next.
+fn some_column(x: [u32; WORDS]) -> [u32; WORDS]
+    ensures { λ r. ⌜ Has (λ (e : ℕ). someFrom (λ (v : ℕ). member x (put e 0 v)) 0 16) r ⌝ }
+{
+    let mut r = [0u32; WORDS];
+    let mut k = 0;
+    while k < WORDS {
+        let first = (x[k] % ROW + FULL_ROW) / ROW;
+        let second = (x[k] / ROW + FULL_ROW) / ROW;
+        r[k] = (first + second * ROW) * FULL_ROW;
+        k += 1;
+    }
+    r
+}
+
+// The environments that are in x once some value is put into placeholder 1: every row is the or of all rows.
+fn some_row(x: [u32; WORDS]) -> [u32; WORDS]
+    ensures { λ r. ⌜ Has (λ (e : ℕ). someFrom (λ (v : ℕ). member x (put e 1 v)) 0 16) r ⌝ }
+{
+    let two = gathered(x);
+    let row = (two | two / ROW) & FULL_ROW;
+    [row * EACH_ROW; WORDS]
+}
+
+// The environments that are in x once some value below n is put into placeholder c.
+pub fn some(x: [u32; WORDS], c: usize, n: usize) -> [u32; WORDS]
+    requires { ⌜ (c < 2) × (n ≤ 16) ⌝ }
+    ensures { λ r. ⌜ Has (λ (e : ℕ). someFrom (λ (v : ℕ). member x (put e c v)) 0 n) r ⌝ }
+{
+    let few = without(x, reaching(c, n));
+    match c {
+        0 => some_column(few),
+        _ => some_row(few),
+    }
+}
+
 // Whether a bit of a word is set.
 fn has_bit(word: u32, at: usize) -> bool
     requires { ⌜ at < 32 ⌝ }
@@ -182,13 +236,7 @@ pub fn has(x: &[u32], e: usize) -> bool
 pub fn is_empty(x: [u32; WORDS]) -> bool
     ensures { λ r. ⌜ (r ≡ true → (e : ℕ) → e < 256 → member x e ≡ false) × (r ≡ false → (e : ℕ) × (e < 256) × (member x e ≡ true)) ⌝ }
 {
-    let mut any = 0;
-    let mut k = 0;
-    while k < WORDS {
-        any = any | x[k];
-        k += 1;
-    }
-    any == 0
+    gathered(x) == 0
 }
 
 // Set i of a table.

@@ -26,7 +26,7 @@ shared-slice-read-result-2 c = search needs
 returns : tie.Need-returns
 returns c =
     let at-start = c .before .before in
-    λ e. record { tag-small = ltb-true _ _ (and-left _ _ e); record-small = ltb-true _ _ (and-right (ltb (getD (now (at-start .args .work)) (at-start .args .i) 0) 16) _ e) }
+    λ e. record { tag-small = ltb-true _ _ (and-left _ _ e); number-small = ltb-true _ _ (and-right (ltb (getD (now (at-start .args .work)) (at-start .args .i) 0) 16) _ e) }
 
 pub is-coded-spec : {M : Type 1} → statement M
 is-coded-spec =

@@ -1,101 +1,71 @@
--- The loop lays a pair of nodes into one word after the other, and has tested these. Assumes nothing.
-use Prim.Native.Nat.{ℕ, _+_, _*_, _-_, _/_, _≤_, _<_}
-use mathlib.Core.Path.{_≡_, refl}
-use mathlib.Core.Bool.{true}
+-- In pairs where these hold every node, else a word each where these do. Assumes nothing.
+use mathlib.Core.Path.{refl, _∙_}
 use native.Mathlib.Omega.{arith}
-use Rattle.records.specs.Laid.{Laid}
-use Rattle.records.proofs.Laid.{laid-none, laid-more}
-use Rattle.records.proofs.Truth.{and-left, and-right}
-use Rattle.keys.specs.Packed.{pairAt, Coded}
-use Rattle.keys.proofs.Written.{coded-more}
+use Rattle.keys.proofs.Written.{written-over}
+use borrow.Author.Needs.{needs}
 use Rattle.keys.proofs.write_nodes.Statement.{statement}
 use Rattle.keys.proofs.write_nodes.Tie as tie
 
-abbrev Inv-loop : tie.InvT-loop
-Inv-loop key₀ to work from n coded₀ k₀ key coded k =
-    (k ≤ (n + 1) / 2)
-    × Laid to (λ (j : ℕ). pairAt work (from + 6 * j) (n - 2 * j)) key₀ key k
-    × (coded ≡ true → (j : ℕ) → j < 2 * k → j < n → Coded work (from + 3 * j))
+write-pairs-requires : tie.Need-write-pairs-requires
+write-pairs-requires c κs = search needs
 
-abbrev μ-loop : tie.MeasureT-loop
-μ-loop key₀ to work from n coded₀ k₀ key coded k = n - 2 * k
+add-t9 : tie.Need-add-t9
+add-t9 c = search needs
 
-loop-holds : tie.Need-loop-holds Inv-loop μ-loop
-loop-holds c = (omega arith, laid-none _ _ _, λ e j h l. absurd (omega arith))
+same-length : tie.Need-same-length
+same-length c = search needs
 
-mul-loop : tie.Need-mul-loop Inv-loop μ-loop
-mul-loop c = omega arith
-
-mul-i : tie.Need-mul-i Inv-loop μ-loop
-mul-i c = omega arith
-
-add-i : tie.Need-add-i Inv-loop μ-loop
-add-i c = omega arith
-
-mul-left : tie.Need-mul-left Inv-loop μ-loop
-mul-left c = omega arith
-
-sub-left : tie.Need-sub-left Inv-loop μ-loop
-sub-left c = omega arith
-
-pair-requires : tie.Need-pair-requires Inv-loop μ-loop
-pair-requires c κs = (omega arith, omega arith)
-
-add-key : tie.Need-add-key Inv-loop μ-loop
-add-key c = omega (arith, c .before .before .loop .inv .1 .len)
-
-mul-key : tie.Need-mul-key Inv-loop μ-loop
-mul-key c = omega (arith, c .before .before .loop .inv .1 .len)
-
-slice-write-key : tie.Need-slice-write-key Inv-loop μ-loop
-slice-write-key c = omega (arith, c .before .before .loop .inv .1 .len)
-
-is-coded-pair-requires : tie.Need-is-coded-pair-requires Inv-loop μ-loop
-is-coded-pair-requires c κs = (omega arith, omega arith)
-
-add-k : tie.Need-add-k Inv-loop μ-loop
-add-k c = omega arith
-
-loop-less : tie.Need-loop-less Inv-loop μ-loop
-loop-less c = omega arith
-
-loop-again : tie.Need-loop-again Inv-loop μ-loop
-loop-again c =
-    let at-loop = c .before .before .before in (
-      omega arith,
-      laid-more _ _ _ (at-loop .loop .inv .1) refl (omega arith) (c .before .pair .ensures),
-      λ e. coded-more _ _ _ _ (at-loop .loop .inv .2 (and-left _ _ e)) (c .is-coded-pair .ensures (and-right (at-loop .loop .coded) _ e)),
-    )
-
-same-length : tie.Need-same-length Inv-loop μ-loop
-same-length c = c .before .loop .inv .1 .len
-
-returns : tie.Need-returns Inv-loop μ-loop
+returns : tie.Need-returns
 returns c =
-    let at-loop = c .before in (
-      record { len = at-loop .loop .inv .1 .len; below = at-loop .loop .inv .1 .below; nodes-are = λ k h. at-loop .loop .inv .1 .laid k (omega arith) },
-      λ e k h. at-loop .loop .inv .2 e k (omega arith) h,
+    let at-write-pairs = c .before .before .before in
+    let N = at-write-pairs .write-pairs .ensures .0 in
+    (N .len, λ h. record { words-are = refl; inside = omega arith; coded = at-write-pairs .write-pairs .ensures .1 (c .if1 .taken); written = N })
+
+add-if2 : tie.Need-add-if2
+add-if2 c = search needs
+
+write-wide-requires : tie.Need-write-wide-requires
+write-wide-requires c κs = search needs
+
+same-length-2 : tie.Need-same-length-2
+same-length-2 c = search needs
+
+returns-2 : tie.Need-returns-2
+returns-2 c =
+    let at-write-wide = c .before .before .before in
+    let at-if2 = at-write-wide .before .before in
+    let at-write-pairs = at-if2 .before .before .before .before in
+    let M = at-write-pairs .write-pairs .ensures .0 in
+    let N = at-write-wide .write-wide .ensures .0 in (
+      N .len ∙ M .len,
+      λ h. record { words-are = refl; inside = omega (arith, M .len, at-if2 .if2 .taken); coded = at-write-wide .write-wide .ensures .1 (c .if3 .taken); written = written-over M N },
     )
+
+same-length-3 : tie.Need-same-length-3
+same-length-3 c = search needs
+
+returns-3 : tie.Need-returns-3
+returns-3 c = search needs
+
+same-length-4 : tie.Need-same-length-4
+same-length-4 c = search needs
+
+returns-4 : tie.Need-returns-4
+returns-4 c = search needs
 
 pub write-nodes-spec : {M : Type 1} → statement M
 write-nodes-spec =
     tie.close
     (tie.spec
-    Inv-loop
-    μ-loop
-    loop-holds
-    mul-loop
-    mul-i
-    add-i
-    mul-left
-    sub-left
-    pair-requires
-    add-key
-    mul-key
-    slice-write-key
-    is-coded-pair-requires
-    add-k
-    loop-less
-    loop-again
+    write-pairs-requires
+    add-t9
     same-length
-    returns)
+    returns
+    add-if2
+    write-wide-requires
+    same-length-2
+    returns-2
+    same-length-3
+    returns-3
+    same-length-4
+    returns-4)

@@ -48,7 +48,7 @@ same-length c = c .before .loop .inv .1 .len
 returns : tie.Need-returns Inv-loop μ-loop
 returns c =
     let at-loop = c .before in
-    record { len = at-loop .loop .inv .1 .len; head-kept = at-loop .loop .inv .1 .below 0 (omega arith); values-are = λ k h. at-loop .loop .inv .1 .laid k (omega arith) }
+    record { len = at-loop .loop .inv .1 .len; values-are = λ k h. at-loop .loop .inv .1 .laid k (omega arith) }
 
 pub write-values-spec : {M : Type 1} → statement M
 write-values-spec =
