@@ -11,7 +11,7 @@ fn depth(program: &Prog) -> usize {
     use Prog::*;
     match program {
         Nil | Act(_) | Start | Stop | Test(_) => 0,
-        Star(a) | While(_, a) | Iteration(a) | Interrupt(_, a) => 1 + depth(a),
+        Star(a) | While(_, a) | Iteration(a) | Interrupt(_, a) | Pick(_, a, _) => 1 + depth(a),
         Sequence(a, b) | Choice(a, b) | If(_, a, b) | Together(a, b) | Over(a, b) => 1 + depth(a).max(depth(b)),
     }
 }
