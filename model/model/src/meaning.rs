@@ -307,8 +307,8 @@ impl<'a> Moment<'a> {
         }
     }
 
-    /// Trans of the paper: hands `found` each transition in listed order, those of a before those of b, those for smaller
-    /// values first, and once for each branch that yields it, until `found` breaks off.
+    /// Trans of the paper: hands `found` each transition in listed order, those of a before those of b, those for
+    /// smaller values first, and once for each branch that yields it, until `found` breaks off.
     pub fn each<B>(&self, program: &Rc<Prog>, found: &mut dyn FnMut(Transition) -> ControlFlow<B>) -> ControlFlow<B> {
         use Prog::*;
         let this = || program.clone();

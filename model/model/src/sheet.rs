@@ -5,7 +5,8 @@ use crate::refusal::Refusal;
 use std::ops::Range;
 
 /// How many placeholders there are. Document 02, F-6 has two, 0 and 1; none until the verified library has them. What
-/// names a placeholder that does not exist breaks its rule: formula kinds 8 to 10, value bytes 16 and 17, program kind 12.
+/// names a placeholder that does not exist breaks its rule: formula kinds 8 to 10, value bytes 16 and 17, program kind
+/// 12.
 pub const PLACEHOLDERS: usize = 0;
 
 /// Fluent: domain size 1 to 16, initial value below it.

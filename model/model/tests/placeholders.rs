@@ -68,8 +68,8 @@ fn first_steps(sheet: &Sheet) -> Vec<(Option<u16>, Rc<Prog>)> {
     steps.map(|step| (step.entry, step.to.program)).collect()
 }
 
-/// "It has the steps of b for each such value": for smaller values first, whether b uses the value or not. "What remains of
-/// b carries the value."
+/// "It has the steps of b for each such value": for smaller values first, whether b uses the value or not. "What
+/// remains of b carries the value."
 #[test]
 fn steps_for_each_value() {
     let sheet = chosen(&[Program::Act(0), Program::Test(2), Program::Sequence(0, 1), Program::Pick(3, 2, 0)]);

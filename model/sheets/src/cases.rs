@@ -146,13 +146,13 @@ pub fn doubled() -> Records {
 ///
 /// Formulas: 0 true; 1 false; 2, 3 fluent 0 equals placeholder 0, 1; 4 not 2; 5, 6 for some, for every value below 3 in
 /// placeholder 0, formula 2; 7 formulas 2 and 3; 8 for some value below 3 in placeholder 0, formula 7; 9 for some value
-/// below 3 in placeholder 1, formula 8; 10 fluent 1 equals placeholder 0; 11 fluent 0 is 0; 12 for every value below 1 in
-/// placeholder 0, formula 4; 13 formulas 2 and 12; 14 for some value below 3 in placeholder 0, formula 13; 15 fluent 0 is
-/// 2; 16 not 15.
+/// below 3 in placeholder 1, formula 8; 10 fluent 1 equals placeholder 0; 11 fluent 0 is 0; 12 for every value below 1
+/// in placeholder 0, formula 4; 13 formulas 2 and 12; 14 for some value below 3 in placeholder 0, formula 13; 15 fluent
+/// 0 is 2; 16 not 15.
 ///
-/// Actions: 0 always; 1, 2 with precondition 2, 3; 3, 4 give fluent 0, 1 the value of placeholder 0; 5 gives fluent 0 those
-/// of placeholders 0 and 1; 6 gives it 3 and that of placeholder 0; 7 with precondition 2 gives it 0 if it is 2, else 2; 8
-/// gives it that of placeholder 0 if formula 3 holds.
+/// Actions: 0 always; 1, 2 with precondition 2, 3; 3, 4 give fluent 0, 1 the value of placeholder 0; 5 gives fluent 0
+/// those of placeholders 0 and 1; 6 gives it 3 and that of placeholder 0; 7 with precondition 2 gives it 0 if it is 2,
+/// else 2; 8 gives it that of placeholder 0 if formula 3 holds.
 pub fn choosing(programs: &[Program], bound: u16) -> Records {
     let mut records = Records { bound, ..Records::default() };
     records.fluent(4, 2);

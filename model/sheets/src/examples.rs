@@ -84,9 +84,9 @@ fn berth(bound: u16) -> Vec<u8> {
     source.sheet(&sequence([repeat_while(!any(rooms), choice(shifts)), choice(berths)]))
 }
 
-/// The same story by sections, each as long as a ship: four of eight are free, and ship E wants four in a row. The section
-/// that a ship is shifted to is chosen while running (document 02, F-6), so that there is one action for each ship and
-/// not one for each section too. It is no example yet, since the library refuses placeholders.
+/// The same story by sections, each as long as a ship: four of eight are free, and ship E wants four in a row. The
+/// section that a ship is shifted to is chosen while running (document 02, F-6), so that there is one action for each
+/// ship and not one for each section too. It is no example yet, since the library refuses placeholders.
 ///
 /// ```text
 /// A.B.C.D.   a letter or dot for a section

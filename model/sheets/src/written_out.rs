@@ -9,8 +9,8 @@ use std::collections::{BTreeSet, HashMap};
 /// The values of placeholders 0 and 1.
 type Pair = [u8; 2];
 
-/// A sheet that has no placeholder, and of each of its actions the entry that it stands for. They rise, so that histories
-/// keep their order.
+/// A sheet that has no placeholder, and of each of its actions the entry that it stands for. They rise, so that
+/// histories keep their order.
 pub struct WrittenOut {
     pub sheet: Sheet,
     pub entries: Vec<u16>,

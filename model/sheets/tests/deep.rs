@@ -2,8 +2,8 @@
 
 use model::meaning::{Configuration, Prog};
 use model::planner::{plan, Plan};
-use model::sheet::check;
-use sheets::deep::deep;
+use model::sheet::{check, check_with};
+use sheets::deep::{choosing, deep};
 use sheets::runs;
 
 /// The most links on a path down.
@@ -42,4 +42,17 @@ fn all_but_the_first_are_as_deep_as_they_get() {
         }
         assert_eq!(depth(&configuration.program), 16 + 63, "{}", deep.name);
     }
+}
+
+#[test]
+fn with_placeholders() {
+    for deep in choosing() {
+        let sheet = check_with(2, &deep.sheet).expect("the sheet is accepted");
+        assert_eq!(plan(&sheet), Ok(Plan { history: deep.history, transitions: 64 }), "{}", deep.name);
+        assert_eq!(runs::count(&sheet, sheet.bound + 1, usize::MAX), Some(65), "{}", deep.name);
+    }
+    let sheets = choosing().into_iter().map(|deep| check_with(2, &deep.sheet).expect("the sheet is accepted"));
+    let [choices, quantifiers] = &sheets.collect::<Vec<_>>()[..] else { panic!("two sheets") };
+    assert_eq!(choices.height(), 16);
+    assert!(quantifiers.formulas.len() > 400);
 }

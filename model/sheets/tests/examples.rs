@@ -62,8 +62,8 @@ fn case_3_has_document_01s_bytes() {
     assert_eq!(sheet[notes.end..], records.concat());
 }
 
-/// B goes to section 1 (action 1 with 1 in placeholder 0), C to section 7, and E is berthed at 2: `ABEEEEDC`. Nine actions,
-/// where one for each ship and section would make 37.
+/// B goes to section 1 (action 1 with 1 in placeholder 0), C to section 7, and E is berthed at 2: `ABEEEEDC`. Nine
+/// actions, where one for each ship and section would make 37.
 #[test]
 fn a_berth_is_chosen_while_running() {
     assert_eq!(printed_with(2, &chosen_berth(2)), "refused 14 0\n");

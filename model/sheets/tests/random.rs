@@ -55,8 +55,8 @@ fn fair_shares(placeholders: usize, kinds_of_programs: usize) {
     for share in [plans, nothing, more] {
         assert!(share * 4 > count);
     }
-    assert!(moves * 8 > count && interrupted * 6 > count && shared * 4 > count && nested * 100 > count);
-    assert!(kinds.len() == kinds_of_programs && kinds.values().all(|&reached| reached * 20 > count));
+    assert!(moves * 9 > count && interrupted * 6 > count && shared * 4 > count && nested * 100 > count);
+    assert!(kinds.len() == kinds_of_programs && kinds.values().all(|&reached| reached * 25 > count));
 }
 
 /// The histories of the runs of exactly so many transitions that end final.

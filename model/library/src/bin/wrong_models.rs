@@ -1,8 +1,8 @@
-//! That `compare` catches wrong models: breaks a copy of the model, one construct or one word of F-1, F-2, F-5 or F-6 at a
-//! time, and counts the sheets until the comparison with the library ends in a disagreement, for three seeds each. Edits
-//! of the meaning add runs, since the library searches sheets that have few runs by the broken model's count; those that
-//! find conflicts where there are none take runs away, and are caught before a search takes long. Edits of the first
-//! plan keep verdicts, so that it is the plan that differs. The test sees that each edit still applies.
+//! That `compare` catches wrong models: breaks a copy of the model, one construct or one word of F-1, F-2, F-5 or F-6
+//! at a time, and counts the sheets until the comparison with the library ends in a disagreement, for three seeds each.
+//! Edits of the meaning add runs, since the library searches sheets that have few runs by the broken model's count;
+//! those that find conflicts where there are none take runs away, and are caught before a search takes long. Edits of
+//! the first plan keep verdicts, so that it is the plan that differs. The test sees that each edit still applies.
 //!
 //! Edits of F-5 break the set of a sheet, which is all that the library's calls tell. There a subformula counts by
 //! itself, and no action is asked: that formulas' sets go through subformulas, and actions' sets through the conditions
@@ -152,8 +152,8 @@ const EDITS: [Edit; 34] = [
         "map(|x| 1 << (31 - x))"),
 ];
 
-/// Of document 02, F-6. A value byte of an effect that is hidden needs none: where it is outside its domain, the two effects
-/// give different values.
+/// Of document 02, F-6. A value byte of an effect that is hidden needs none: where it is outside its domain, the two
+/// effects give different values.
 #[rustfmt::skip]
 const EDITS_OF_PLACEHOLDERS: [Edit; 30] = [
     Edit("placeholders: 1 at the start",

@@ -226,7 +226,8 @@ pub fn small(random: &mut Random) -> Records {
         let links = records.programs.len();
         let leaf = program(random, &mut records, &LEAVES, links);
         if chooses {
-            choose(random, &mut records, leaf, 35);
+            let body = if random.percent(30) { while_matching(random, &mut records, leaf) } else { leaf };
+            choose(random, &mut records, body, 35);
         }
     }
     let inner: &[u16] = if random.percent(35) { &INTERRUPTED } else { &CALM };
@@ -286,6 +287,16 @@ fn choose(random: &mut Random, records: &mut Records, mut program: usize, chance
         }
     }
     program
+}
+
+/// A loop that is final for some values of a placeholder only: while a fluent equals it, or does not.
+fn while_matching(random: &mut Random, records: &mut Records, program: usize) -> usize {
+    let fluent = random.below(records.fluents.len());
+    let mut condition = records.formula(Formula::Matches(fluent, random.below(random.placeholders)));
+    if random.percent(70) {
+        condition = records.formula(Formula::Not(condition));
+    }
+    records.program(Program::While(condition, program))
 }
 
 /// A goal that does not hold at the start and an action that may reach it, or any goal.
