@@ -10,7 +10,7 @@ mod programs;
 
 use model::meaning::{Moment, State};
 use model::sheet::{check, Sheet};
-use sheets::cases::{cases, conflicts, doubled, edges, Case};
+use sheets::cases::{cases, conflicts, doubled, edges, placeholders, Case};
 use sheets::examples::examples;
 use sheets::random::{damaged, large, searchable, Random};
 use std::process::ExitCode;
@@ -58,7 +58,7 @@ fn random_cases(count: usize) -> Vec<Case> {
 
 fn main() -> ExitCode {
     let mut all = vec![named("doubled", doubled().bytes())];
-    let of_documents = [cases(), conflicts(), edges(), examples()].concat();
+    let of_documents = [cases(), conflicts(), placeholders(), edges(), examples()].concat();
     let short = of_documents.into_iter().filter(|case| case.sheet.len() <= MOST_BYTES);
     all.extend(short.map(|case| named(case.name, case.sheet)));
     all.extend(random_cases(200));

@@ -7,7 +7,7 @@
 mod programs;
 
 use model::program::printed;
-use sheets::cases::{cases, conflicts, edges, Case};
+use sheets::cases::{cases, conflicts, edges, placeholders, Case};
 use sheets::examples::examples;
 use sheets::random::{damaged, searchable, Random};
 use std::process::ExitCode;

@@ -6,7 +6,8 @@
 mod c;
 
 use library::{plan, replay, Answer};
-use sheets::deep::{deep, Deep};
+use model::sheet::PLACEHOLDERS;
+use sheets::deep::{choosing, deep, Deep};
 use std::path::Path;
 use std::process::ExitCode;
 
@@ -49,7 +50,8 @@ fn main() -> ExitCode {
     println!("bytes of stack that a call takes");
     println!("{:30}{}", "", CALLS.map(|call| format!("{call:>9}")).concat());
     let (mut most, mut allowed) = (0, 0);
-    for deep in deep() {
+    let with_placeholders = choosing().into_iter().filter(|_| PLACEHOLDERS > 0);
+    for deep in deep().into_iter().chain(with_placeholders) {
         goes_down(&deep);
         let mut row = format!("{:30}", deep.name);
         for call in CALLS {

@@ -13,6 +13,8 @@ impl Formula {
             Is(x, _) | Less(x, _) => vec![x],
             Equal(x, y) => vec![x, y],
             Not(_) | And(..) | Or(..) => vec![],
+            Matches(x, _) => vec![x],
+            ForSome(..) | ForEvery(..) => vec![],
         }
     }
 
@@ -20,8 +22,8 @@ impl Formula {
     fn parts(&self) -> Vec<usize> {
         use Formula::*;
         match *self {
-            True | False | Is(..) | Less(..) | Equal(..) => vec![],
-            Not(a) => vec![a],
+            True | False | Is(..) | Less(..) | Equal(..) | Matches(..) => vec![],
+            Not(a) | ForSome(_, a, _) | ForEvery(_, a, _) => vec![a],
             And(a, b) | Or(a, b) => vec![a, b],
         }
     }

@@ -67,8 +67,8 @@ pub fn lengths(sheet: &Sheet, history: &[u16]) -> Vec<usize> {
     lengths
 }
 
-/// Replay: whether some run of at most D transitions with this history ends final. An unknown entry is the entry of
-/// no transition, and so means no.
+/// Replay: whether some run of at most D transitions with this history ends final. An unknown entry, of 16,384 and more
+/// or with an action number that is not below A, is the entry of no transition, and so means no.
 pub fn replay(sheet: &Sheet, history: &[u16]) -> bool {
     !lengths(sheet, history).is_empty()
 }

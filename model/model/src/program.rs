@@ -2,7 +2,7 @@
 
 use crate::planner::{self, lent, Plan};
 use crate::refusal::Refusal;
-use crate::sheet::check;
+use crate::sheet::{check_with, PLACEHOLDERS};
 
 /// What the program lends to planning, and the most that it reads.
 const WORK: usize = 16_384;
@@ -11,14 +11,19 @@ const MOST_BYTES: usize = 16_384;
 
 /// What it prints for this input.
 pub fn printed(input: &[u8]) -> String {
+    printed_with(PLACEHOLDERS, input)
+}
+
+/// The same with so many placeholders.
+pub fn printed_with(placeholders: usize, input: &[u8]) -> String {
     if input.len() > MOST_BYTES {
         return "too long\n".to_string();
     }
-    lines(&plan(input))
+    lines(&plan(placeholders, input))
 }
 
-fn plan(bytes: &[u8]) -> Result<Plan, Refusal> {
-    let sheet = check(bytes)?;
+fn plan(placeholders: usize, bytes: &[u8]) -> Result<Plan, Refusal> {
+    let sheet = check_with(placeholders, bytes)?;
     lent(&sheet, Some(TRACE), WORK)?;
     planner::plan(&sheet)
 }

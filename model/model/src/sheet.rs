@@ -1,7 +1,13 @@
-//! "The sheet, read from its end" and numbers 1 to 9 and 12 of "Who can cause which number".
+//! "The sheet, read from its end" and numbers 1 to 9 and 12 of "Who can cause which number"; the records of document 02,
+//! F-6.
 
 use crate::refusal::Refusal;
 use std::ops::Range;
+
+/// How many placeholders there are. Document 02, F-6 has two, 0 and 1; none until the verified library has them. What
+/// names a placeholder that does not exist breaks its rule: formula kinds 8 to 10, value bytes 16 and 17, program kind
+/// 12.
+pub const PLACEHOLDERS: usize = 0;
 
 /// Fluent: domain size 1 to 16, initial value below it.
 #[derive(Clone, Copy, Debug, PartialEq, Eq)]
@@ -10,8 +16,9 @@ pub struct Fluent {
     pub initial: u8,
 }
 
-/// Formula, kinds 0 to 7 in this order. `Is`, `Less` hold a fluent and a value, `Equal` two fluents, the last three
-/// lower formulas.
+/// Formula, kinds 0 to 10 in this order. `Is`, `Less` hold a fluent and a value, `Equal` two fluents, the next three
+/// lower formulas. `Matches` holds a fluent and the placeholder that it equals; `ForSome`, `ForEvery` the number of
+/// values, the lower formula that holds for some or every one below it, and the placeholder.
 #[derive(Clone, Copy, Debug, PartialEq, Eq)]
 pub enum Formula {
     True,
@@ -22,6 +29,9 @@ pub enum Formula {
     Not(usize),
     And(usize, usize),
     Or(usize, usize),
+    Matches(usize, usize),
+    ForSome(u8, usize, usize),
+    ForEvery(u8, usize, usize),
 }
 
 /// Effect: where the condition formula holds, the fluent gets the value.
@@ -29,7 +39,14 @@ pub enum Formula {
 pub struct Effect {
     pub condition: usize,
     pub fluent: usize,
-    pub value: u8,
+    pub value: Value,
+}
+
+/// The value of an effect: one of the domain, or that of a placeholder (value bytes 16 and 17).
+#[derive(Clone, Copy, Debug, PartialEq, Eq)]
+pub enum Value {
+    Is(u8),
+    Placeholder(usize),
 }
 
 /// Action: precondition formula and a range of effects.
@@ -39,8 +56,9 @@ pub struct Action {
     pub effects: Range<usize>,
 }
 
-/// Program record, kinds 0 to 11 in this order. `Act` holds an action, `Test` a formula, and the others lower
-/// program records; a condition, where there is one, stands first.
+/// Program record, kinds 0 to 12 in this order. `Act` holds an action, `Test` a formula, and the others lower
+/// program records; a condition, where there is one, stands first. `Pick` holds the number of values, the program record
+/// that runs with one below it, and the placeholder.
 #[derive(Clone, Copy, Debug, PartialEq, Eq)]
 pub enum Program {
     Nil,
@@ -55,6 +73,7 @@ pub enum Program {
     Over(usize, usize),
     Iteration(usize),
     Interrupt(usize, usize),
+    Pick(u8, usize, usize),
 }
 
 impl Program {
@@ -63,7 +82,7 @@ impl Program {
         use Program::*;
         match *self {
             Nil | Act(_) | Test(_) => vec![],
-            Star(a) | While(_, a) | Iteration(a) | Interrupt(_, a) => vec![a],
+            Star(a) | While(_, a) | Iteration(a) | Interrupt(_, a) | Pick(_, a, _) => vec![a],
             Sequence(a, b) | Choice(a, b) | If(_, a, b) | Together(a, b) | Over(a, b) => vec![a, b],
         }
     }
@@ -113,6 +132,11 @@ const MOST_HEIGHT: usize = 16;
 
 /// Checks a sheet for the causes of numbers 1 to 9 in rising order.
 pub fn check(bytes: &[u8]) -> Result<Sheet, Refusal> {
+    check_with(PLACEHOLDERS, bytes)
+}
+
+/// The same with so many placeholders.
+pub fn check_with(placeholders: usize, bytes: &[u8]) -> Result<Sheet, Refusal> {
     // 1: under 18 bytes, or last two bytes wrong.
     if bytes.len() < TRAILER || !bytes.ends_with(&MARK) {
         return Err(Refusal::number(1));
@@ -137,10 +161,10 @@ pub fn check(bytes: &[u8]) -> Result<Sheet, Refusal> {
     // 4 to 8: a record breaks its rule or has an unknown kind.
     let mut rest = &front[notes.end..];
     let fluents = table(4, &mut rest, f, |_, record| fluent(record))?;
-    let formulas = table(5, &mut rest, q, |number, record| formula(record, number, &fluents))?;
-    let effects = table(6, &mut rest, e, |_, record| effect(record, q, &fluents))?;
+    let formulas = table(5, &mut rest, q, |number, record| formula(record, number, &fluents, placeholders))?;
+    let effects = table(6, &mut rest, e, |_, record| effect(record, q, &fluents, placeholders))?;
     let actions = table(7, &mut rest, a, |_, record| action(record, q, e))?;
-    let programs = table(8, &mut rest, p, |number, record| program(record, number, q, a))?;
+    let programs = table(8, &mut rest, p, |number, record| program(record, number, q, a, placeholders))?;
 
     // 9: height above 16.
     let sheet = Sheet { fluents, formulas, effects, actions, programs, bound: d, notes };
@@ -187,12 +211,22 @@ fn fluent([size, initial]: [u8; 2]) -> Option<Fluent> {
     ((1..=16).contains(&size) && initial < size).then_some(Fluent { size, initial })
 }
 
+/// Whether a choice or a quantifier can go through so many values.
+fn values(number: usize) -> bool {
+    (1..=16).contains(&number)
+}
+
 /// Whether `value` is inside the domain of a fluent that exists.
 fn in_domain(fluents: &[Fluent], fluent: usize, value: usize) -> bool {
     fluents.get(fluent).is_some_and(|f| value < usize::from(f.size))
 }
 
-fn formula([kind, x, a0, a1, b0, b1]: [u8; 6], number: usize, fluents: &[Fluent]) -> Option<Formula> {
+fn formula(
+    [kind, x, a0, a1, b0, b1]: [u8; 6],
+    number: usize,
+    fluents: &[Fluent],
+    placeholders: usize,
+) -> Option<Formula> {
     let exists = |x: usize| x < fluents.len();
     let lower = |n: usize| n < number;
     // A field that the kind does not use is matched with 0.
@@ -205,14 +239,29 @@ fn formula([kind, x, a0, a1, b0, b1]: [u8; 6], number: usize, fluents: &[Fluent]
         (5, 0, a, 0) if lower(a) => Some(Formula::Not(a)),
         (6, 0, a, b) if lower(a) && lower(b) => Some(Formula::And(a, b)),
         (7, 0, a, b) if lower(a) && lower(b) => Some(Formula::Or(a, b)),
+        (8, x, a, 0) if exists(x) && a < placeholders => Some(Formula::Matches(x, a)),
+        (9, x, a, b) if values(x) && lower(a) && b < placeholders => Some(Formula::ForSome(x as u8, a, b)),
+        (10, x, a, b) if values(x) && lower(a) && b < placeholders => Some(Formula::ForEvery(x as u8, a, b)),
         _ => None,
     }
 }
 
-fn effect([c0, c1, fluent, value]: [u8; 4], formulas: usize, fluents: &[Fluent]) -> Option<Effect> {
+fn effect(
+    [c0, c1, fluent, value]: [u8; 4],
+    formulas: usize,
+    fluents: &[Fluent],
+    placeholders: usize,
+) -> Option<Effect> {
     let condition = two_bytes(c0, c1);
     let fluent = usize::from(fluent);
-    let well_formed = condition < formulas && in_domain(fluents, fluent, usize::from(value));
+    let (value, inside) = match value {
+        0..=15 => (Value::Is(value), in_domain(fluents, fluent, usize::from(value))),
+        16.. => {
+            let placeholder = usize::from(value) - 16;
+            (Value::Placeholder(placeholder), placeholder < placeholders && fluent < fluents.len())
+        }
+    };
+    let well_formed = condition < formulas && inside;
     well_formed.then_some(Effect { condition, fluent, value })
 }
 
@@ -229,6 +278,7 @@ fn program(
     number: usize,
     formulas: usize,
     actions: usize,
+    placeholders: usize,
 ) -> Option<Program> {
     let lower = |p: usize| p < number;
     let exists = |c: usize| c < formulas;
@@ -246,6 +296,7 @@ fn program(
         (9, a, b, 0) if lower(a) && lower(b) => Some(Program::Over(a, b)),
         (10, a, 0, 0) if lower(a) => Some(Program::Iteration(a)),
         (11, a, 0, c) if lower(a) && exists(c) => Some(Program::Interrupt(c, a)),
+        (12, a, b, c) if values(a) && lower(b) && c < placeholders => Some(Program::Pick(a as u8, b, c)),
         _ => None,
     }
 }

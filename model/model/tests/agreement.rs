@@ -2,7 +2,7 @@
 
 use model::meaning::Configuration;
 use model::planner::{depth_first, judge, lengths, plan, replay, verdict, Plan};
-use model::sheet::{Action, Effect, Fluent, Formula, Program, Sheet};
+use model::sheet::{Action, Effect, Fluent, Formula, Program, Sheet, Value};
 use sheets::random::{near_miss, run, searchable, Random};
 use std::collections::BTreeSet;
 
@@ -34,7 +34,7 @@ fn plans(sheet: &Sheet) -> BTreeSet<(usize, Vec<u16>)> {
 
 #[test]
 fn the_plan_is_the_first_of_all() {
-    let mut random = Random::new(2);
+    let mut random = Random::with_placeholders(2, 2);
     for _ in 0..3000 {
         let (_, sheet) = searchable(&mut random, 3000);
         let first = plans(&sheet).pop_first().map(|(transitions, history)| Plan { history, transitions });
@@ -44,7 +44,7 @@ fn the_plan_is_the_first_of_all() {
 
 #[test]
 fn the_plain_search_has_the_same_verdict() {
-    let mut random = Random::new(12);
+    let mut random = Random::with_placeholders(12, 2);
     for _ in 0..3000 {
         let (_, sheet) = searchable(&mut random, 3000);
         let found = depth_first(&sheet);
@@ -58,7 +58,7 @@ fn the_plain_search_has_the_same_verdict() {
 
 #[test]
 fn layers_and_plain_recursion_agree() {
-    let mut random = Random::new(3);
+    let mut random = Random::with_placeholders(3, 2);
     for _ in 0..1000 {
         let (_, sheet) = searchable(&mut random, 300);
         let plans = plans(&sheet);
@@ -79,7 +79,7 @@ fn layers_and_plain_recursion_agree() {
 
 #[test]
 fn a_raised_bound_keeps_the_very_plan_and_keeps_13() {
-    let mut random = Random::new(4);
+    let mut random = Random::with_placeholders(4, 2);
     for _ in 0..3000 {
         let (_, sheet) = searchable(&mut random, 300);
         let raised = Sheet { bound: random.between(sheet.bound, 64), ..sheet.clone() };
@@ -101,7 +101,7 @@ fn without_interrupts(sheet: &Sheet) -> Sheet {
     let [yes, no, runs] = [formulas, formulas + 1, formulas + 2];
     let (actions, effects) = (sheet.actions.len(), sheet.effects.len());
     for (number, value) in [(effects, 1), (effects + 1, 0)] {
-        sheet.effects.push(Effect { condition: yes, fluent: running, value });
+        sheet.effects.push(Effect { condition: yes, fluent: running, value: Value::Is(value) });
         sheet.actions.push(Action { precondition: yes, effects: number..number + 1 });
     }
 
@@ -140,7 +140,7 @@ fn without_interrupts(sheet: &Sheet) -> Sheet {
 
 #[test]
 fn interrupts_are_the_loops_of_the_paper() {
-    let mut random = Random::new(11);
+    let mut random = Random::with_placeholders(11, 0);
     let mut interrupted = 0;
     while interrupted < 500 {
         let (_, sheet) = searchable(&mut random, 3000);
@@ -190,7 +190,7 @@ fn without_conflicts(sheet: &Sheet) -> Sheet {
 
 #[test]
 fn a_conflict_is_like_a_precondition_that_fails() {
-    let mut random = Random::new(15);
+    let mut random = Random::with_placeholders(15, 0);
     for _ in 0..3000 {
         let (_, sheet) = searchable(&mut random, 3000);
         assert_eq!(plan(&sheet), plan(&without_conflicts(&sheet)));

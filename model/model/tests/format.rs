@@ -1,7 +1,7 @@
 //! "The sheet, read from its end" and numbers 1 to 9 and 12.
 
 use model::refusal::Refusal;
-use model::sheet::{check, look_up, sizes, Fluent, Formula, Program, Sheet};
+use model::sheet::{check, check_with, look_up, sizes, Fluent, Formula, Program, Sheet};
 use sheets::write::Records;
 use std::collections::BTreeSet;
 
@@ -29,8 +29,16 @@ fn number_of(bytes: &[u8]) -> u8 {
     check(bytes).map_or_else(|refusal| refusal.number, |_| 0)
 }
 
+/// With so many placeholders.
+fn refusal_with(placeholders: usize, records: &Records) -> Option<(u8, usize)> {
+    check_with(placeholders, &records.bytes()).err().map(|Refusal { number, place }| (number, place))
+}
+
+/// Of a sheet that has none: the same whether there are placeholders or not.
 fn refusal(records: &Records) -> Option<(u8, usize)> {
-    check(&records.bytes()).err().map(|Refusal { number, place }| (number, place))
+    let [none, two] = [0, 2].map(|placeholders| refusal_with(placeholders, records));
+    assert_eq!(none, two);
+    none
 }
 
 /// The sheet's bytes with one two-byte number of the trailer replaced: 0 to 4 the counts, 5 the bound.
@@ -156,16 +164,56 @@ fn number_5_formulas() {
             assert_eq!(refusal(&records), Some((5, 2)), "{fields:?}");
         }
     }
-    for kind in [8, 9, 255] {
+    for kind in [11, 12, 255] {
         let mut records = base();
         records.formulas[2] = ([kind, 0], [0, 0]);
         assert_eq!(refusal(&records), Some((5, 2)));
     }
 }
 
+/// Document 02, F-6: kind 8, "fluent x equals placeholder a (0 or 1), b 0"; kinds 9 and 10, a value below x (1 to 16) in
+/// placeholder b, formula a, numbered lower.
+#[test]
+fn number_5_formulas_about_placeholders() {
+    let with = |fields| Records { formulas: [&base().formulas[..2], &[fields]].concat(), ..base() };
+    let good = [
+        ([8, 0], [0, 0]),
+        ([8, 2], [1, 0]),
+        ([9, 1], [0, 0]),
+        ([9, 16], [1, 1]),
+        ([10, 1], [0, 0]),
+        ([10, 16], [1, 1]),
+    ];
+    for fields in good {
+        assert_eq!(refusal_with(2, &with(fields)), None, "{fields:?}");
+        assert_eq!(refusal_with(0, &with(fields)), Some((5, 2)), "{fields:?}");
+    }
+    let faulty = [
+        ([8, 3], [0, 0]),
+        ([8, 255], [0, 0]),
+        ([8, 0], [2, 0]),
+        ([8, 0], [256, 0]),
+        ([8, 0], [0, 1]),
+        ([9, 0], [1, 1]),
+        ([9, 17], [1, 1]),
+        ([9, 255], [1, 1]),
+        ([9, 16], [2, 1]),
+        ([9, 16], [1, 2]),
+        ([9, 16], [1, 256]),
+        ([10, 0], [1, 1]),
+        ([10, 17], [1, 1]),
+        ([10, 16], [2, 1]),
+        ([10, 16], [65535, 1]),
+        ([10, 16], [1, 2]),
+    ];
+    for fields in faulty {
+        assert_eq!(refusal(&with(fields)), Some((5, 2)), "{fields:?}");
+    }
+}
+
 #[test]
 fn number_6_effects() {
-    for effect in [(3, [0, 0]), (65535, [0, 0]), (0, [3, 0]), (0, [255, 0]), (0, [0, 3]), (0, [1, 16]), (0, [2, 1])] {
+    for effect in [(3, [0, 0]), (65535, [0, 0]), (0, [3, 0]), (0, [255, 0]), (0, [0, 3]), (0, [1, 18]), (0, [2, 1])] {
         let mut records = base();
         records.effects[1] = effect;
         assert_eq!(refusal(&records), Some((6, 1)), "{effect:?}");
@@ -174,6 +222,19 @@ fn number_6_effects() {
         let mut records = base();
         records.effects[1] = effect;
         assert_eq!(refusal(&records), None, "{effect:?}");
+    }
+}
+
+/// Document 02, F-6: value bytes 16 and 17, on any fluent.
+#[test]
+fn number_6_effects_by_placeholders() {
+    let with = |effect| Records { effects: vec![base().effects[0], effect], ..base() };
+    for effect in [(0, [0, 16]), (2, [0, 17]), (0, [1, 16]), (0, [1, 17]), (0, [2, 16]), (0, [2, 17])] {
+        assert_eq!(refusal_with(2, &with(effect)), None, "{effect:?}");
+        assert_eq!(refusal_with(0, &with(effect)), Some((6, 1)), "{effect:?}");
+    }
+    for effect in [(3, [0, 16]), (65535, [0, 17]), (0, [3, 16]), (0, [255, 17]), (0, [0, 18]), (0, [1, 255])] {
+        assert_eq!(refusal(&with(effect)), Some((6, 1)), "{effect:?}");
     }
 }
 
@@ -218,10 +279,38 @@ fn number_8_programs() {
             assert_eq!(refusal(&records), Some((8, 3)), "{:?}", records.programs[3]);
         }
     }
-    for kind in [12, 256, 65535] {
+    for kind in [13, 256, 65535] {
         let mut records = base();
         records.programs[3][0] = kind;
         assert_eq!(refusal(&records), Some((8, 3)));
+    }
+}
+
+/// Document 02, F-6: kind 12, a value below a (1 to 16) in placeholder c (0 or 1), b a lower program record.
+#[test]
+fn number_8_choices_of_a_value() {
+    let with = |fields| {
+        let mut records = base();
+        records.programs[3] = fields;
+        records
+    };
+    for fields in [[12, 1, 0, 0], [12, 16, 2, 1], [12, 16, 0, 0]] {
+        assert_eq!(refusal_with(2, &with(fields)), None, "{fields:?}");
+        assert_eq!(refusal_with(0, &with(fields)), Some((8, 3)), "{fields:?}");
+    }
+    let faulty = [
+        [12, 0, 0, 0],
+        [12, 17, 0, 0],
+        [12, 257, 0, 0],
+        [12, 65535, 0, 0],
+        [12, 1, 3, 0],
+        [12, 1, 65535, 0],
+        [12, 1, 0, 2],
+        [12, 1, 0, 256],
+        [268, 1, 0, 0],
+    ];
+    for fields in faulty {
+        assert_eq!(refusal(&with(fields)), Some((8, 3)), "{fields:?}");
     }
 }
 

@@ -1,13 +1,18 @@
 //! "Steps and endings": every kind's steps and finality, one test a kind (000, sections 4 and 5); the truth of formulas.
 
 use model::meaning::Prog::*;
-use model::meaning::{Moment, Prog, State};
+use model::meaning::{Instance, Moment, Prog, State};
 use model::sheet::{check, Formula, Program, Sheet};
 use sheets::write::Records;
 use std::rc::Rc;
 
-const YES: usize = 0;
-const NO: usize = 1;
+/// Formulas and actions with 0 put in for both placeholders.
+const fn at_start(number: usize) -> Instance {
+    Instance { number, values: [0, 0] }
+}
+
+const YES: Instance = at_start(0);
+const NO: Instance = at_start(1);
 
 /// Formula 0 is true, formula 1 false; actions 0 and 2 are possible, action 1 is not; nothing changes a value.
 fn sheet() -> Sheet {
@@ -16,7 +21,7 @@ fn sheet() -> Sheet {
     records.formula(Formula::True);
     records.formula(Formula::False);
     for precondition in [YES, NO, YES] {
-        records.action(precondition, 0, 0);
+        records.action(precondition.number, 0, 0);
     }
     records.program(Program::Nil);
     check(&records.bytes()).expect("the sheet is accepted")
@@ -46,7 +51,7 @@ fn nil() -> Rc<Prog> {
 }
 
 fn act(action: usize) -> Rc<Prog> {
-    Rc::new(Act(action))
+    Rc::new(Act(at_start(action)))
 }
 
 /// A program that is final and has a step: star(act 0), and what that step leaves.
@@ -66,9 +71,9 @@ fn kind_0_nil() {
 
 #[test]
 fn kind_1_act() {
-    assert_eq!(steps(Act(0)), [(Some(0), nil())]);
-    assert_eq!(steps(Act(1)), []);
-    assert!(!is_final(Act(0)) && !is_final(Act(1)));
+    assert_eq!(steps(Act(at_start(0))), [(Some(0), nil())]);
+    assert_eq!(steps(Act(at_start(1))), []);
+    assert!(!is_final(Act(at_start(0))) && !is_final(Act(at_start(1))));
 }
 
 #[test]

@@ -1,5 +1,5 @@
 //! Document 01, "A quay of three sections": its cases and edges, each with what the program prints; case 13 by F-2 of
-//! document 02, with more cases beside it. A sheet for F-5.
+//! document 02, with more cases beside it. A sheet for F-5. Cases for F-6.
 
 use crate::write::Records;
 use model::sheet::Formula;
@@ -139,6 +139,151 @@ pub fn doubled() -> Records {
     }
     records.program(Act(0));
     records
+}
+
+/// Document 02, F-6: two fluents of sizes 4 and 16, at first 2 and 9, with formulas and actions about placeholders, and
+/// these program records.
+///
+/// Formulas: 0 true; 1 false; 2, 3 fluent 0 equals placeholder 0, 1; 4 not 2; 5, 6 for some, for every value below 3 in
+/// placeholder 0, formula 2; 7 formulas 2 and 3; 8 for some value below 3 in placeholder 0, formula 7; 9 for some value
+/// below 3 in placeholder 1, formula 8; 10 fluent 1 equals placeholder 0; 11 fluent 0 is 0; 12 for every value below 1
+/// in placeholder 0, formula 4; 13 formulas 2 and 12; 14 for some value below 3 in placeholder 0, formula 13; 15 fluent
+/// 0 is 2; 16 not 15.
+///
+/// Actions: 0 always; 1, 2 with precondition 2, 3; 3, 4 give fluent 0, 1 the value of placeholder 0; 5 gives fluent 0
+/// those of placeholders 0 and 1; 6 gives it 3 and that of placeholder 0; 7 with precondition 2 gives it 0 if it is 2,
+/// else 2; 8 gives it that of placeholder 0 if formula 3 holds.
+pub fn choosing(programs: &[Program], bound: u16) -> Records {
+    let mut records = Records { bound, ..Records::default() };
+    records.fluent(4, 2);
+    records.fluent(16, 9);
+    let formulas = [
+        Formula::True,
+        Formula::False,
+        Formula::Matches(0, 0),
+        Formula::Matches(0, 1),
+        Formula::Not(2),
+        Formula::ForSome(3, 2, 0),
+        Formula::ForEvery(3, 2, 0),
+        Formula::And(2, 3),
+        Formula::ForSome(3, 7, 0),
+        Formula::ForSome(3, 8, 1),
+        Formula::Matches(1, 0),
+        Formula::Is(0, 0),
+        Formula::ForEvery(1, 4, 0),
+        Formula::And(2, 12),
+        Formula::ForSome(3, 13, 0),
+        Formula::Is(0, 2),
+        Formula::Not(15),
+    ];
+    for formula in formulas {
+        records.formula(formula);
+    }
+    let actions: [(usize, &[Effect]); 9] = [
+        (0, &[]),
+        (2, &[]),
+        (3, &[]),
+        (0, &[(0, 0, 16)]),
+        (0, &[(0, 1, 16)]),
+        (0, &[(0, 0, 16), (0, 0, 17)]),
+        (0, &[(0, 0, 3), (0, 0, 16)]),
+        (2, &[(15, 0, 0), (16, 0, 2)]),
+        (0, &[(3, 0, 16)]),
+    ];
+    for (precondition, effects) in actions {
+        let first = records.effects.len();
+        for (condition, fluent, value) in effects {
+            records.effect(*condition, *fluent, *value);
+        }
+        records.action(precondition, first, effects.len());
+    }
+    for program in programs {
+        records.program(*program);
+    }
+    records
+}
+
+/// Document 02, F-6: choices of a value, quantifiers, effects that give the value of a placeholder, and entries.
+pub fn placeholders() -> Vec<Case> {
+    let case = |name, programs: &[Program], bound, printed| {
+        Case::new(format!("F-6, {name}"), choosing(programs, bound).bytes(), printed)
+    };
+    vec![
+        case("0 at the start", &[Act(0)], 1, "found 1 1\n0\n"),
+        case("0 at the start, which fluent 0 is not", &[Act(1)], 1, "refused 13 0\n"),
+        case("the value that equals a fluent", &[Act(1), Pick(4, 0, 0)], 1, "found 1 1\n129\n"),
+        case("the same in placeholder 1", &[Act(2), Pick(16, 0, 1)], 1, "found 1 1\n2050\n"),
+        case("values below 3", &[Act(1), Pick(3, 0, 0)], 1, "found 1 1\n129\n"),
+        case("values below 2", &[Act(1), Pick(2, 0, 0)], 1, "refused 13 0\n"),
+        case("one value", &[Act(0), Pick(1, 0, 0)], 1, "found 1 1\n0\n"),
+        case("the other placeholder", &[Act(1), Pick(4, 0, 1)], 1, "refused 13 0\n"),
+        case("choosing is no transition", &[Nil, Pick(16, 0, 0)], 0, "found 0 0\n"),
+        case(
+            "what remains carries the value",
+            &[Act(1), Act(0), Sequence(0, 1), Pick(4, 2, 0)],
+            2,
+            "found 2 2\n129\n128\n",
+        ),
+        case("nothing outside does", &[Act(1), Pick(4, 0, 0), Act(0), Sequence(1, 2)], 2, "found 2 2\n129\n0\n"),
+        case("nothing outside does, together", &[Act(1), Pick(4, 0, 0), Together(1, 0)], 2, "refused 13 0\n"),
+        case(
+            "an inner choice hides",
+            &[Act(0), Pick(1, 0, 0), Act(1), Sequence(2, 1), Pick(4, 3, 0)],
+            2,
+            "found 2 2\n129\n0\n",
+        ),
+        case(
+            "after an inner choice",
+            &[Act(0), Pick(1, 0, 0), Act(1), Sequence(1, 2), Pick(4, 3, 0)],
+            2,
+            "found 2 2\n0\n129\n",
+        ),
+        case(
+            "both placeholders",
+            &[Test(7), Act(0), Sequence(0, 1), Pick(4, 2, 0), Pick(4, 3, 1)],
+            2,
+            "found 1 2\n2176\n",
+        ),
+        case("a loop around a choice", &[Act(7), Pick(4, 0, 0), Sequence(1, 1)], 2, "found 2 2\n135\n7\n"),
+        case(
+            "a star around a choice",
+            &[Act(7), Pick(4, 0, 0), Star(1), Test(11), Sequence(2, 3)],
+            4,
+            "found 1 2\n135\n",
+        ),
+        case("a loop inside a choice", &[Act(7), Sequence(0, 0), Pick(4, 1, 0)], 2, "refused 13 0\n"),
+        case("over, a step for some value", &[Act(1), Pick(4, 0, 0), Star(1), Act(0), Over(2, 3)], 2, "refused 14 0\n"),
+        case("over, a step for no value", &[Act(1), Pick(2, 0, 0), Star(1), Act(0), Over(2, 3)], 2, "found 1 1\n0\n"),
+        case("final for some value", &[Test(1), While(4, 0), Pick(3, 1, 0)], 0, "found 0 0\n"),
+        case("final for no value", &[Test(1), While(4, 0), Pick(2, 1, 0)], 0, "refused 13 0\n"),
+        case("for some value", &[Test(5)], 1, "found 0 1\n"),
+        case("for every value", &[Test(6)], 1, "refused 13 0\n"),
+        case("a placeholder beside the quantifier's", &[Test(8)], 1, "refused 13 0\n"),
+        case("which is chosen", &[Test(8), Pick(3, 0, 1)], 1, "found 0 1\n"),
+        case("for some, for some", &[Test(9)], 1, "found 0 1\n"),
+        case("a quantifier hides another", &[Test(14)], 1, "found 0 1\n"),
+        case("a quantifier hides a choice", &[Test(5), Pick(1, 0, 0)], 1, "found 0 1\n"),
+        case("an effect gives the value", &[Act(3), Test(11), Sequence(0, 1), Pick(4, 2, 0)], 2, "found 1 2\n3\n"),
+        case("a value outside the domain", &[Test(10), Act(3), Sequence(0, 1), Pick(16, 2, 0)], 2, "refused 13 0\n"),
+        case("the same of a larger domain", &[Test(10), Act(4), Sequence(0, 1), Pick(16, 2, 0)], 2, "found 1 2\n580\n"),
+        case("outside, but not holding", &[Test(10), Act(8), Sequence(0, 1), Pick(16, 2, 0)], 2, "found 1 2\n584\n"),
+        case(
+            "16 and 17 agree",
+            &[Test(2), Act(5), Sequence(0, 1), Pick(4, 2, 0), Pick(4, 3, 1)],
+            2,
+            "found 1 2\n2181\n",
+        ),
+        case("16 and 17 differ", &[Test(2), Act(5), Sequence(0, 1), Pick(4, 2, 0)], 2, "refused 13 0\n"),
+        case("3 and 16 agree", &[Act(6), Pick(16, 0, 0)], 1, "found 1 1\n198\n"),
+        case("3 and 16 differ", &[Act(6), Pick(3, 0, 0)], 1, "refused 13 0\n"),
+        case("start and stop", &[Nil, Interrupt(1, 0), Act(1), Pick(4, 2, 0)], 3, "found 3 3\n65534\n129\n65535\n"),
+        case(
+            "an interrupt in a choice",
+            &[Act(7), Interrupt(2, 0), Pick(4, 1, 0)],
+            3,
+            "found 3 3\n65534\n135\n65535\n",
+        ),
+    ]
 }
 
 /// The edges of a sheet and of the program's input, on case 3 or on nil.

@@ -54,6 +54,22 @@ pub fn deep() -> Vec<Deep> {
     sheets
 }
 
+/// Document 02, F-6: each move by a value that is chosen, through as many choices as the height allows; and each move
+/// under as many quantifiers as there is room for, where the remaining program stays flat.
+pub fn choosing() -> Vec<Deep> {
+    let [digit, other] = [Placeholder(0), Placeholder(1)];
+    let by_choices = |Parts { count, .. }| {
+        let chosen = pick(16, digit, count);
+        iteration((0..13).fold(chosen, |inside, _| pick(1, other, inside)))
+    };
+    let mut choices = counting_where("iteration of choices", 64, |low, less| low.matches(digit) & less, by_choices);
+    choices.history = (0..64).map(|counted| counted % 16 * 64).collect();
+    let quantified = |low: Fluent, less| {
+        (0..200).fold(low.matches(digit) & less, |inside, _| for_every(16, other, for_some(16, digit, inside)))
+    };
+    vec![choices, counting_where("star under quantifiers", 64, quantified, |Parts { count, .. }| star(count))]
+}
+
 fn nested(times: usize, inside: Program, other: &Program, around: Around) -> Program {
     (0..times).fold(inside, |inside, _| around(inside, other))
 }
@@ -70,6 +86,16 @@ struct Parts {
 
 /// A sheet that counts to so many. Its program stands together with one that is final once all is counted.
 fn counting(name: &'static str, to: usize, program: impl Fn(Parts) -> Program) -> Deep {
+    counting_where(name, to, |_, less| less, program)
+}
+
+/// The same where counting has a precondition made of the lower digit and that not all is counted.
+fn counting_where(
+    name: &'static str,
+    to: usize,
+    precondition: impl Fn(Fluent, Condition) -> Condition,
+    program: impl Fn(Parts) -> Program,
+) -> Deep {
     let mut source = Source::new(name, 64);
     let low = source.fluent("counted, lower digit", 16, 0);
     let high = source.fluent("counted, higher digit", 5, 0);
@@ -77,7 +103,7 @@ fn counting(name: &'static str, to: usize, program: impl Fn(Parts) -> Program) -
     let mut effects = low.goes_up();
     effects.push(low.gets(0).when(low.is(15)));
     effects.extend(high.values().skip(1).map(|value| high.gets(value).when(high.is(value - 1) & low.is(15))));
-    let count = source.action("count", !counted(to), effects);
+    let count = source.action("count", precondition(low, !counted(to)), effects);
     let copies = repeat_while(counted(0), iteration(count.clone()));
     let end = repeat_while(!counted(to), test(FALSE));
     let sheet = source.sheet(&together([program(Parts { count, copies, end: end.clone() }), end]));

@@ -84,6 +84,38 @@ fn berth(bound: u16) -> Vec<u8> {
     source.sheet(&sequence([repeat_while(!any(rooms), choice(shifts)), choice(berths)]))
 }
 
+/// The same story by sections, each as long as a ship: four of eight are free, and ship E wants four in a row. The
+/// section that a ship is shifted to is chosen while running (document 02, F-6), so that there is one action for each
+/// ship and not one for each section too. It is no example yet, since the library refuses placeholders.
+///
+/// ```text
+/// A.B.C.D.   a letter or dot for a section
+/// ```
+pub fn chosen_berth(bound: u16) -> Vec<u8> {
+    const SECTIONS: u8 = 8;
+    const WANTED: usize = 4;
+    let section = Placeholder(0);
+    let mut source = Source::new("A berth of four sections, by shifts to sections that are chosen", bound);
+    let ships = ["A", "B", "C", "D"];
+    let places =
+        [0, 1, 2, 3].map(|ship| source.fluent(&format!("section of ship {}", ships[ship]), SECTIONS, 2 * ship as u8));
+    let e = source.fluent("ship E: 0 outside, else its first section and one", 6, 0);
+
+    let free = all(places.map(|place| !place.matches(section)));
+    let shifts = [0, 1, 2, 3].map(|ship| {
+        let name = format!("shift {} to the chosen section", ships[ship]);
+        source.action(&name, free.clone(), [places[ship].takes(section)])
+    });
+    let (mut berths, mut rooms) = (vec![], vec![]);
+    for first in 0..=usize::from(SECTIONS) - WANTED {
+        let room = all(places.map(|place| place.below(first) | !place.below(first + WANTED)));
+        berths.push(source.action(&format!("berth E at section {first}"), room.clone(), [e.gets(first + 1)]));
+        rooms.push(room);
+    }
+    let shift = pick(SECTIONS, section, choice(shifts));
+    source.sheet(&sequence([repeat_while(!any(rooms), shift), choice(berths)]))
+}
+
 /// Three cars are loaded, and each leaves its blocks on the ramp: clearing the ramp goes over loading.
 fn priority() -> Vec<u8> {
     let mut source = Source::new("Ramp clear over loading", 7);

@@ -9,3 +9,4 @@ pub mod random;
 pub mod runs;
 pub mod source;
 pub mod write;
+pub mod written_out;

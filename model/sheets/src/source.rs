@@ -6,6 +6,10 @@ use model::sheet;
 use std::ops::{BitAnd, BitOr, Not};
 use std::rc::Rc;
 
+/// A placeholder (document 02, F-6).
+#[derive(Clone, Copy)]
+pub struct Placeholder(pub usize);
+
 /// A fluent of the source.
 #[derive(Clone, Copy)]
 pub struct Fluent {
@@ -28,9 +32,19 @@ impl Fluent {
         Condition::Leaf(sheet::Formula::Less(self.number, value.min(self.size.into())))
     }
 
+    /// Its value is that of the placeholder.
+    pub fn matches(self, placeholder: Placeholder) -> Condition {
+        Condition::Leaf(sheet::Formula::Matches(self.number, placeholder.0))
+    }
+
     /// The effect that gives it this value.
     pub fn gets(self, value: usize) -> Effect {
         Effect { condition: TRUE, fluent: self, value }
+    }
+
+    /// The effect that gives it the value of the placeholder.
+    pub fn takes(self, placeholder: Placeholder) -> Effect {
+        self.gets(16 + placeholder.0)
     }
 
     /// The effects that add one to it, up to its highest value.
@@ -51,6 +65,8 @@ pub enum Condition {
     Not(Rc<Condition>),
     And(Rc<Condition>, Rc<Condition>),
     Or(Rc<Condition>, Rc<Condition>),
+    ForSome(u8, Rc<Condition>, Placeholder),
+    ForEvery(u8, Rc<Condition>, Placeholder),
 }
 
 pub const TRUE: Condition = Condition::Leaf(sheet::Formula::True);
@@ -87,7 +103,17 @@ pub fn any(conditions: impl IntoIterator<Item = Condition>) -> Condition {
     conditions.into_iter().reduce(|a, b| a | b).unwrap_or(FALSE)
 }
 
-/// An effect of an action.
+/// It holds for some value of the placeholder below this number.
+pub fn for_some(values: u8, placeholder: Placeholder, condition: Condition) -> Condition {
+    Condition::ForSome(values, Rc::new(condition), placeholder)
+}
+
+/// It holds for every one.
+pub fn for_every(values: u8, placeholder: Placeholder, condition: Condition) -> Condition {
+    Condition::ForEvery(values, Rc::new(condition), placeholder)
+}
+
+/// An effect of an action; a value of 16 or 17 is that of a placeholder.
 #[derive(Clone)]
 pub struct Effect {
     condition: Condition,
@@ -114,6 +140,7 @@ pub enum Program {
     Over(Rc<Program>, Rc<Program>),
     Iteration(Rc<Program>),
     Interrupt(Condition, Rc<Program>),
+    Pick(u8, Rc<Program>, Placeholder),
 }
 
 pub fn test(condition: Condition) -> Program {
@@ -155,6 +182,11 @@ pub fn iteration(program: Program) -> Program {
 
 pub fn interrupt(condition: Condition, program: Program) -> Program {
     Program::Interrupt(condition, Rc::new(program))
+}
+
+/// The program for some value of the placeholder below this number.
+pub fn pick(values: u8, placeholder: Placeholder, program: Program) -> Program {
+    Program::Pick(values, Rc::new(program), placeholder)
 }
 
 /// Joins programs in their order to a tree of least height.
@@ -214,6 +246,12 @@ impl Source {
             Condition::Not(a) => sheet::Formula::Not(self.formula(a)),
             Condition::And(a, b) => sheet::Formula::And(self.formula(a), self.formula(b)),
             Condition::Or(a, b) => sheet::Formula::Or(self.formula(a), self.formula(b)),
+            Condition::ForSome(values, a, placeholder) => {
+                sheet::Formula::ForSome(*values, self.formula(a), placeholder.0)
+            }
+            Condition::ForEvery(values, a, placeholder) => {
+                sheet::Formula::ForEvery(*values, self.formula(a), placeholder.0)
+            }
         };
         let number = self.records.formula(formula);
         only_once(&mut self.records.formulas, number)
@@ -232,6 +270,7 @@ impl Source {
             Program::Over(a, b) => sheet::Program::Over(self.program(a), self.program(b)),
             Program::Iteration(a) => sheet::Program::Iteration(self.program(a)),
             Program::Interrupt(c, a) => sheet::Program::Interrupt(self.formula(c), self.program(a)),
+            Program::Pick(values, a, placeholder) => sheet::Program::Pick(*values, self.program(a), placeholder.0),
         };
         let number = self.records.program(record);
         only_once(&mut self.records.programs, number)

@@ -38,11 +38,15 @@ impl Records {
             Formula::Not(a) => (5, 0, a, 0),
             Formula::And(a, b) => (6, 0, a, b),
             Formula::Or(a, b) => (7, 0, a, b),
+            Formula::Matches(x, a) => (8, x, a, 0),
+            Formula::ForSome(x, a, b) => (9, usize::from(x), a, b),
+            Formula::ForEvery(x, a, b) => (10, usize::from(x), a, b),
         };
         self.formulas.push(([kind, byte(x)], [a, b].map(number)));
         self.formulas.len() - 1
     }
 
+    /// The value is a byte: 16 and 17 mean placeholders 0 and 1.
     pub fn effect(&mut self, condition: usize, fluent: usize, value: u8) -> usize {
         self.effects.push((number(condition), [byte(fluent), value]));
         self.effects.len() - 1
@@ -67,6 +71,7 @@ impl Records {
             Program::Over(a, b) => [9, a, b, 0],
             Program::Iteration(a) => [10, a, 0, 0],
             Program::Interrupt(c, a) => [11, a, 0, c],
+            Program::Pick(a, b, c) => [12, usize::from(a), b, c],
         };
         self.programs.push(fields.map(number));
         self.programs.len() - 1

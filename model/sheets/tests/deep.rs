@@ -2,8 +2,8 @@
 
 use model::meaning::{Configuration, Prog};
 use model::planner::{plan, Plan};
-use model::sheet::check;
-use sheets::deep::deep;
+use model::sheet::{check, check_with};
+use sheets::deep::{choosing, deep};
 use sheets::runs;
 
 /// The most links on a path down.
@@ -11,7 +11,7 @@ fn depth(program: &Prog) -> usize {
     use Prog::*;
     match program {
         Nil | Act(_) | Start | Stop | Test(_) => 0,
-        Star(a) | While(_, a) | Iteration(a) | Interrupt(_, a) => 1 + depth(a),
+        Star(a) | While(_, a) | Iteration(a) | Interrupt(_, a) | Pick(_, a, _) => 1 + depth(a),
         Sequence(a, b) | Choice(a, b) | If(_, a, b) | Together(a, b) | Over(a, b) => 1 + depth(a).max(depth(b)),
     }
 }
@@ -42,4 +42,17 @@ fn all_but_the_first_are_as_deep_as_they_get() {
         }
         assert_eq!(depth(&configuration.program), 16 + 63, "{}", deep.name);
     }
+}
+
+#[test]
+fn with_placeholders() {
+    for deep in choosing() {
+        let sheet = check_with(2, &deep.sheet).expect("the sheet is accepted");
+        assert_eq!(plan(&sheet), Ok(Plan { history: deep.history, transitions: 64 }), "{}", deep.name);
+        assert_eq!(runs::count(&sheet, sheet.bound + 1, usize::MAX), Some(65), "{}", deep.name);
+    }
+    let sheets = choosing().into_iter().map(|deep| check_with(2, &deep.sheet).expect("the sheet is accepted"));
+    let [choices, quantifiers] = &sheets.collect::<Vec<_>>()[..] else { panic!("two sheets") };
+    assert_eq!(choices.height(), 16);
+    assert!(quantifiers.formulas.len() > 400);
 }

@@ -1,9 +1,9 @@
 //! The examples: the builder's sheets, and what the program prints for them.
 
 use model::planner::replay;
-use model::program::printed;
-use model::sheet::check;
-use sheets::examples::examples;
+use model::program::{printed, printed_with};
+use model::sheet::{check, check_with};
+use sheets::examples::{chosen_berth, examples};
 use std::collections::BTreeSet;
 use std::fs;
 use std::path::Path;
@@ -60,4 +60,17 @@ fn case_3_has_document_01s_bytes() {
         &[2, 0, 4, 0, 2, 0, 2, 0, 4, 0, 2, 0, 0x50, 0, 0, 0, 0x42, 0x51],
     ];
     assert_eq!(sheet[notes.end..], records.concat());
+}
+
+/// B goes to section 1 (action 1 with 1 in placeholder 0), C to section 7, and E is berthed at 2: `ABEEEEDC`. Nine
+/// actions, where one for each ship and section would make 37.
+#[test]
+fn a_berth_is_chosen_while_running() {
+    assert_eq!(printed_with(2, &chosen_berth(2)), "refused 14 0\n");
+    for bound in [3, 6] {
+        assert_eq!(printed_with(2, &chosen_berth(bound)), "found 3 3\n65\n450\n6\n");
+    }
+    let sheet = check_with(2, &chosen_berth(3)).expect("the sheet is accepted");
+    assert_eq!(sheet.actions.len(), 9);
+    assert!(!replay(&sheet, &[65, 450, 5]) && replay(&sheet, &[450, 65, 6]));
 }

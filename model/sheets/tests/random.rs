@@ -2,7 +2,7 @@
 
 use model::meaning::{Configuration, Moment};
 use model::planner::{depth_first, plan, replay, Plan};
-use model::sheet::{check, Action, Formula, Program, Sheet};
+use model::sheet::{check_with, Action, Formula, Program, Sheet, Value};
 use sheets::random::{accepted, damaged, near_miss, other_initials, run, searchable, unknown, Random};
 use std::collections::{BTreeSet, HashMap, HashSet};
 use std::mem::{self, discriminant};
@@ -20,7 +20,12 @@ fn reached(sheet: &Sheet) -> BTreeSet<usize> {
 
 #[test]
 fn every_verdict_and_every_kind_has_a_fair_share() {
-    let mut random = Random::new(5);
+    fair_shares(0, 12);
+    fair_shares(2, 13);
+}
+
+fn fair_shares(placeholders: usize, kinds_of_programs: usize) {
+    let mut random = Random::with_placeholders(5, placeholders);
     let count = 3000;
     let (mut plans, mut moves, mut nothing, mut more) = (0, 0, 0, 0);
     let (mut interrupted, mut shared, mut nested) = (0, 0, 0);
@@ -50,8 +55,8 @@ fn every_verdict_and_every_kind_has_a_fair_share() {
     for share in [plans, nothing, more] {
         assert!(share * 4 > count);
     }
-    assert!(moves * 8 > count && interrupted * 6 > count && shared * 4 > count && nested * 100 > count);
-    assert!(kinds.len() == 12 && kinds.values().all(|&reached| reached * 20 > count));
+    assert!(moves * 9 > count && interrupted * 6 > count && shared * 4 > count && nested * 100 > count);
+    assert!(kinds.len() == kinds_of_programs && kinds.values().all(|&reached| reached * 25 > count));
 }
 
 /// The histories of the runs of exactly so many transitions that end final.
@@ -69,7 +74,7 @@ fn histories(sheet: &Sheet, transitions: usize) -> BTreeSet<Vec<u16>> {
 
 #[test]
 fn plans_have_rivals_of_every_sort() {
-    let mut random = Random::new(13);
+    let mut random = Random::with_placeholders(13, 2);
     let count = 3000;
     let (mut rivals, mut longer, mut shorter, mut beginnings, mut listed_before) = (0, 0, 0, 0, 0);
     for _ in 0..count {
@@ -127,7 +132,7 @@ fn gives_twice(sheet: &Sheet, from: &Configuration) -> bool {
 
 #[test]
 fn effects_conflict_in_some_states_and_agree_in_others() {
-    let mut random = Random::new(14);
+    let mut random = Random::with_placeholders(14, 0);
     let count = 3000;
     let (mut runs, mut conflict, mut sometimes, mut twice) = (0, 0, 0, 0);
     for _ in 0..count {
@@ -152,25 +157,27 @@ fn effects_conflict_in_some_states_and_agree_in_others() {
 
 #[test]
 fn a_fault_gets_its_number_and_place() {
-    let mut random = Random::new(6);
-    for _ in 0..200 {
-        for number in 1..=9 {
-            let (bytes, refusal) = damaged(&mut random, &[number]);
-            assert_eq!(refusal.number, number);
-            assert_eq!(check(&bytes), Err(refusal));
+    for placeholders in [0, 2] {
+        let mut random = Random::with_placeholders(6, placeholders);
+        for _ in 0..200 {
+            for number in 1..=9 {
+                let (bytes, refusal) = damaged(&mut random, &[number]);
+                assert_eq!(refusal.number, number);
+                assert_eq!(check_with(placeholders, &bytes), Err(refusal));
+            }
         }
     }
 }
 
 #[test]
 fn of_two_faults_the_lower_number_and_place_count() {
-    let mut random = Random::new(7);
+    let mut random = Random::with_placeholders(7, 2);
     for _ in 0..40 {
         for first in 1..=9 {
             for second in 1..=9 {
                 let (bytes, refusal) = damaged(&mut random, &[first, second]);
                 assert_eq!(refusal.number, first.min(second));
-                assert_eq!(check(&bytes), Err(refusal));
+                assert_eq!(check_with(2, &bytes), Err(refusal));
             }
         }
     }
@@ -178,7 +185,7 @@ fn of_two_faults_the_lower_number_and_place_count() {
 
 #[test]
 fn histories_are_of_the_sort_they_are_drawn_as() {
-    let mut random = Random::new(8);
+    let mut random = Random::with_placeholders(8, 2);
     let (mut yes, mut near_yes, mut near_no) = (0, 0, 0);
     for _ in 0..1000 {
         let (_, sheet) = searchable(&mut random, 3000);
@@ -201,7 +208,7 @@ fn histories_are_of_the_sort_they_are_drawn_as() {
 
 #[test]
 fn the_same_seed_gives_the_same_sheets() {
-    let draw = |seed| searchable(&mut Random::new(seed), 1000).0;
+    let draw = |seed| searchable(&mut Random::with_placeholders(seed, 2), 1000).0;
     assert_eq!(draw(9), draw(9));
     assert_ne!(draw(9), draw(10));
 }
@@ -221,7 +228,7 @@ fn exclusive(sheet: &Sheet, action: &Action) -> bool {
 
 #[test]
 fn conditions_exclude_each_other() {
-    let mut random = Random::new(16);
+    let mut random = Random::with_placeholders(16, 0);
     let count = 3000;
     let mut performed = 0;
     for _ in 0..count {
@@ -252,7 +259,7 @@ fn conflicts_on(sheet: &Sheet, moment: &Moment, action: usize, fluents: &[usize]
 
 #[test]
 fn pairs_differ_where_runs_give_values_and_effects_conflict() {
-    let mut random = Random::new(18);
+    let mut random = Random::with_placeholders(18, 0);
     let count = 3000;
     let (mut pairs, mut plans, mut given, mut conflict) = (0, 0, 0, 0);
     for _ in 0..count {
@@ -260,7 +267,7 @@ fn pairs_differ_where_runs_give_values_and_effects_conflict() {
         let outside = !sheet.names();
         let Some(other) = other_initials(&mut random, &bytes, &sheet, outside) else { continue };
         let (differ, fluents) = changed(&bytes, &other, &sheet);
-        assert!(check(&other).is_ok() && differ > 0 && differ == fluents.len());
+        assert!(check_with(0, &other).is_ok() && differ > 0 && differ == fluents.len());
         assert!(fluents.iter().all(|x| outside >> x & 1 == 1));
         pairs += 1;
         plans += usize::from(plan(&sheet).is_ok());
@@ -275,4 +282,58 @@ fn pairs_differ_where_runs_give_values_and_effects_conflict() {
     println!("of {count}: pairs that differ outside the set {pairs}, with a plan {plans}; with a run that gives such");
     println!("a fluent another value {given}, with effects on one that conflict {conflict}");
     assert!(pairs * 3 > count && plans * 8 > count && given * 12 > count && conflict * 60 > count);
+}
+
+/// The kinds of F-6 among the formulas that anything uses: those of conditions, and of which these are made.
+fn used_formulas(sheet: &Sheet) -> Vec<Formula> {
+    let mut open: Vec<usize> = sheet.actions.iter().map(|action| action.precondition).collect();
+    open.extend(sheet.effects.iter().map(|effect| effect.condition));
+    open.extend(reached(sheet).into_iter().filter_map(|number| match sheet.programs[number] {
+        Program::Test(c) | Program::If(c, ..) | Program::While(c, _) | Program::Interrupt(c, _) => Some(c),
+        _ => None,
+    }));
+    let mut used = BTreeSet::new();
+    while let Some(number) = open.pop() {
+        if used.insert(number) {
+            match sheet.formulas[number] {
+                Formula::Not(a) | Formula::ForSome(_, a, _) | Formula::ForEvery(_, a, _) => open.push(a),
+                Formula::And(a, b) | Formula::Or(a, b) => open.extend([a, b]),
+                _ => {}
+            }
+        }
+    }
+    used.into_iter().map(|number| sheet.formulas[number]).collect()
+}
+
+#[test]
+fn placeholders_have_a_fair_share() {
+    let mut random = Random::with_placeholders(20, 2);
+    let count = 3000;
+    let (mut choices, mut hiding, mut kinds, mut given, mut outside) = (0, 0, [0; 3], 0, 0);
+    let (mut moves, mut values) = (0, 0);
+    for _ in 0..count {
+        let (_, sheet) = searchable(&mut random, 3000);
+        let reached = reached(&sheet);
+        let picks = || reached.iter().filter(|&&number| matches!(sheet.programs[number], Program::Pick(..)));
+        choices += usize::from(picks().next().is_some());
+        hiding += usize::from(picks().count() > 2);
+        let formulas = used_formulas(&sheet);
+        kinds[0] += usize::from(formulas.iter().any(|formula| matches!(formula, Formula::Matches(..))));
+        kinds[1] += usize::from(formulas.iter().any(|formula| matches!(formula, Formula::ForSome(..))));
+        kinds[2] += usize::from(formulas.iter().any(|formula| matches!(formula, Formula::ForEvery(..))));
+        let by_placeholder = |effect: &&model::sheet::Effect| matches!(effect.value, Value::Placeholder(_));
+        given += usize::from(sheet.effects.iter().any(|effect| by_placeholder(&effect)));
+        outside += usize::from(sheet.effects.iter().filter(by_placeholder).any(|e| sheet.fluents[e.fluent].size < 3));
+        if let Ok(plan) = plan(&sheet) {
+            moves += usize::from(!plan.history.is_empty());
+            values += usize::from(plan.history.iter().any(|entry| (64..16_384).contains(entry)));
+        }
+    }
+    println!(
+        "of {count}: with a choice {choices}, with three or more {hiding}; with formulas of kinds 8 to 10 that are"
+    );
+    println!("used {kinds:?}; with effects by a placeholder {given}, on a small fluent {outside}; plans with a move");
+    println!("{moves}, with a value that is not 0 {values}");
+    assert!(choices * 3 > count && hiding * 8 > count && kinds.iter().all(|&kind| kind * 12 > count));
+    assert!(given * 4 > count && outside * 10 > count && values * 50 > count);
 }

@@ -1,15 +1,19 @@
-//! That `compare` catches wrong models: breaks a copy of the model, one construct or one word of F-1, F-2 or F-5 at a
-//! time, and counts the sheets until the comparison with the library ends in a disagreement, for three seeds each. Edits
-//! of the meaning add runs, since the library searches sheets that have few runs by the broken model's count; those that
-//! find conflicts where there are none take runs away, and are caught before a search takes long. Edits of the first
-//! plan keep verdicts, so that it is the plan that differs. The test sees that each edit still applies.
+//! That `compare` catches wrong models: breaks a copy of the model, one construct or one word of F-1, F-2, F-5 or F-6
+//! at a time, and counts the sheets until the comparison with the library ends in a disagreement, for three seeds each.
+//! Edits of the meaning add runs, since the library searches sheets that have few runs by the broken model's count;
+//! those that find conflicts where there are none take runs away, and are caught before a search takes long. Edits of
+//! the first plan keep verdicts, so that it is the plan that differs. The test sees that each edit still applies.
 //!
 //! Edits of F-5 break the set of a sheet, which is all that the library's calls tell. There a subformula counts by
 //! itself, and no action is asked: that formulas' sets go through subformulas, and actions' sets through the conditions
 //! of all their effects and no further, `tests/named.rs` sees, and the model's `tests/names.rs`.
+//!
+//! Edits of F-6 break what sheets with placeholders mean. They are made once the model has placeholders
+//! ([`PLACEHOLDERS`]), since until then no such sheet is drawn; the test sees to them all the same.
 
 #![forbid(unsafe_code)]
 
+use model::sheet::PLACEHOLDERS;
 use std::path::{Path, PathBuf};
 use std::process::{exit, Command};
 use std::{env, fs, io};
@@ -23,20 +27,22 @@ const EDITS: [Edit; 34] = [
         "Ok((sheet.fluents.len(), sheet.bound))",
         "Ok((sheet.bound, sheet.bound))"),
     Edit("effects: conditions read from half-updated values",
-        "e.fluent == fluent && self.holds(e.condition)",
-        "e.fluent == fluent && Moment::new(self.sheet, next).holds(e.condition)"),
+        "holding.iter().find(|given| given.fluent == fluent)",
+        "Moment::new(self.sheet, next).holding(action).iter().find(|given| given.fluent == fluent)"),
     Edit("possible: conflicts are not judged",
-        "precondition) && self.effects_agree(action)",
-        "precondition)"),
+        "self.effects_agree(action) && ",
+        ""),
     Edit("possible: the precondition is not judged",
-        "self.holds(self.sheet.actions[action].precondition) && self.effects_agree(action)",
-        "self.effects_agree(action)"),
+        "self.holds(precondition) && ",
+        ""),
     Edit("conflicts: without the conditions",
-        "effects.filter(|effect| self.holds(effect.condition)).collect()",
-        "effects.collect()"),
+        "let given = self.holding(action);",
+        "let effects = self.sheet.effects[self.sheet.actions[action.number].effects.clone()].iter();
+        let value = |effect: &crate::sheet::Effect| action.resolved(effect.value);
+        let given: Vec<_> = effects.map(|effect| Given { fluent: effect.fluent, value: value(effect) }).collect();"),
     Edit("conflicts: conditions judged in the new values",
-        "precondition) && self.effects_agree(action)",
-        "precondition) && Moment::new(self.sheet, self.perform(action)).effects_agree(action)"),
+        "self.effects_agree(action) && ",
+        "Moment::new(self.sheet, self.perform(action)).effects_agree(action) && "),
     Edit("conflicts: equal values too",
         "one.fluent == other.fluent && one.value != other.value",
         "one.fluent == other.fluent && !std::ptr::eq(one, other)"),
@@ -44,11 +50,11 @@ const EDITS: [Edit; 34] = [
         "one.fluent == other.fluent && one.value != other.value",
         "one.value != other.value"),
     Edit("conflicts: only of neighbours",
-        "!holding.iter().any(|one| holding.iter().any(|other| differ(one, other)))",
-        "!holding.windows(2).any(|pair| differ(pair[0], pair[1]))"),
+        "!given.iter().any(|one| given.iter().any(|other| differ(one, other)))",
+        "!given.windows(2).any(|pair| differ(&pair[0], &pair[1]))"),
     Edit("conflicts: only with the first effect",
-        "!holding.iter().any(|one| holding.iter().any(|other| differ(one, other)))",
-        "!holding.iter().any(|other| differ(holding[0], other))"),
+        "!given.iter().any(|one| given.iter().any(|other| differ(one, other)))",
+        "!given.iter().any(|other| differ(&given[0], other))"),
     Edit("conflicts: with the fluent's old value",
         "one.value != other.value",
         "one.value != self.state.values[one.fluent]"),
@@ -146,6 +152,138 @@ const EDITS: [Edit; 34] = [
         "map(|x| 1 << (31 - x))"),
 ];
 
+/// Of document 02, F-6. A value byte of an effect that is hidden needs none: where it is outside its domain, the two
+/// effects give different values.
+#[rustfmt::skip]
+const EDITS_OF_PLACEHOLDERS: [Edit; 30] = [
+    Edit("placeholders: 1 at the start",
+        "Instance { number, values: [0, 0] }",
+        "Instance { number, values: [1, 0] }"),
+    Edit("12 pick: a itself is a value too",
+        "for value in 0..*values {",
+        "for value in 0..(*values + 1).min(16) {"),
+    Edit("12 pick: only values above 0",
+        "for value in 0..*values {",
+        "for value in 1.min(*values - 1)..*values {"),
+    Edit("12 pick: always final",
+        "(0..*values).any(|value| self.is_final(&a.put(*placeholder, value)))",
+        "*values > 0 || self.is_final(&a.put(*placeholder, 0))"),
+    Edit("12 pick: final if b is for every value",
+        "(0..*values).any(|value| self.is_final(",
+        "(0..*values).all(|value| self.is_final("),
+    Edit("12 pick: final as b is for 0",
+        "(0..*values).any(|value| self.is_final(",
+        "(0..1).any(|value| self.is_final("),
+    Edit("12 pick: in the other placeholder",
+        "self.each(&a.put(*placeholder, value), found)?;",
+        "self.each(&a.put(1 - *placeholder, value), found)?;"),
+    Edit("12 pick: what remains of b does not carry the value",
+        "self.each(&a.put(*placeholder, value), found)?;",
+        "self.each(&a.put(*placeholder, value), &mut |mut step| {
+            step.to.program = step.to.program.put(*placeholder, 0);
+            found(step)
+        })?;"),
+    Edit("12 pick: what follows carries the value",
+        "            Sequence(a, b) => {\n",
+        "            Sequence(a, b) if matches!(**a, Pick(..)) => {
+                let Pick(values, inner, placeholder) = &**a else { unreachable!() };
+                for value in 0..*values {
+                    let both = Sequence(inner.put(*placeholder, value), b.put(*placeholder, value));
+                    self.each(&Rc::new(both), found)?;
+                }
+                Continue(())
+            }
+            Sequence(a, b) => {\n"),
+    Edit("12 pick: a loop around it chooses once",
+        "Star(a) => self.each(a, &mut |step| found(step.inside(|rest| Sequence(rest, this()))))",
+        "Star(a) => match &**a {
+            Pick(values, inner, placeholder) => {
+                self.each(&Rc::new(Pick(*values, Rc::new(Star(inner.clone())), *placeholder)), found)
+            }
+            _ => self.each(a, &mut |step| found(step.inside(|rest| Sequence(rest, this())))),
+        }"),
+    Edit("12 pick: an inner choice does not hide an outer one",
+        "Pick(_, _, hiding) if *hiding == placeholder => return self.clone()",
+        "Pick(_, a, hiding) if *hiding == placeholder => return into(a)"),
+    Edit("12 pick: a choice of the other placeholder hides too",
+        "Pick(_, _, hiding) if *hiding == placeholder => return self.clone()",
+        "Pick(..) => return self.clone()"),
+    Edit("9 over: b steps where a choice has no step for some value",
+        "if !a_has_a_step {",
+        "let stuck = match &**a {
+                    Pick(values, a, placeholder) => {
+                        (0..*values).any(|value| !self.has_a_step(&a.put(*placeholder, value)))
+                    }
+                    _ => false,
+                };
+                if stuck || !a_has_a_step {"),
+    Edit("height: kind 12 has no link",
+        "Interrupt(_, a) | Pick(_, a, _) => vec![a]",
+        "Interrupt(_, a) => vec![a], Pick(..) => vec![]"),
+    Edit("formulas: kind 8 asks for the other placeholder",
+        "usize::from(formula.values[placeholder])",
+        "usize::from(formula.values[1 - placeholder])"),
+    Edit("formulas: kind 9 is for every value",
+        "(0..values).any(|value| part_with(",
+        "(0..values).all(|value| part_with("),
+    Edit("formulas: kind 10 is for some value",
+        "(0..values).all(|value| part_with(",
+        "(0..values).any(|value| part_with("),
+    Edit("formulas: kind 9 has x itself as a value",
+        "(0..values).any(|value| part_with(",
+        "(0..(values + 1).min(16)).any(|value| part_with("),
+    Edit("formulas: quantifiers are about the other placeholder",
+        "self.holds(formula.part(number).put(placeholder, value))",
+        "self.holds(formula.part(number).put(1 - placeholder, value))"),
+    Edit("formulas: a quantifier does not hide a larger value",
+        "self.values[placeholder] = value;",
+        "self.values[placeholder] = self.values[placeholder].max(value);"),
+    Edit("effects: 17 means placeholder 0",
+        "Value::Placeholder(placeholder) => self.values[placeholder]",
+        "Value::Placeholder(_) => self.values[0]"),
+    Edit("effects: conditions with placeholders 0",
+        "self.holds(action.part(effect.condition))",
+        "self.holds(effect.condition)"),
+    Edit("effects: a value outside the domain is possible",
+        " && self.effects_inside(action)",
+        ""),
+    Edit("effects: outside the domain, though not holding",
+        "self.holding(action).iter().all(|given| given.value < self.sheet.fluents[given.fluent].size)",
+        "self.sheet.effects[self.sheet.actions[action.number].effects.clone()].iter()
+            .all(|effect| action.resolved(effect.value) < self.sheet.fluents[effect.fluent].size)"),
+    Edit("conflicts: value bytes, not values",
+        " && self.effects_inside(action)",
+        " && self.effects_inside(action) && {
+            let effects = self.sheet.effects[self.sheet.actions[action.number].effects.clone()].iter();
+            let holding: Vec<_> = effects.filter(|effect| self.holds(action.part(effect.condition))).collect();
+            let differ = |one: &crate::sheet::Effect, other: &crate::sheet::Effect| {
+                one.fluent == other.fluent && one.value != other.value
+            };
+            !holding.iter().any(|one| holding.iter().any(|other| differ(one, other)))
+        }"),
+    Edit("preconditions: with placeholders 0",
+        "action.part(self.sheet.actions[action.number].precondition)",
+        "Instance::from(self.sheet.actions[action.number].precondition)"),
+    Edit("entries: the action number alone",
+        "self.number as u16 + 64 * p0 + 1024 * p1",
+        "self.number as u16 + 0 * (p0 + p1)"),
+    Edit("entries: placeholders exchanged",
+        "self.number as u16 + 64 * p0 + 1024 * p1",
+        "self.number as u16 + 64 * p1 + 1024 * p0"),
+    Edit("names: kind 8 names none",
+        "Matches(x, _) => vec![x]",
+        "Matches(..) => vec![]"),
+    Edit("names: kinds 9 and 10 name fluent x",
+        "ForSome(..) | ForEvery(..) => vec![]",
+        "ForSome(x, ..) | ForEvery(x, ..) => vec![usize::from(x)]"),
+];
+
+/// Those that `compare` can see.
+fn edits() -> impl Iterator<Item = &'static Edit> {
+    let of_placeholders = EDITS_OF_PLACEHOLDERS.iter().filter(|_| PLACEHOLDERS > 0);
+    EDITS.iter().chain(of_placeholders)
+}
+
 fn repository() -> PathBuf {
     Path::new(env!("CARGO_MANIFEST_DIR")).join("../..")
 }
@@ -237,7 +375,7 @@ fn run() -> io::Result<bool> {
     let copied = Copied::new("wrong-models")?;
     println!("sheets that agree before the wrong model is caught, for seeds 1, 2, 3");
     let mut all = true;
-    for edit in &EDITS {
+    for edit in edits() {
         copied.cargo(&["build", "--quiet", "--release", "--package", "library", "--bin", "compare"], edit)?;
         let mut counts = String::new();
         for seed in 1..=3 {
@@ -264,7 +402,8 @@ fn main() {
 #[test]
 fn every_edit_applies_and_compiles() {
     let copied = Copied::new("wrong-models-test").expect("a copy");
-    let wrong = EDITS.map(|edit| copied.cargo(&["check", "--quiet", "--package", "model"], &edit).err());
-    let wrong: Vec<String> = wrong.iter().flatten().map(|error| error.to_string()).collect();
+    let all = EDITS.iter().chain(&EDITS_OF_PLACEHOLDERS);
+    let wrong = all.filter_map(|edit| copied.cargo(&["check", "--quiet", "--package", "model"], edit).err());
+    let wrong: Vec<String> = wrong.map(|error| error.to_string()).collect();
     assert!(wrong.is_empty(), "{}", wrong.join("\n"));
 }

@@ -6,6 +6,7 @@ use super::Random;
 use crate::write::Records;
 use model::refusal::Refusal;
 use model::sheet::Program;
+use std::ops::Range;
 
 /// A sheet with a fault for each of `numbers` (1 to 9; twice the same makes two faulty records), and the refusal that
 /// it must get: the lowest number, with the lowest place among its faults.
@@ -65,10 +66,11 @@ fn break_fluent(random: &mut Random, records: &mut Records, place: usize) {
 fn break_formula(random: &mut Random, records: &mut Records, place: usize) {
     let ([kind, x], [a, b]) = records.formulas[place];
     if random.percent(20) {
-        records.formulas[place].0[0] = random.between(8, 255) as u8;
+        let unknown = if random.placeholders > 0 { 11 } else { 8 };
+        records.formulas[place].0[0] = random.between(unknown, 255) as u8;
         return;
     }
-    let limits = formula_limits(kind, usize::from(x), place, &records.fluents);
+    let limits = formula_limits(kind, usize::from(x), place, &records.fluents, random.placeholders);
     let [x, a, b] = break_field(random, [u16::from(x), a, b], limits, &[255, 65535, 65535]);
     records.formulas[place] = ([kind, x as u8], [a, b]);
 }
@@ -77,8 +79,13 @@ fn break_effect(random: &mut Random, records: &mut Records, place: usize) {
     let (condition, [fluent, value]) = records.effects[place];
     let size = usize::from(records.fluents[usize::from(fluent)][0]);
     let fields = [condition, u16::from(fluent), u16::from(value)];
-    let limits = [records.formulas.len(), records.fluents.len(), size];
-    let [condition, fluent, value] = break_field(random, fields, limits, &[65535, 255, 255]);
+    // A value is above all that are good, or between the domain and the placeholders.
+    let values = 0..16 + random.placeholders;
+    let limits = [0..records.formulas.len(), 0..records.fluents.len(), values];
+    let [condition, fluent, mut value] = break_field(random, fields, limits, &[65535, 255, 255]);
+    if value >= 16 && size < 16 && random.percent(60) {
+        value = random.between(size, 15) as u16;
+    }
     records.effects[place] = (condition, [fluent as u8, value as u8]);
 }
 
@@ -99,20 +106,23 @@ fn break_action(random: &mut Random, records: &mut Records, place: usize) {
 fn break_program(random: &mut Random, records: &mut Records, place: usize) {
     let [kind, a, b, c] = records.programs[place];
     if random.percent(20) {
-        let large = random.between(12, 65535) as u16;
-        records.programs[place][0] = random.pick(&[12, 256 + kind, large]);
+        let unknown = if random.placeholders > 0 { 13 } else { 12 };
+        let large = random.between(unknown, 65535) as u16;
+        records.programs[place][0] = random.pick(&[unknown as u16, 256 + kind, large]);
         return;
     }
-    let limits = program_limits(kind, place, records.formulas.len(), records.actions.len());
+    let limits = program_limits(kind, place, records.formulas.len(), records.actions.len(), random.placeholders);
     let [a, b, c] = break_field(random, [a, b, c], limits, &[65535; 3]);
     records.programs[place] = [kind, a, b, c];
 }
 
-/// Sets one field to its limit or above, up to the most that its bytes hold.
-fn break_field(random: &mut Random, mut fields: [u16; 3], limits: [usize; 3], most: &[usize; 3]) -> [u16; 3] {
+/// Sets one field to its upper limit or above, up to the most that its bytes hold, or below its lower one.
+fn break_field(random: &mut Random, mut fields: [u16; 3], limits: [Range<usize>; 3], most: &[usize; 3]) -> [u16; 3] {
     let field = random.below(3);
-    let above = random.between(limits[field], most[field]);
-    fields[field] = random.pick(&[limits[field], above, most[field]]) as u16;
+    let Range { start, end } = limits[field];
+    let above = random.between(end, most[field]);
+    let below = if start > 0 { start - 1 } else { end };
+    fields[field] = random.pick(&[below, end, above, most[field]]) as u16;
     fields
 }
 

@@ -28,14 +28,15 @@ pub fn accepted(random: &mut Random, sheet: &Sheet) -> Option<Vec<u16>> {
     (0..20).map(|_| run(random, sheet)).find(|(_, ends)| *ends).map(|(history, _)| history)
 }
 
-/// An entry of this sheet: an action, or start or stop.
+/// An entry of this sheet: an action, sometimes with values of the placeholders (document 02, F-6), or start or stop.
 fn entry(random: &mut Random, sheet: &Sheet) -> u16 {
     let special = random.percent(15) || sheet.actions.is_empty();
     if special {
-        random.pick(&[START, STOP])
-    } else {
-        random.below(sheet.actions.len()) as u16
+        return random.pick(&[START, STOP]);
     }
+    let any = random.below(256);
+    let values = random.pick(&[0, 0, 0, 0, 0, 0, 1, 2, 16, any]);
+    (random.below(sheet.actions.len()) + 64 * values) as u16
 }
 
 /// A history changed in one place: an entry left out, put in, changed, or moved by one.
@@ -57,9 +58,15 @@ pub fn near_miss(random: &mut Random, sheet: &Sheet, history: &[u16]) -> Vec<u16
 /// A history with one unknown entry put in or in the place of another.
 pub fn unknown(random: &mut Random, sheet: &Sheet, history: &[u16]) -> Vec<u16> {
     let mut changed = history.to_vec();
-    let first = sheet.actions.len();
-    let any = random.between(first, 65533);
-    let unknown = random.pick(&[first, any, 65533]) as u16;
+    // 16,384 and more is unknown whatever the action's number; below, one that is not below A.
+    let actions = sheet.actions.len();
+    let any = random.between(16_384, 65533);
+    let mut unknown = random.pick(&[16_384, any, 65533]);
+    if actions < 64 && random.percent(70) {
+        let values = random.pick(&[0, 0, 1, 16, 255]);
+        unknown = random.between(actions, 63) + 64 * values;
+    }
+    let unknown = unknown as u16;
     let place = random.below(changed.len() + 1);
     if place < changed.len() && random.percent(50) {
         changed[place] = unknown;
