@@ -62,7 +62,8 @@ module _ (s : List ℕ) (accepted : Accepts s) where
       let there : interruptsIn s ≡ true → Interrupted (recordsOf s) n = interrupts-exactly (recordsOf s) n .0 in
       let some-record = laid s accepted .some-record in
       started-acts (KnownEntry s) (interruptsIn s) (programOf (recordsOf s) (n - 1))
-      (program-acts (KnownEntry s) (recordsOf s) n (lower s accepted) (plain-records s accepted) (λ i l t. inl (action-below _ _ i (fieldA (recordsOf s i .kind)) (fields-of s accepted i l .a) t)) (n - 1) (omega arith))
+      (program-acts (KnownEntry s) (recordsOf s) n (lower s accepted) (plain-records s accepted)
+      (λ i l t. inl (action-below _ _ i (fieldA (recordsOf s i .kind)) (fields-of s accepted i l .a) t)) (n - 1) (omega arith))
       (λ e. (inr (inl refl, there e), inr (inr refl, there e)))
 
   -- every entry of the history of a run, final or not, is known

@@ -21,7 +21,7 @@ use Rattle.golog.specs.Distance.{distance}
 use Rattle.golog.specs.Prog.{programOf}
 use Rattle.golog.specs.Written.{programRead, spanOf, writtenRecords}
 use Rattle.golog.specs.declared.State.{State}
-use Rattle.golog.specs.World.{World, holds}
+use Rattle.golog.specs.World.{World}
 use Rattle.golog.proofs.Distance.{construct-near}
 use Rattle.remaining.proofs.Entries.{entry-rule}
 use Rattle.remaining.proofs.Written.{Linked, programIn, picks-b, read-kind, written-step}

@@ -3,7 +3,7 @@
 // many values are listed where a record chooses one.
 ghost use mathlib.Core.Path.{_≡_};
 ghost use mathlib.Core.Bool.{false, not, cond, _&&_, _||_};
-ghost use Prim.Native.Nat.{ℕ, _+_, _*_, _≤_, _<_};
+ghost use Prim.Native.Nat.{ℕ, _*_, _≤_, _<_};
 ghost use lib.ListN.{length, getD};
 ghost use Rattle.records.specs.Records.{TwoBytes, ProgramTable};
 ghost use Rattle.sets.specs.Sets.{member, Has, setAt};
@@ -80,7 +80,7 @@ fn listed(r: Program, seen: bool) -> u32
     if seen { r.a as u32 } else { 1 }
 }
 
-// How many values a record lists, where `first` and `second` have the records that see placeholders 0 and 1.
+// How many values a record lists, by kind 12 where it chooses one, where `first` and `second` have the records that see placeholders 0 and 1.
 fn span_by(r: Program, first: &[bool], second: &[bool]) -> u32
     requires { ⌜ TwoBytes r ⌝ }
     ensures { λ k. ⌜ k ≡ spanBy r (now (first .entry)) (now (second .entry)) ⌝ }

@@ -67,5 +67,6 @@ module _ (s : List ℕ) (accepted : Accepts s) (st : State) (truths : List Bool)
           let known = action-known s accepted i l t in
           let low = conditions-below s accepted a known in
           let r = actionAt (actionsIn s (layoutOf s)) a in
-          allowed-possible (worldOf s .size) a (inside-range s accepted a known (saidBy truths)) B (λ e. ⊎-elim (λ k. k) (λ A. absurd (false≢true (sym (none a low A) ∙ and-right (saidBy truths (r .precondition)) _ e))) (J .all i l t))
+          allowed-possible (worldOf s .size) a (inside-range s accepted a known (saidBy truths)) B
+          (λ e. ⊎-elim (λ k. k) (λ A. absurd (false≢true (sym (none a low A) ∙ and-right (saidBy truths (r .precondition)) _ e))) (J .all i l t))
           ∙ possible-same _ _ (saidBy truths) (saysIn (worldOf s) st) _ H (worldOf s .size) a (action-of s accepted a known .0) low
