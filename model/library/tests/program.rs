@@ -1,6 +1,6 @@
-//! What the program `plan` prints: document 01's cases and edges, those of F-2, the examples, and random sheets, for
-//! which the model says what must be printed. It is target/bin/plan of the repository, or the file that PLANNER_PROGRAM
-//! names.
+//! What the program `plan` prints: document 01's cases and edges, those of F-2 and F-6, the examples, and random sheets,
+//! for which the model says what must be printed. It is target/bin/plan of the repository, or the file that
+//! PLANNER_PROGRAM names.
 
 #![forbid(unsafe_code)]
 
@@ -28,7 +28,12 @@ fn random_cases(count: usize) -> Vec<Case> {
     cases
 }
 
+/// The cases of F-6, which model and program refuse as long as there are no placeholders.
+fn cases_of_placeholders() -> Vec<Case> {
+    placeholders().into_iter().map(|case| Case { printed: printed(&case.sheet), ..case }).collect()
+}
+
 fn main() -> ExitCode {
-    let all = [cases(), conflicts(), edges(), examples(), random_cases(100)].concat();
+    let all = [cases(), conflicts(), cases_of_placeholders(), edges(), examples(), random_cases(100)].concat();
     programs::compare("plan", "PLANNER_PROGRAM", all)
 }

@@ -50,7 +50,7 @@ fn main() -> ExitCode {
     println!("bytes of stack that a call takes");
     println!("{:30}{}", "", CALLS.map(|call| format!("{call:>9}")).concat());
     let (mut most, mut allowed) = (0, 0);
-    let with_placeholders = choosing().into_iter().filter(|_| PLACEHOLDERS > 0);
+    let with_placeholders = choosing().into_iter().filter(|_| PLACEHOLDERS == 2);
     for deep in deep().into_iter().chain(with_placeholders) {
         goes_down(&deep);
         let mut row = format!("{:30}", deep.name);

@@ -88,6 +88,7 @@ impl Hash for Instance {
 }
 
 impl Instance {
+    /// With a value put in for a placeholder: a chosen one in the place of 0, a quantifier's in the place of any.
     fn put(mut self, placeholder: usize, value: u8) -> Self {
         self.values[placeholder] = value;
         self
@@ -98,6 +99,7 @@ impl Instance {
         Instance { number, ..self }
     }
 
+    /// The value that an effect of this action gives.
     fn resolved(self, value: Value) -> u8 {
         match value {
             Value::Is(value) => value,
@@ -149,7 +151,8 @@ impl Prog {
     }
 
     /// The program with a value put in for a placeholder: into its acts and conditions, but for those inside a choice of
-    /// the same placeholder, which hides this one.
+    /// the same placeholder, which hides this one. Choices are made from the outermost inwards, so that nothing gets a
+    /// value twice, and what stands outside a choice gets none.
     pub fn put(self: &Rc<Prog>, placeholder: usize, value: u8) -> Rc<Prog> {
         use Prog::*;
         let into = |program: &Rc<Prog>| program.put(placeholder, value);
@@ -196,7 +199,7 @@ impl Configuration {
 pub struct Moment<'a> {
     sheet: &'a Sheet,
     state: State,
-    /// All formulas for each pair of values put in, or for one where no formula has kind 8, so that none matters.
+    /// Of all formulas for each pair of values put in; or once, where no formula has kind 8, so that values do not matter.
     truths: Vec<Cell<Option<bool>>>,
 }
 
@@ -227,6 +230,7 @@ impl<'a> Moment<'a> {
         })
     }
 
+    /// By the formula's kind; what it is made of has the same values put in, but for the one that a quantifier puts in.
     fn truth(&self, formula: Instance) -> bool {
         let value = |x: usize| usize::from(self.state.values[x]);
         let part = |number| self.holds(formula.part(number));

@@ -280,7 +280,7 @@ const EDITS_OF_PLACEHOLDERS: [Edit; 30] = [
 
 /// Those that `compare` can see.
 fn edits() -> impl Iterator<Item = &'static Edit> {
-    let of_placeholders = EDITS_OF_PLACEHOLDERS.iter().filter(|_| PLACEHOLDERS > 0);
+    let of_placeholders = EDITS_OF_PLACEHOLDERS.iter().filter(|_| PLACEHOLDERS == 2);
     EDITS.iter().chain(of_placeholders)
 }
 

@@ -226,8 +226,7 @@ pub fn small(random: &mut Random) -> Records {
         let links = records.programs.len();
         let leaf = program(random, &mut records, &LEAVES, links);
         if chooses {
-            let body = if random.percent(30) { while_matching(random, &mut records, leaf) } else { leaf };
-            choose(random, &mut records, body, 35);
+            chosen_leaf(random, &mut records, leaf);
         }
     }
     let inner: &[u16] = if random.percent(35) { &INTERRUPTED } else { &CALM };
@@ -287,6 +286,19 @@ fn choose(random: &mut Random, records: &mut Records, mut program: usize, chance
         }
     }
     program
+}
+
+/// Puts choices around a leaf, often with a loop inside them or around them.
+fn chosen_leaf(random: &mut Random, records: &mut Records, leaf: usize) {
+    let body = match random.below(10) {
+        0..=2 => while_matching(random, records, leaf),
+        3 => records.program(Program::Star(leaf)),
+        _ => leaf,
+    };
+    let chosen = choose(random, records, body, 35);
+    if random.percent(20) {
+        records.program(Program::Star(chosen));
+    }
 }
 
 /// A loop that is final for some values of a placeholder only: while a fluent equals it, or does not.
