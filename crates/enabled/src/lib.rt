@@ -80,7 +80,8 @@ fn listed(r: Program, seen: bool) -> u32
     if seen { r.a as u32 } else { 1 }
 }
 
-// How many values a record lists, by kind 12 where it chooses one, where `first` and `second` have the records that see placeholders 0 and 1.
+// How many values a record lists: one, unless it chooses (kind 12) and its part sees them. `first` and `second` have the records that see
+// placeholders 0 and 1.
 fn span_by(r: Program, first: &[bool], second: &[bool]) -> u32
     requires { ⌜ TwoBytes r ⌝ }
     ensures { λ k. ⌜ k ≡ spanBy r (now (first .entry)) (now (second .entry)) ⌝ }

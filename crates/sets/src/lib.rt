@@ -18,7 +18,7 @@ const FULL: u32 = 0xFFFF_FFFF;
 
 const FULL_ROW: u32 = 0xFFFF;
 
-// What stands before the second row of a word.
+// The lowest bit of the second row of a word.
 const ROW: u32 = 0x1_0000;
 
 // The lowest bit of each row of a word: times a row, the row twice.

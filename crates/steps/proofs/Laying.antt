@@ -10,6 +10,7 @@ use native.Mathlib.Omega.{arith}
 use lib.Dec.{T, eqb}
 use lib.ListN.{length, getD, getElem?}
 use Rattle.records.specs.declared.Program.{Program}
+use Rattle.records.specs.Records.{TwoBytes}
 use Rattle.kinds.specs.Programs.{hasA, hasB, ownOf, hasOwn, usesA, usesB, tagA, tagB, firstBy}
 use Rattle.kinds.proofs.Reading.{uses-a, uses-b}
 use Rattle.kinds.proofs.Constructs.{own-no-first, own-no-second, no-own}
@@ -28,7 +29,7 @@ use Rattle.words.proofs.Moved.{put-gone}
 use Rattle.ends.specs.Ends.{mostLevels}
 use Rattle.leaves.specs.Tallies.{extendedSize, countsOf}
 use Rattle.leaves.proofs.Entries.{counts-exact, first-exact}
-use Rattle.steps.specs.Laid.{codeOf, Sources, Counted, CanLay, Built, Lays, past, Wrapped}
+use Rattle.steps.specs.Laid.{codeOf, Sources, Counted, CanLay, Built, Lays, InWords, past, Wrapped}
 use Rattle.steps.proofs.Nth.{nth-member, Both, from-first, from-second, second-goes}
 
 -- what was built of a transition is small: at most two nodes more for each level
@@ -250,6 +251,9 @@ module _ {W : World} {s : State} {v : Sources} (C : Counted W s v) where
       };
       kept = kept-put to to 0 0 1 w w′ P (omega arith);
     }
+
+pub in-words : {r : Program} → TwoBytes r → InWords r
+in-words b = record { a = omega (arith, b .a); b = omega (arith, b .b) }
 
 -- the records of a sheet with the four more are few
 pub many-few : (interrupts : Bool) (n i : ℕ) → n ≤ 256 → i < extendedSize interrupts n → i < 2 ^ 32

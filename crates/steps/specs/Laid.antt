@@ -3,7 +3,7 @@ use mathlib.Core.Path.{_≡_}
 use mathlib.Core.Bool.{Bool, cond}
 use mathlib.Core.List.{List}
 use mathlib.Core.Option.{Option, none, some}
-use Prim.Native.Nat.{ℕ, _+_, _*_, _≤_, _<_}
+use Prim.Native.Nat.{ℕ, _+_, _*_, _^_, _≤_, _<_}
 use lib.ListN.{getD, getElem?}
 use Rattle.records.specs.declared.Program.{Program}
 use Rattle.records.specs.Records.{programAt}
@@ -79,6 +79,11 @@ pub record Lays (xs : List RestTransition) (k to : ℕ) (w w′ : List ℕ) (ent
 -- in every state that the view is of, the k-th transition of record i
 abbrev pub LaysRecord : Sources → (i k to : ℕ) (w w′ : List ℕ) (entry size : ℕ) → Type 0
 LaysRecord v i k to w w′ entry size = (W : World) (s : State) → Counted W s v → Lays (leafOf W s (v .records) i .transitions) k to w w′ entry size
+
+-- its a and b fit a word
+pub record InWords (r : Program) : Type 0 where
+  pub a : r .a < 2 ^ 32
+  pub b : r .b < 2 ^ 32
 
 -- where what a part leaves is laid: past the words that go before it, none where it stands alone
 abbrev pub past : (alone : Bool) (words : ℕ) → ℕ

@@ -4,13 +4,13 @@ ghost use mathlib.Core.Path.{_≡_};
 ghost use mathlib.Core.Bool.{_&&_};
 ghost use Prim.Native.Nat.{_+_, _^_, _≤_, _<_};
 ghost use lib.Dec.{eqb};
-ghost use Rattle.records.specs.Records.{TwoBytes, ProgramTable};
+ghost use Rattle.records.specs.Records.{ProgramTable};
 ghost use Rattle.kinds.specs.Programs.{tagA, tagB};
 ghost use Rattle.remaining.specs.Rest.{Rest};
 ghost use Rattle.remaining.specs.Leaves.{ownMove, siblingA, wrapA, wrapB};
 ghost use Rattle.words.specs.Words.{At, Stands, Room};
 ghost use Rattle.ends.specs.Ends.{finalByTable};
-ghost use Rattle.steps.specs.Laid.{codeOf, sourcesOf, CanLay, LaysRecord, past, Wrapped};
+ghost use Rattle.steps.specs.Laid.{codeOf, sourcesOf, CanLay, LaysRecord, InWords, past, Wrapped};
 ghost use Rattle.steps.specs.Stepped.{CanStepRecord, StepsRecord, CanStep, StepsRest, CanEndLeft, EndsLeft, CanEndRight, EndsRight};
 use records::Program;
 
@@ -25,7 +25,7 @@ pub struct Setting {
 }
 
 // The record beside what part a leaves: the record itself for a loop, else its part b.
-fn sibling(r: Program, i: usize) -> usize
+pub fn sibling(r: Program, i: usize) -> usize
     ensures { λ q. ⌜ q ≡ siblingA r i ⌝ }
 {
     if kinds::programs::loops(r.kind) {
@@ -36,8 +36,8 @@ fn sibling(r: Program, i: usize) -> usize
 }
 
 // The code of a record's own move.
-fn entry_of(r: Program) -> u32
-    requires { ⌜ TwoBytes r ⌝ }
+pub fn entry_of(r: Program) -> u32
+    requires { ⌜ InWords r ⌝ }
     ensures { λ e. ⌜ e ≡ codeOf (ownMove r) ⌝ }
 {
     let a = r.a;
@@ -49,17 +49,17 @@ fn entry_of(r: Program) -> u32
 }
 
 // How far what a part leaves stands after its construct.
-fn past_words(alone: bool, words: usize) -> usize
+pub fn past_words(alone: bool, words: usize) -> usize
     ensures { λ r. ⌜ (r ≡ past alone words) × (r ≤ words) ⌝ }
 {
     if alone { 0 } else { words }
 }
 
 // Puts what part a of record i left, n nodes, into its construct: the new number of nodes.
-fn wrap_a(work: &mut [u32], to: usize, r: Program, i: usize, n: usize) -> usize
+pub fn wrap_a(work: &mut [u32], to: usize, r: Program, i: usize, n: usize) -> usize
     requires { ⌜ Room (now work) to (n + 2) ⌝ }
     requires { ⌜ i < 2 ^ 32 ⌝ }
-    requires { ⌜ TwoBytes r ⌝ }
+    requires { ⌜ InWords r ⌝ }
     ensures { λ m. ⌜ Wrapped (wrapA (tagA (r .kind)) (siblingA r i)) (to + past (eqb (tagA (r .kind)) 0) 3) to n m (now (work .entry)) (now (work .exit)) ⌝ }
 {
     let tag = kinds::programs::tag_a(r.kind);
@@ -71,9 +71,9 @@ fn wrap_a(work: &mut [u32], to: usize, r: Program, i: usize, n: usize) -> usize
 }
 
 // The same for part b, which part a stands left of.
-fn wrap_b(work: &mut [u32], to: usize, r: Program, n: usize) -> usize
+pub fn wrap_b(work: &mut [u32], to: usize, r: Program, n: usize) -> usize
     requires { ⌜ Room (now work) to (n + 2) ⌝ }
-    requires { ⌜ TwoBytes r ⌝ }
+    requires { ⌜ InWords r ⌝ }
     ensures { λ m. ⌜ Wrapped (wrapB (tagB (r .kind)) (r .a)) (to + past (eqb (tagB (r .kind)) 0) 6) to n m (now (work .entry)) (now (work .exit)) ⌝ }
 {
     let tag = kinds::programs::tag_b(r.kind);

@@ -112,7 +112,7 @@ enabled-at-requires-6 c κs =
     (at-start .pre .room, at-start .pre .part-b (rw (c .match .keys10) tt))
 
 some-requires : tie.Need-some-requires
-some-requires c κs = let few = c .before .before .before .pre .choice (rw (c .before .match .keys10) tt) in (few .1, few .0)
+some-requires c κs = let few = c .before .before .before .pre .choice (rw (c .before .match .keys10) tt) in (omega arith, omega arith)
 
 whole-requires : tie.Need-whole-requires
 whole-requires c κs = search needs

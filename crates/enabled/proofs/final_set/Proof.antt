@@ -4,6 +4,7 @@ use denote.Ref.{now}
 use Prim.Native.Nat.{ℕ}
 use mathlib.Core.Path.{_≡_, refl}
 use mathlib.Core.Bool.{true}
+use native.Mathlib.Omega.{arith}
 use borrow.Author.Tests.{ne-eqb}
 use Rattle.kinds.specs.Programs.{fieldA, fieldB, fieldC, finalOf}
 use Rattle.kinds.proofs.ProgramKinds.{by-kind}
@@ -116,7 +117,7 @@ final-at-requires-7 c κs =
     (at-start .pre .room, at-start .pre .part-b (rw (c .match .keys10) tt))
 
 some-requires : tie.Need-some-requires
-some-requires c κs = let few = c .before .before .before .pre .choice (rw (c .before .match .keys10) tt) in (few .1, few .0)
+some-requires c κs = let few = c .before .before .before .pre .choice (rw (c .before .match .keys10) tt) in (omega arith, omega arith)
 
 whole-requires-3 : tie.Need-whole-requires-3
 whole-requires-3 c κs = search needs

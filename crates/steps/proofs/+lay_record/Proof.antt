@@ -4,7 +4,7 @@ use mathlib.Core.Path.{sym, _∙_}
 use native.Mathlib.Omega.{arith}
 use denote.Ref.{now}
 use Rattle.steps.specs.Laid.{Sources, sourcesOf}
-use Rattle.steps.proofs.Laying.{IsRecord, OfParts, is-record, of-parts, own-lays, a-falls, a-can, a-room, a-lays, b-falls, b-can, b-room, b-lays, many-few}
+use Rattle.steps.proofs.Laying.{IsRecord, OfParts, is-record, of-parts, own-lays, a-falls, a-can, a-room, a-lays, b-falls, b-can, b-room, b-lays, in-words, many-few}
 use Prim.Native.Nat.{ℕ, _<_}
 use borrow.Fn.Kinds.{In, Out}
 use borrow.Fn.PlainCycle.{Measures, is, falls, and}
@@ -106,7 +106,7 @@ lay-record-put-node-requires : (t : ℕ) → lay-record-lts.Need-put-node-requir
 lay-record-put-node-requires t c κs = omega (arith, start-from-record-at (record-at-from-then1 (c .before)) .pre .1 .1 .room .inside)
 
 lay-record-entry-of-requires : (t : ℕ) → lay-record-lts.Need-entry-of-requires (claims t) (lay-record-at t) lay-record.Post
-lay-record-entry-of-requires t c κs = record-at-from-then1 (then1-from-put-node (c .before .before)) .record-at .ensures .1
+lay-record-entry-of-requires t c κs = in-words (record-at-from-then1 (then1-from-put-node (c .before .before)) .record-at .ensures .1)
 
 lay-record-same-length : (t : ℕ) → lay-record-lts.Need-same-length (claims t) (lay-record-at t) lay-record.Post
 lay-record-same-length t c = search needs
@@ -170,7 +170,7 @@ lay-record-wrap-a-requires t c κs =
       a-room (can .counted) (P .of) P (at-if2 .if2 .taken) (can .room) (at-lay-record .lay-record .ensures _ _ (can .counted)),
       (
         many-few (at-start .args .v .interrupts) (at-start .args .v .n) _ (at-start .pre .1 .0 .few) (can .inside),
-        record-at-from-first-by at-first-by .record-at .ensures .1,
+        in-words (record-at-from-first-by at-first-by .record-at .ensures .1),
       ),
     )
 
@@ -219,7 +219,7 @@ lay-record-wrap-b-requires t c κs =
     let P = parts-known t at-first-by in
     let can = start-from-first-by at-first-by .pre .1 .1 in (
       b-room (can .counted) (P .of) P (can .least) (at-if2 .if2 .left) (can .room) (at-lay-record2 .lay-record2 .ensures _ _ (can .counted)),
-      record-at-from-first-by at-first-by .record-at .ensures .1,
+      in-words (record-at-from-first-by at-first-by .record-at .ensures .1),
     )
 
 lay-record-same-length-3 : (t : ℕ) → lay-record-lts.Need-same-length-3 (claims t) (lay-record-at t) lay-record.Post

@@ -1,0 +1,12 @@
+pub mod Listed
+pub mod Rising
+pub mod From
+pub mod Levels
+pub mod Fields
+pub mod Powers
+pub mod Parts
+pub mod Values
+pub mod Forking
+pub mod Choosing
+pub mod Finding
+pub mod Placing
