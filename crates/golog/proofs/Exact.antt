@@ -54,7 +54,9 @@ none-iff [] h = (λ k m g t r. List·Memᴰ·not-nil (h m g t .1 r), λ k. tt)
 none-iff (x ∷ xs) h = (λ k. absurd k, λ k. k (x .0) (x .1 .0) (x .1 .1) (h (x .0) (x .1 .0) (x .1 .1) .0 (List·Memᴰ·head refl)))
 
 -- in one of the lists of a range
-lists-iff : {R : ℕ → Type 0} {x : Transition} (f : ℕ → List Transition) → ((v : ℕ) → List·Memᴰ x (f v) ↔ R v) → (k i : ℕ) → List·Memᴰ x (listsFrom f i k) ↔ ((v : ℕ) × InRange i k v × R v)
+lists-iff :
+    {R : ℕ → Type 0} {x : Transition} (f : ℕ → List Transition) → ((v : ℕ) → List·Memᴰ x (f v) ↔ R v) → (k i : ℕ)
+    → List·Memᴰ x (listsFrom f i k) ↔ ((v : ℕ) × InRange i k v × R v)
 unfolding listsFrom
 lists-iff f h zero i = (λ m. absurd (List·Memᴰ·not-nil m), λ (v, (l, m), r). absurd (omega arith))
 lists-iff {R} f h (suc k) i = Iff·trans (append-iff (f i) (listsFrom f (suc i) k) (h i) (lists-iff f h k (suc i))) (range-more R k i)

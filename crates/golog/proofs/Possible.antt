@@ -60,6 +60,8 @@ module _ (effect : ℕ → Effect) (says said : ℕ → Bool) (i k : ℕ) where
   conflict-same same = some-same _ _ k i (λ a l. some-same _ _ k i (λ b m. rw (same a l, same b m)))
 
   -- and strays alike
-  pub stray-same : (size : ℕ → ℕ) → ((a : ℕ) → InRange i k a → says (effect a .condition) ≡ said (effect a .condition)) → straying says size effect i k ≡ straying said size effect i k
+  pub stray-same :
+      (size : ℕ → ℕ) → ((a : ℕ) → InRange i k a → says (effect a .condition) ≡ said (effect a .condition))
+      → straying says size effect i k ≡ straying said size effect i k
   unfolding straying
   stray-same size same = some-same _ _ k i (λ a l. rw (same a l))

@@ -61,7 +61,9 @@ no-condition =
     (λ x y z t. t) (λ x y z t. t) (λ x y z t. z refl) (λ x y z t. t) (λ k x y z t. t)
 
 -- nor does another kind use part b
-pub no-second : (fa h idle : Bool) (kind : ℕ) → (kind ≡ 3 → ⊥) → (kind ≡ 4 → ⊥) → (kind ≡ 6 → ⊥) → (kind ≡ 8 → ⊥) → (kind ≡ 9 → ⊥) → false ≡ usesB kind fa h idle
+pub no-second :
+    (fa h idle : Bool) (kind : ℕ) → (kind ≡ 3 → ⊥) → (kind ≡ 4 → ⊥) → (kind ≡ 6 → ⊥) → (kind ≡ 8 → ⊥) → (kind ≡ 9 → ⊥)
+    → false ≡ usesB kind fa h idle
 unfolding usesB
 no-second fa h idle =
     by-kind (λ (k : ℕ). (k ≡ 3 → ⊥) → (k ≡ 4 → ⊥) → (k ≡ 6 → ⊥) → (k ≡ 8 → ⊥) → (k ≡ 9 → ⊥) → false ≡ usesB k fa h idle)

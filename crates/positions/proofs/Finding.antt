@@ -62,7 +62,9 @@ module _ {t : Tables} {i e : ℕ} (C : CanLook t i e) where
   pub forked-parts : {k : ℕ} {r : Program} {d : ℕ} {f : Fork} → r ≡ t .records i → d ≡ digitsIn t i → picks (r .kind) ≡ false → hasOwn (r .kind) ≡ false
       → ForksParts r (t .running) d e k (t .sets) f → Forked t i e k f
   forked-parts {k} {r} {d} {f} q z = subst (λ (r : Program). picks (r .kind) ≡ false → hasOwn (r .kind) ≡ false → ForksParts r (t .running) d e k (t .sets) f → Forked t i e k f) (sym q)
-      (subst (λ (d : ℕ). picks (t .records i .kind) ≡ false → hasOwn (t .records i .kind) ≡ false → ForksParts (t .records i) (t .running) d e k (t .sets) f → Forked t i e k f) (sym z) made)
+      (subst
+      (λ (d : ℕ). picks (t .records i .kind) ≡ false → hasOwn (t .records i .kind) ≡ false → ForksParts (t .records i) (t .running) d e k (t .sets) f → Forked t i e k f)
+      (sym z) made)
     where
       made : picks (t .records i .kind) ≡ false → hasOwn (t .records i .kind) ≡ false → ForksParts (t .records i) (t .running) (digitsIn t i) e k (t .sets) f → Forked t i e k f
       made plain other F =

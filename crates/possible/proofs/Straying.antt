@@ -29,7 +29,9 @@ placeholder-few fluents r gives l = ⊎-elim (λ k. omega (arith, gives .few)) (
 
 module _ (fluents table : List ℕ) (r : Effect) where
   -- where every value that it gives lies in the domain, all environments stay
-  all-stay : {set : List ℕ} → length set ≡ 8 → ((e : ℕ) → e < 256 → resolved e (r .value) < sizeIn fluents (r .fluent)) → Has (λ (e : ℕ). member set e && not (straysIn fluents table r e)) set
+  all-stay :
+      {set : List ℕ} → length set ≡ 8 → ((e : ℕ) → e < 256 → resolved e (r .value) < sizeIn fluents (r .fluent))
+      → Has (λ (e : ℕ). member set e && not (straysIn fluents table r e)) set
   all-stay {set} long inside = record {
     len = long;
     each = λ e l. sym (rw (lt-ltb (resolved e (r .value)) (sizeIn fluents (r .fluent)) (inside e l), and-false, and-true) refl);
@@ -41,7 +43,9 @@ module _ (fluents table : List ℕ) (r : Effect) where
       all-stay long (λ e small. rw (resolved-value e (r .value) l) (⊎-elim (λ k. k) (⊎-elim (λ z. absurd (omega arith)) (λ z. absurd (omega arith))) (gives .byte)))
 
   -- or the domain has all that a placeholder may hold
-  pub wide-stays : {set : List ℕ} → length set ≡ 8 → {size : ℕ} → size ≡ sizeIn fluents (r .fluent) → 16 ≤ size → Has (λ (e : ℕ). member set e && not (straysIn fluents table r e)) set
+  pub wide-stays :
+      {set : List ℕ} → length set ≡ 8 → {size : ℕ} → size ≡ sizeIn fluents (r .fluent) → 16 ≤ size
+      → Has (λ (e : ℕ). member set e && not (straysIn fluents table r e)) set
   wide-stays long z l = all-stay long (λ e small. omega (arith, resolved-fits e (r .value) small))
 
   -- where its byte means a placeholder, those are taken out in which it has reached the size

@@ -14,7 +14,8 @@ use Rattle.enabled.proofs.spans.Statement.{statement}
 use Rattle.enabled.proofs.spans.Tie as tie
 
 abbrev Inv-loop : tie.InvT-loop
-Inv-loop programs n interrupts m first second spans₀ i₀ spans i = (i ≤ m) × Filled 0 (spanAt (extended interrupts (programAt programs) n) (extendedSize interrupts n)) (λ (k : ℕ). k) 260 spans i
+Inv-loop programs n interrupts m first second spans₀ i₀ spans i =
+    (i ≤ m) × Filled 0 (spanAt (extended interrupts (programAt programs) n) (extendedSize interrupts n)) (λ (k : ℕ). k) 260 spans i
 
 abbrev μ-loop : tie.MeasureT-loop
 μ-loop programs n interrupts m first second spans₀ i₀ spans i = m - i
