@@ -1,4 +1,6 @@
 // The height of a program table, whether it has interrupts, and the work figure.
+#![tactic(auto)]
+
 ghost use Rattle.std.specs.Prelude.{◌≡◌, cond, ℕ, suc, ◌+◌, ◌-◌, ◌*◌, ◌≤◌, ◌<◌, max, length, get_or};
 ghost use Rattle.records.specs.Records.{program_at, ProgramTable};
 ghost use Rattle.kinds.specs.Programs.{links};

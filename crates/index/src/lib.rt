@@ -1,5 +1,7 @@
 // An index of keys in a lent slice of any length: each key is a run of words and has one value. Words 0 and 1 are the number of words that
 // entries use and the round, then come the heads, then the entries.
+#![tactic(auto)]
+
 ghost use Rattle.std.specs.Prelude.{◌≡◌, true, List, ℕ, ◌+◌, ◌-◌, ◌*◌, ◌/◌, ◌^◌, ◌≤◌, ◌<◌, min, length, get_or};
 ghost use Rattle.records.specs.Laid.{Laid};
 ghost use Rattle.index.specs.Written.{Entered};

@@ -1,6 +1,8 @@
 // Which fluents the formulas of a sheet name (document 02, F-5), as 32-bit sets, bit x for fluent x: each formula through all its
 // subformulas, each action's precondition with the conditions of its effects, and all formulas together. They do not depend on the state:
 // they are made once.
+#![tactic(auto)]
+
 ghost use Rattle.std.specs.Prelude.{◌≡◌, ◌+◌, ◌*◌, ◌≤◌, ◌<◌, length};
 ghost use Rattle.records.specs.Records.{formula_at};
 ghost use Rattle.kinds.specs.Sets.{set_of};

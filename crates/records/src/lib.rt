@@ -1,4 +1,6 @@
 // One record of each of a sheet's five tables, read from the table's bytes; and what a table says of a place, or a default past its end.
+#![tactic(auto)]
+
 ghost use Rattle.std.specs.Prelude.{◌≡◌, ◌+◌, ◌*◌, ◌≤◌, ◌<◌, length, get_or};
 ghost use Rattle.records.specs.Bytes.{limit16, le16, le32};
 ghost use Rattle.records.specs.Records.{fluent_at, formula_at, effect_at, action_at, program_at, TwoBytes};

@@ -1,4 +1,6 @@
 // The rule of each table's records, and the lowest record of a table that breaks it.
+#![tactic(auto)]
+
 ghost use Rattle.std.specs.Prelude.{◌≡◌, ◌+◌, ◌*◌, ◌≤◌, ◌<◌, length};
 ghost use Rattle.records.specs.Bytes.{limit16};
 ghost use Rattle.records.specs.Records.{fluent_at};

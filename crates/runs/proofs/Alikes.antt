@@ -25,7 +25,7 @@ module _ {C : Type 0} {R : C → C → Type 0} where
   by_moves P p q {xs = []} {ys = []} m = p
   by_moves P p q {xs = []} {ys = y ∷ ys} m = absurd m.same
   by_moves P p q {xs = x ∷ xs} {ys = []} m = absurd m.same
-  by_moves P p q {xs = x ∷ xs} {ys = y ∷ ys} m = let (e, r, n) = m.same in q x y xs ys e r (by_moves P p q (record { same = n }))
+  by_moves P p q {xs = x ∷ xs} {ys = y ∷ ys} m = let (e, r, n) = m.same in q x y xs ys e r (by_moves P p q {xs = xs} {ys = ys} (record { same = n }))
 
   -- one transition
   pub rows_one : (m : Option ℕ) (c d : C) → R c d → Rows R ((m, c) ∷ []) ((m, d) ∷ [])

@@ -1,5 +1,7 @@
 // Sets of environments (specs/Sets.antt): eight words, environment e is bit e % 32 of word e / 32. A row, half a word, has the sixteen
 // environments with one value in placeholder 1, a bit for each value of placeholder 0; the operations work on whole words and rows.
+#![tactic(auto)]
+
 ghost use Rattle.std.specs.Prelude.{◌≡◌, true, false, not, ◌&&◌, ◌||◌, ℕ, ◌+◌, ◌*◌, ◌≤◌, ◌<◌, eqb, ltb, length};
 ghost use Rattle.records.specs.Mask.{has_bit};
 ghost use Rattle.records.specs.Placeholders.{look, put};

@@ -1,0 +1,45 @@
+-- In each arm the kind is known, so the column has one entry there; the kinds that no arm names have the default. Assumes nothing.
+use mathlib.Core.Path.{◌≡◌, refl}
+use Prim.Native.Nat.{ℕ}
+use Rattle.kinds.specs.Programs.{tag_a}
+use Rattle.kinds.proofs.ProgramKinds.{by_kind}
+use Rattle.kinds.proofs.programs.tag_a.Goals as goal
+
+pub returns-in-3 : goal.returns-in-3
+unfolding tag_a
+returns-in-3 c = rw c.in-3.is
+
+pub returns-in-5 : goal.returns-in-5
+unfolding tag_a
+returns-in-5 c = rw c.in-5.is
+
+pub returns-in-7 : goal.returns-in-7
+unfolding tag_a
+returns-in-7 c = rw c.in-7.is
+
+pub returns-in-8 : goal.returns-in-8
+unfolding tag_a
+returns-in-8 c = rw c.in-8.is
+
+pub returns-in-9 : goal.returns-in-9
+unfolding tag_a
+returns-in-9 c = rw c.in-9.is
+
+pub returns-in-10 : goal.returns-in-10
+unfolding tag_a
+returns-in-10 c = rw c.in-10.is
+
+pub returns-in-11 : goal.returns-in-11
+unfolding tag_a
+returns-in-11 c = rw c.in-11.is
+
+pub returns-in_default : goal.returns-in_default
+unfolding tag_a
+returns-in_default c =
+    let kind = c.args.kind in
+    let r = c.in_default.in_default-own.rest in
+    by_kind (λ (k : ℕ). kind ≡ k → 0 ≡ tag_a k)
+    (λ e. refl) (λ e. refl) (λ e. refl) (λ e. absurd (r.0.0.0.0.0.0.1 e)) (λ e. refl) (λ e. absurd (r.0.0.0.0.0.1 e)) (λ e. refl)
+    (λ e. absurd (r.0.0.0.0.1 e)) (λ e. absurd (r.0.0.0.1 e)) (λ e. absurd (r.0.0.1 e)) (λ e. absurd (r.0.1 e)) (λ e. absurd (r.1 e)) (λ e. refl)
+    (λ k e. refl)
+    kind refl

@@ -1,0 +1,10 @@
+use Prim.Native.Nat.{◌-◌}
+use Rattle.records.proofs.Scan.{Scan}
+use Rattle.rules.specs.Tables.{formulas_ok}
+use Rattle.rules.proofs.formulas.Given as goal
+
+abbrev pub invariant-loop-i : goal.invariant-loop-i
+invariant-loop-i l = Scan (formulas_ok l.fluents l.nf l.t) l.n l.i
+
+abbrev pub decreases-loop-i : goal.decreases-loop-i
+decreases-loop-i l = l.n - l.i

@@ -1,0 +1,22 @@
+-- The loop keeps the invariant of Scan for the rule of program records. Assumes nothing.
+use Prim.Native.Nat.{◌-◌}
+use mathlib.Core.Path.{ap, ◌∙◌}
+use Rattle.records.proofs.Scan.{start, more, found, done}
+use Rattle.kinds.specs.Programs.{program_ok}
+use Rattle.std.proofs.lemmas.Bool.{not_from_true}
+use Rattle.std.proofs.lemmas.Bool.{not_from_false}
+use Rattle.rules.proofs.programs.Goals as goal
+
+pub loop-i-init : goal.loop-i-init
+loop-i-init c = start _ _
+
+pub returns-then-not-program_ok : goal.returns-then-not-program_ok
+returns-then-not-program_ok c =
+    found _ c.loop-i.invariant c.loop-i-test.true (c.program_ok.ensures ∙ ap (program_ok _ _ _) c.program_at.ensures.record) (not_from_false _ c.if-not-program_ok.true)
+
+pub loop-i-preserved : goal.loop-i-preserved
+loop-i-preserved c =
+    more _ c.loop-i.invariant c.loop-i-test.true (c.program_ok.ensures ∙ ap (program_ok _ _ _) c.program_at.ensures.record) (not_from_true _ c.if-not-program_ok.false)
+
+pub returns : goal.returns
+returns c = done _ c.loop-i.invariant c.loop-i-test.false
