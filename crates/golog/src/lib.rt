@@ -1,6 +1,8 @@
 // The state that conditions and actions speak of. Its meaning, and that of programs, is in specs/; nothing runs here.
 
 // The entries of a history for start and stop, above every action's number.
+#![tactic(auto)]
+
 pub const START: usize = 65534;
 
 pub const STOP: usize = 65535;

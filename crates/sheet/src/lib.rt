@@ -1,4 +1,6 @@
 // The sheet: its trailer, its five tables as parts, the nine checks, and the notes.
+#![tactic(auto)]
+
 ghost use Rattle.std.specs.Prelude.{◌≡◌, ◌+◌, ◌*◌, ◌≤◌, length};
 ghost use Rattle.sheet.specs.Trailer.{trailer_of, limits_ok, WithinLimits, record_bytes, distance_ok};
 ghost use Rattle.kinds.specs.Formulas.{LowerFormulas};

@@ -1,4 +1,6 @@
 // One state: what all formulas say of it, whether an action is possible, and the state after it.
+#![tactic(auto)]
+
 ghost use Rattle.std.specs.Prelude.{◌≡◌, ◌+◌, ◌*◌, ◌≤◌, length, T};
 ghost use Rattle.records.specs.Records.{formula_at, effect_at, action_at};
 ghost use Rattle.kinds.specs.Truth.{truth_of};

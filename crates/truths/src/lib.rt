@@ -1,4 +1,6 @@
 // What formulas with placeholders say of one state, in every environment at once: for each formula the set of those in which it holds.
+#![tactic(auto)]
+
 ghost use Rattle.std.specs.Prelude.{ℕ, ◌+◌, ◌*◌, ◌≤◌, ◌<◌, eqb, length};
 ghost use Rattle.records.specs.Placeholders.{look};
 ghost use Rattle.sets.specs.Sets.{Has};

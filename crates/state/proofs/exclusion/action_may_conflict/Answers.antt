@@ -1,0 +1,11 @@
+-- Where no effects contradict each other although every formula holds, none give one fluent different values. Assumes nothing.
+use mathlib.Core.Path.{sym, ◌∙◌}
+use borrow.Author.Tests.{not-false}
+use Rattle.state.proofs.Excluding.{held_exclusive}
+use Rattle.state.proofs.exclusion.action_may_conflict.Goals as goal
+
+pub returns-then-conflict : goal.returns-then-conflict
+returns-then-conflict c = λ e. c.is_exclusive.ensures (not-false c.is_exclusive.result e)
+
+pub returns : goal.returns
+returns c = λ e. held_exclusive _ _ _ _ c.requires.conditions (sym c.conflict.ensures ∙ c.if-conflict.false)
