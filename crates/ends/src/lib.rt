@@ -40,7 +40,7 @@ pub fn goes_right(tag: u32, done: bool, idle: bool) -> bool
 
 // Whether it is final, how many transitions it has, how far it is from its end at least, and the same by way of any transition, that one
 // counted.
-#[derive(Drop)]
+#[derive(Clone, Copy)]
 pub struct Totals {
     pub done: bool,
     pub count: usize,

@@ -16,7 +16,7 @@ use records::Program;
 pub const TEST: u32 = 65536;
 
 // How a program table is read: the number of its records, whether there are interrupts, and whether they run.
-#[derive(Drop)]
+#[derive(Clone, Copy)]
 pub struct Setting {
     pub n: usize,
     pub interrupts: bool,
@@ -84,7 +84,7 @@ pub fn wrap_b(work: &mut [u32], to: usize, r: Program, n: usize) -> usize
 }
 
 // What a transition left: the code of its move, and the number of nodes.
-#[derive(Drop)]
+#[derive(Clone, Copy)]
 pub struct Laid {
     pub entry: u32,
     pub size: usize,
@@ -133,7 +133,7 @@ fn lay_record(
 }
 
 // A transition that was made, with the code of its move and the number of nodes; or none, with what is left of k and whether it is final.
-#[derive(Drop)]
+#[derive(Clone, Copy)]
 pub enum Turn {
     Made { entry: u32, size: usize },
     Passed { k: usize, done: bool },

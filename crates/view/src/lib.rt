@@ -9,7 +9,7 @@ use sheet::{Inspected, Refusal};
 
 // Document 01: "a struct holding the sheet slice and table offset"; the number and the place say why a sheet was turned away, and are 0
 // where it was not.
-#[derive(Drop)]
+#[derive(Clone, Copy)]
 pub struct View<'a> {
     pub src: &'a [u8],
     pub at: usize,
@@ -18,7 +18,7 @@ pub struct View<'a> {
 }
 
 // What a view holds beside the slice.
-#[derive(Drop)]
+#[derive(Clone, Copy)]
 pub struct Opened {
     pub at: usize,
     pub number: u32,
