@@ -1,4 +1,6 @@
 // Looks up one fluent of a table.
+#![tactic(auto)]
+
 ghost use Rattle.std.specs.Prelude.{◌≡◌, ◌*◌, ◌≤◌, length};
 ghost use Rattle.lookup.specs.LookUp.{looked_in};
 
