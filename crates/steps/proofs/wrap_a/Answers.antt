@@ -15,7 +15,7 @@ put_leaf_right-requires c =
     record {
       room = c.requires.room;
       three = construct_a _ c.tag_a-tag.ensures c.if-tag-eq0.false;
-      fits = omega (arith, c.sibling.ensures, choice_few (loops r.kind) _ r.b (2 ^ 32) c.requires.i_bound.0 (omega (arith, c.requires.i_bound.1.b)));
+      fits = omega (arith, c.sibling.ensures, choice_few (loops r.kind) _ r.b (2 ^ 32) c.requires.i_bound (omega (arith, c.requires.in_words.b)));
     }
 
 pub returns : goal.returns
