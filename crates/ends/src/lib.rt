@@ -1,4 +1,6 @@
 // What the tables say of a remaining program: each function calls itself on the parts, whose sizes fall.
+#![tactic(auto)]
+
 ghost use Rattle.std.specs.Prelude.{◌≡◌, cond, ◌*◌, ◌^◌, ◌<◌, min, length};
 ghost use Rattle.remaining.specs.Rest.{Rest};
 ghost use Rattle.remaining.specs.Leaves.{goes_right};

@@ -1,5 +1,7 @@
 // The k-th transition of a remaining program: straight down by counts to what performs it, and on the way back up the constructs around
 // what it leaves.
+#![tactic(auto)]
+
 ghost use Rattle.std.specs.Prelude.{◌≡◌, ◌&&◌, ◌+◌, ◌^◌, ◌≤◌, ◌<◌, eqb};
 ghost use Rattle.records.specs.Records.{ProgramTable};
 ghost use Rattle.kinds.specs.Programs.{tag_a, tag_b};

@@ -1,5 +1,7 @@
 // A view of a sheet: it looks at the caller's bytes and copies nothing. `open`, `find` and `viewed` are walked by hand; `opened_of`,
 // `count_from` and `find_in`, which do the work, and `look_up` above them are covered.
+#![tactic(auto)]
+
 ghost use Rattle.std.specs.Prelude.{◌≡◌, min};
 ghost use Rattle.lookup.specs.LookUp.{look_of};
 ghost use Rattle.view.specs.View.{opened_of, count_from, found_from, view_of, found_in};
