@@ -22,7 +22,7 @@ explore-o-requires c =
     let O = c.requires.0 in
     let e = ap (λ (l : Layout). l.d) O.layout_is in
     let f = laid _ O.accepted in
-    (c.stand.ensures, omega (arith, e), omega (arith, e, f.d), c.requires.2, nothing_noted c.args.s.now _ c.begin.ensures)
+    (c.stand.ensures.stands, omega (arith, e), omega (arith, e, f.d), c.requires.2, nothing_noted c.args.s.now _ c.begin.ensures)
 
 pub returns-clause-answer : goal.returns-clause-answer
 returns-clause-answer c =
@@ -31,4 +31,4 @@ returns-clause-answer c =
 
 pub returns-clause-work : goal.returns-clause-work
 returns-clause-work c =
-    let O = c.requires.0 in c.clear.ensures ∙ ap (λ (n : ℕ). replicate n 0) (c.explore-o.auto.work ∙ c.stand.auto.work)
+    let O = c.requires.0 in c.clear.ensures.work ∙ ap (λ (n : ℕ). replicate n 0) (c.explore-o.auto.work ∙ c.stand.auto.work)

@@ -33,5 +33,6 @@ pub returns : goal.returns
 returns c =
     let L = c.loop-i.invariant.1 in
     let w = c.args.work.now in
-    ext_get_or 0 _ (replicate (length w) 0) (L.len ∙ sym (length-replicate (length w) 0))
-    (λ k h. ap (λ (j : ℕ). get_or c.loop-i.work j 0) (omega arith) ∙ L.laid k (omega (arith, L.len)) ∙ sym (get_d_same 0 (length w) k))
+    let all_0 = ext_get_or 0 _ (replicate (length w) 0) (L.len ∙ sym (length-replicate (length w) 0))
+    (λ k h. ap (λ (j : ℕ). get_or c.loop-i.work j 0) (omega arith) ∙ L.laid k (omega (arith, L.len)) ∙ sym (get_d_same 0 (length w) k)) in
+    record { work = all_0 }
