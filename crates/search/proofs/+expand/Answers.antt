@@ -140,7 +140,7 @@ returns-then-note-clause-answer t c =
             (went c.loop-t.trace Y C c.see-a.ensures (not-true _ w.if-not-a.true) c.loop-t.invariant.5.0.some_left w.expand-o.ensures.answer w.expand-o.ensures.tables refl)
           | else-not-a w ↦ as_left w.work-is w.trace-is w.flags-is w.numbers-is w.stale-is w.o-is (seen c.loop-t.trace Y C c.see-a.ensures (not-false _ w.if-not-a.false))
         ] in
-    let D = passed T (sym c.lets_pass.ensures ∙ c.if-lets_pass.true) Y searched c.note.ensures.written in
+    let D = passed T (sym c.lets_pass.ensures ∙ c.if-lets_pass.true) Y searched c.note.ensures.trace in
     D.plan (sym c.note.ensures.answer ∙ c.if-note.true)
 
 pub returns-then-note-clause-tables : goal.returns-then-note-clause-tables
@@ -156,7 +156,7 @@ returns-then-note-clause-tables t c =
             (went c.loop-t.trace Y C c.see-a.ensures (not-true _ w.if-not-a.true) c.loop-t.invariant.5.0.some_left w.expand-o.ensures.answer w.expand-o.ensures.tables refl)
           | else-not-a w ↦ as_left w.work-is w.trace-is w.flags-is w.numbers-is w.stale-is w.o-is (seen c.loop-t.trace Y C c.see-a.ensures (not-false _ w.if-not-a.false))
         ] in
-    let D = passed T (sym c.lets_pass.ensures ∙ c.if-lets_pass.true) Y searched c.note.ensures.written in
+    let D = passed T (sym c.lets_pass.ensures ∙ c.if-lets_pass.true) Y searched c.note.ensures.trace in
     D.preserves
 
 pub returns-then-note-clause-index : goal.returns-then-note-clause-index
@@ -185,7 +185,7 @@ loop-t-preserved-then-lets_pass t c =
             (went c.loop-t.trace Y C c.see-a.ensures (not-true _ w.if-not-a.true) c.loop-t.invariant.5.0.some_left w.expand-o.ensures.answer w.expand-o.ensures.tables refl)
           | else-not-a w ↦ as_left w.work-is w.trace-is w.flags-is w.numbers-is w.stale-is w.o-is (seen c.loop-t.trace Y C c.see-a.ensures (not-false _ w.if-not-a.false))
         ] in
-    let D = passed T (sym c.lets_pass.ensures ∙ c.if-lets_pass.true) Y searched c.note.ensures.written in
+    let D = passed T (sym c.lets_pass.ensures ∙ c.if-lets_pass.true) Y searched c.note.ensures.trace in
     (
       elim c.if-not-a.branch [
         then-not-a w ↦ ap length w.work-is ∙ w.expand-o.auto.work ∙ c.next-x.auto.work ∙ c.loop-t.invariant.0
