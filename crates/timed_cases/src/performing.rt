@@ -65,11 +65,8 @@ fn perform_often(
 {
     let begin = clock::microseconds(rt);
     let mut v = values;
-    let mut i = 0;
-    while i < TIMES {
-        let new = new_values(one_pass, effects, r, n, truths, v);
-        v = new;
-        i += 1;
+    for _ in 0..TIMES {
+        v = new_values(one_pass, effects, r, n, truths, v);
     }
     Round {
         values: v,
@@ -78,14 +75,7 @@ fn perform_often(
 }
 
 fn is_same(a: [u8; 32], b: [u8; 32]) -> bool {
-    let mut x = 0;
-    while x < 32 {
-        if a[x] != b[x] {
-            return false;
-        }
-        x += 1;
-    }
-    true
+    a == b
 }
 
 // Both ways in turn, round by round.
@@ -102,8 +92,7 @@ fn measure(
     let mut one_pass = 0xffffffffffffffff;
     let mut each_fluent = 0xffffffffffffffff;
     let mut same = true;
-    let mut i = 0;
-    while i < ROUNDS {
+    for _ in 0..ROUNDS {
         let a = perform_often(rt, true, effects, r, n, truths, values);
         let b = perform_often(rt, false, effects, r, n, truths, values);
         one_pass = clock::least(one_pass, a.time);
@@ -111,7 +100,6 @@ fn measure(
         let by_one_pass = a.values;
         let by_each_fluent = b.values;
         same = same & is_same(by_one_pass, by_each_fluent);
-        i += 1;
     }
     Times {
         one_pass,

@@ -65,14 +65,7 @@ fn answer_of(p: Planned) -> Answer {
 }
 
 fn is_zero(index: &[u32]) -> bool {
-    let mut i = 0;
-    while i < index.len() {
-        if index[i] != 0 {
-            return false;
-        }
-        i += 1;
-    }
-    true
+    index.iter().all(|word| *word == 0)
 }
 
 // Plans with this index.
@@ -103,14 +96,7 @@ fn is_same(a: Answer, b: Answer) -> bool {
 }
 
 fn is_same_trace(a: [u16; ENTRIES], b: [u16; ENTRIES]) -> bool {
-    let mut i = 0;
-    while i < ENTRIES {
-        if a[i] != b[i] {
-            return false;
-        }
-        i += 1;
-    }
-    true
+    a == b
 }
 
 fn tell(rt: &impl Print, a: Answer) -> io::Result<()> {
@@ -153,14 +139,12 @@ fn measure(rt: &impl CpuClock, s: &[u8], expected: Answer) -> Times {
     let mut with_index = 0xffffffffffffffff;
     let mut without = 0xffffffffffffffff;
     let mut same = true;
-    let mut i = 0;
-    while i < ROUNDS {
+    for _ in 0..ROUNDS {
         let a = plan(rt, s, INDEX);
         let b = plan(rt, s, 0);
         with_index = clock::least(with_index, a.time);
         without = clock::least(without, b.time);
         same = same & is_same(a.answer, expected) & is_same(b.answer, expected);
-        i += 1;
     }
     Times {
         with_index,
@@ -208,12 +192,10 @@ fn agrees(rt: &impl CpuClock, s: &[u8], expected: Run) -> bool {
     let answer = expected.answer;
     let trace = expected.trace;
     let mut same = true;
-    let mut i = 0;
-    while i < LENGTHS {
+    for i in 0..LENGTHS {
         let r = plan(rt, s, length_at(i));
         let entries = r.trace;
         same = same & is_same(r.answer, answer) & is_same_trace(entries, trace) & r.cleared;
-        i += 1;
     }
     same
 }
