@@ -66,7 +66,8 @@ fn perform_often(
     let begin = clock::microseconds(rt);
     let mut v = values;
     for _ in 0..TIMES {
-        v = new_values(one_pass, effects, r, n, truths, v);
+        let new = new_values(one_pass, effects, r, n, truths, v);
+        v = new;
     }
     Round {
         values: v,
