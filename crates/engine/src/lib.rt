@@ -53,7 +53,7 @@ const COUNTS: usize = MAY_CONFLICT + state::exclusion::LIST;
 const SURVEYS: usize = COUNTS + SETS * leaves::RECORDS;
 
 // How far the transitions of a configuration have been gone through: the number of the next one, and how many there are.
-#[derive(Drop)]
+#[derive(Clone, Copy)]
 pub struct Cursor {
     pub next: usize,
     pub end: usize,
@@ -61,7 +61,7 @@ pub struct Cursor {
 
 // What a survey tells of a configuration: whether it is final, how far it is from its end at least by way of any transition, that one
 // counted, and the first cursor.
-#[derive(Drop)]
+#[derive(Clone, Copy)]
 pub struct Findings {
     pub done: bool,
     pub soon: usize,
@@ -69,7 +69,7 @@ pub struct Findings {
 }
 
 // The next transition, where one was made: the code of its move, the state after it, and the cursor after it.
-#[derive(Drop)]
+#[derive(Clone, Copy)]
 pub struct Taken {
     pub made: bool,
     pub entry: u32,
