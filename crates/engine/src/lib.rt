@@ -1,6 +1,8 @@
 // The machine on one configuration of an accepted sheet: its first remaining program, a survey of a configuration, and its transitions
 // made one by one from a cursor on. A state goes by value, a remaining program stands in a frame of the work area, and the tables of a
 // state in two lent slices that only this crate looks into.
+#![tactic(auto)]
+
 ghost use Rattle.std.specs.Prelude.{◌≡◌, ℕ, ◌+◌, ◌*◌, ◌%◌, ◌^◌, ◌<◌, ◌≤◌, true, false, List, length, slice_index};
 ghost use Rattle.sheet.specs.Layout.{layout_of};
 ghost use Rattle.sheet.specs.Inspection.{Of};
