@@ -1,5 +1,6 @@
 /*
- * The verified planner, for C (C99) and C++ (C++11), and for every language that calls C; x86-64 System V.
+ * The verified planner, for C (C99) and C++ (C++11), and for every language that calls C; x86-64 System V. The archive
+ * has instructions of x86-64-v2.
  *
  *     scripts/build planner_c       writes target/staticlib/libplanner_c.a
  *     cc -Iinclude program.c target/staticlib/libplanner_c.a
