@@ -7,7 +7,7 @@ use borrow.Author.Tests.{not-true, not-false}
 use Rattle.kinds.specs.Programs.{has_own}
 use Rattle.records.specs.declared.Program.{Program}
 use Rattle.positions.specs.Found.{further}
-use Rattle.positions.proofs.Finding.{way_falls, way_can, way_fits, rank, rank_falls, finds_nowhere, finds_idle, finds_own, by_first, by_second, finds_first, finds_second}
+use Rattle.positions.proofs.Finding.{way_falls, way_can, way_fits, rank, rank_falls, finds_nowhere, finds_idle, finds_own, by_first, by_second, finds_first, finds_other}
 use Rattle.positions.proofs.Finding.{answer_there, answer_none}
 use Prim.Native.Nat.{ℕ, ◌<◌}
 use borrow.Fn.Kinds.{In, Out}
@@ -190,7 +190,7 @@ find-way-returns-5 t c W s Q =
     let can = at-start.pre.1.1 goes in
     let other : has_own at-ways.ways.result.r.kind ≡ false = sym at-has-own.has-own.ensures ∙ at-if3.if3.false in
     let F = at-ways.ways.ensures.forked other in
-    finds_second Q at-start.args.w goes (F.forks W s Q) (at-find-way.find-way.ensures W s Q ∙ answer_none at-find-way.find-way.result at-if4.if4.false)
+    finds_other Q at-start.args.w goes (F.forks W s Q) (at-find-way.find-way.ensures W s Q ∙ answer_none at-find-way.find-way.result at-if4.if4.false)
     (c.before.find-way2.ensures W s Q) ∙ sym c.further-on2.ensures
 
 pub +find-way-spec : {M : Type 1} → statement M

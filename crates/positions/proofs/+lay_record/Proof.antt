@@ -4,7 +4,7 @@ use mathlib.Core.Bool.{false}
 use native.Mathlib.Omega.{arith}
 use borrow.Author.Rules.{rules}
 use Rattle.kinds.specs.Programs.{has_own}
-use Rattle.positions.proofs.Placing.{can_read, is_read, place_falls, first_leads, can_first, first_room, first_placed, second_leads, can_second, second_room, second_placed, own_placed}
+use Rattle.positions.proofs.Placing.{can_read, is_read, place_falls, first_leads, can_first, first_room, first_laid, second_leads, can_second, second_room, second_laid, own_laid}
 use Prim.Native.Nat.{ℕ, ◌<◌}
 use borrow.Fn.Kinds.{In, Out}
 use borrow.Fn.PlainCycle.{Measures, is, falls, and}
@@ -131,7 +131,7 @@ lay-record-returns t c =
     let at-start = start-from-ways at-ways in
     let C = at-start.pre.1.1 in
     let is = is_read C.look at-ways.ways.ensures.record_is (at-wide32.wide32.ensures.0 ∙ at-number-in.number_in.ensures) at_read.read.ensures.0 in
-    own_placed C at-ways.ways.ensures is (sym at-has-own.has-own.ensures ∙ at-if1.if1.true) c.before.before.lay-own.ensures
+    own_laid C at-ways.ways.ensures is (sym at-has-own.has-own.ensures ∙ at-if1.if1.true) c.before.before.lay-own.ensures
 
 lay-record-tag-a-requires : (t : ℕ) → lay-record-lts.Need-tag-a-requires (claims t) (lay-record-at t) lay-record.Post
 lay-record-tag-a-requires t c κs = search rules
@@ -181,7 +181,7 @@ lay-record-wrap-laid-a-requires t c κs =
     let C = at-start.pre.1.1 in
     let is = is_read C.look at-ways.ways.ensures.record_is (at-wide32.wide32.ensures.0 ∙ at-number-in.number_in.ensures) at_read.read.ensures.0 in
     let other : has_own at_read.read.result.kind ≡ false = sym at-has-own.has-own.ensures ∙ at-if1.if1.false in (
-      first_room C at-ways.ways.ensures is other at-if2.if2.true at-lay-record.lay-record.result at-lay-record.lay-record.ensures,
+      first_room C at-ways.ways.ensures is other at-if2.if2.true at-lay-record.lay-record.ensures,
       (c.reading-of.ensures.1, at_read.read.ensures.1),
     )
 
@@ -205,7 +205,7 @@ lay-record-returns-2 t c =
     let C = at-start.pre.1.1 in
     let is = is_read C.look at-ways.ways.ensures.record_is (at-wide32.wide32.ensures.0 ∙ at-number-in.number_in.ensures) at_read.read.ensures.0 in
     let other : has_own at_read.read.result.kind ≡ false = sym at-has-own.has-own.ensures ∙ at-if1.if1.false in
-    first_placed C at-ways.ways.ensures is other at-if2.if2.true at-lay-record.lay-record.result at-lay-record.lay-record.ensures at-tag-a.tag-a.ensures
+    first_laid C at-ways.ways.ensures is other at-if2.if2.true at-lay-record.lay-record.result at-lay-record.lay-record.ensures at-tag-a.tag-a.ensures
     at-past-words.past_words.ensures.0 refl
     at-reading-of.reading-of.ensures.0 c.before.before.wrap-laid-a.ensures
 
@@ -252,7 +252,7 @@ lay-record-wrap-laid-b-requires t c κs =
     let C = at-start.pre.1.1 in
     let is = is_read C.look at-ways.ways.ensures.record_is (at-wide32.wide32.ensures.0 ∙ at-number-in.number_in.ensures) at_read.read.ensures.0 in
     let other : has_own at_read.read.result.kind ≡ false = sym at-has-own.has-own.ensures ∙ at-if1.if1.false in
-    (second_room C at-ways.ways.ensures is other at-if2.if2.false at-lay-record2.lay-record2.result at-lay-record2.lay-record2.ensures, at_read.read.ensures.1)
+    (second_room C at-ways.ways.ensures is other at-if2.if2.false at-lay-record2.lay-record2.ensures, at_read.read.ensures.1)
 
 lay-record-same-length-3 : (t : ℕ) → lay-record-lts.Need-same-length-3 (claims t) (lay-record-at t) lay-record.Post
 lay-record-same-length-3 t c = search rules
@@ -273,7 +273,7 @@ lay-record-returns-3 t c =
     let C = at-start.pre.1.1 in
     let is = is_read C.look at-ways.ways.ensures.record_is (at-wide32.wide32.ensures.0 ∙ at-number-in.number_in.ensures) at_read.read.ensures.0 in
     let other : has_own at_read.read.result.kind ≡ false = sym at-has-own.has-own.ensures ∙ at-if1.if1.left in
-    second_placed C at-ways.ways.ensures is other at-if2.if2.left at-lay-record2.lay-record2.result at-lay-record2.lay-record2.ensures at-tag-b.tag-b.ensures
+    second_laid C at-ways.ways.ensures is other at-if2.if2.left at-lay-record2.lay-record2.result at-lay-record2.lay-record2.ensures at-tag-b.tag-b.ensures
     at-past-words2.past-words2.ensures.0 refl c.before.before.wrap-laid-b.ensures
 
 pub +lay-record-spec : {M : Type 1} → statement M
