@@ -26,3 +26,50 @@ pub fn read_full<R: Read>(input: &mut R, buf: &mut [u8]) -> io::Result<usize>
     }
     Ok(done)
 }
+
+#[cfg(test)]
+mod tests {
+    use super::*;
+    use std::io::ErrorKind;
+
+    // So many bytes, one at a time, and then a failure.
+    #[derive(Drop)]
+    struct Failing(usize);
+
+    impl Read for Failing {
+        fn read(&mut self, buf: &mut [u8]) -> io::Result<usize> {
+            if self.0 == 0 || buf.is_empty() {
+                return Err(io::Error::from(ErrorKind::BrokenPipe));
+            }
+            buf[0] = b'x';
+            self.0 -= 1;
+            Ok(1)
+        }
+    }
+
+    // The end of a read is not the end of the input.
+    #[test]
+    fn reads_in_parts(rt: HostRuntime) {
+        let mut input = Read::chain(&b"ab"[..], &b"cde"[..]);
+        let mut buf = [0u8; 7];
+        let n = read_full(&mut input, &mut buf);
+        assert_eq!(rt; n.ok(), Some(5));
+        assert!(rt; &buf == b"abcde\0\0");
+    }
+
+    #[test]
+    fn stops_when_full(rt: HostRuntime) {
+        let mut input = Failing(3);
+        let mut buf = [0u8; 3];
+        assert_eq!(rt; read_full(&mut input, &mut buf).ok(), Some(3));
+        assert!(rt; &buf == b"xxx");
+    }
+
+    #[test]
+    fn passes_a_failure_on(rt: HostRuntime) {
+        let mut input = Failing(3);
+        let mut buf = [0u8; 4];
+        let n = read_full(&mut input, &mut buf);
+        assert!(rt; n.is_err_and(|e| e.kind() == ErrorKind::BrokenPipe));
+    }
+}
