@@ -23,7 +23,6 @@ record_at-n-requires t c = holds_room (point_stands c.requires.can_point)
 
 pub find_leaf-requires-clause-program_table : goal.find_leaf-requires-clause-program_table
 find_leaf-requires-clause-program_table t c =
-    let K = c.requires.can_point in
     c.requires.program_table
 
 pub find_leaf-requires-clause-can_look : goal.find_leaf-requires-clause-can_look
@@ -88,7 +87,7 @@ returns-then-not-goes_right t c W s Q g h =
     let E = Z.parts_of K.rest K.at in
     let x = c.find_rest-x.result in
     let same = final_is Q D.r (point_inside (point_right K E) D.r D.r_at) in
-    right_stays D (c.find_rest-x.ensures W s Q D.l D.l_at) c.if-x.false c.goes_right.ensures (not-true _ (not_from_false _ c.if-not-goes_right.true))
+    right_stays D (c.find_rest-x.ensures W s Q D.l D.l_at) c.if-x.false c.goes_right.ensures c.if-not-goes_right.true
     (c.final_after.ensures D.r D.r_at ∙ ap (λ (b : Bool). x.done && b) same) (passes c.passed-then-not-goes_right.ensures)
 
 pub find_rest-y-requires : goal.find_rest-y-requires
@@ -103,7 +102,7 @@ returns-then-y t c W s Q g h =
     let Z = (let fact : Sized c.args.work.now c.args.at c.tag_at-tag.result c.size_at.result =
     sized (point_stands c.requires.can_point) c.tag_at-tag.ensures c.if-tag-eq-GONE.false c.if-tag-eq-LEAF.false c.size_at.ensures in fact) in
     let D = Z.parts_of g h in
-    right_there D (c.find_rest-x.ensures W s Q D.l D.l_at) c.if-x.false c.goes_right.ensures (not-false _ (not_from_true _ c.if-not-goes_right.false))
+    right_there D (c.find_rest-x.ensures W s Q D.l D.l_at) c.if-x.false c.goes_right.ensures c.if-not-goes_right.false
     (c.find_rest-y.ensures W s Q D.r D.r_at) c.if-y.true
 
 pub returns : goal.returns
@@ -111,6 +110,6 @@ returns t c W s Q g h =
     let Z = (let fact : Sized c.args.work.now c.args.at c.tag_at-tag.result c.size_at.result =
     sized (point_stands c.requires.can_point) c.tag_at-tag.ensures c.if-tag-eq-GONE.false c.if-tag-eq-LEAF.false c.size_at.ensures in fact) in
     let D = Z.parts_of g h in
-    neither_there D (c.find_rest-x.ensures W s Q D.l D.l_at) c.if-x.false c.goes_right.ensures (not-false _ (not_from_true _ c.if-not-goes_right.false))
+    neither_there D (c.find_rest-x.ensures W s Q D.l D.l_at) c.if-x.false c.goes_right.ensures c.if-not-goes_right.false
     (c.find_rest-y.ensures W s Q D.r D.r_at) c.if-y.false
     (passes c.passed-2.ensures)

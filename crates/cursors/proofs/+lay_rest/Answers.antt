@@ -15,7 +15,7 @@ record_at-j-requires t c = holds_room (lay_stands c.requires.can_lay_rest)
 
 pub lay_record-requires-clause-program_table : goal.lay_record-requires-clause-program_table
 lay_record-requires-clause-program_table t c =
-    let K = c.requires.can_lay_rest in c.requires.program_table
+    c.requires.program_table
 
 pub lay_record-requires-clause-can_place : goal.lay_record-requires-clause-can_place
 lay_record-requires-clause-can_place t c =

@@ -26,11 +26,9 @@ pub fill_sets-requires-clause-spans_known : goal.fill_sets-requires-clause-spans
 fill_sets-requires-clause-spans_known c =
     let R = c.requires.ruled_tables in
     let T = c.requires.told_2 in
-    let numbers = c.args.numbers.now in
     let programs = c.args.programs.now in
     let v = c.args.v in
-    let x = c.sets_from-from.result in
-    let m = c.marks_in-marks.ensures in subst (SpansKnown (records_of programs v) (many_of v)) (sym (c.spans_in-spans.ensures ∙ T.spans_are)) (spans_known R.once)
+    subst (SpansKnown (records_of programs v) (many_of v)) (sym (c.spans_in-spans.ensures ∙ T.spans_are)) (spans_known R.once)
 
 pub fill_sets-requires-clause-marks_len : goal.fill_sets-requires-clause-marks_len
 fill_sets-requires-clause-marks_len c =
@@ -81,4 +79,4 @@ returns-clause-written c =
     let len = same_len_mid x (x + 8768 - x) numbers table c.fill_sets.auto.table in
     let K : Only (sets_from d) 8768 numbers numbers' =
     subst (λ (o : ℕ). Only o 8768 numbers numbers') ex (only_put x (x + 8768) 8768 numbers table (omega arith) fits long) in
-    let same : sets_at d numbers' ≡ table = sym (ap (λ (o : ℕ). window o 8768 numbers') ex) ∙ window_put x (x + 8768) 8768 numbers table (omega arith) fits long in K
+    K

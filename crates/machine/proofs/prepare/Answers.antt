@@ -51,6 +51,4 @@ returns-clause-written c =
     let B = c.put_numbers-2.ensures in
     let C = c.put_numbers-3.ensures in
     let D = c.put_numbers-4.ensures in
-    let digits = c.digits-digits.ensures
-    ∙ ap₂ (λ (x : List Bool) (y : List ℕ). digits_of (records_of programs v) (many_of v) x y) c.bounds-endable.ensures c.spans-spans.ensures in
     put_only long A B C D al bl cl dl

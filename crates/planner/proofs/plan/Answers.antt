@@ -15,7 +15,6 @@ returns-in-Refused-clause-answer c =
     let work = c.args.work.now in
     let trace = c.args.trace.now in
     let q = refused_by s (sym c.in-Refused.is ∙ c.inspect.ensures) in
-    let u = sheet_untouched s _ q work trace c.args.index.now in
     sym (sheet_refused s _ q (length work) (length trace))
 
 pub returns-in-Refused-clause-trace : goal.returns-in-Refused-clause-trace

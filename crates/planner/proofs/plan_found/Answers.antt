@@ -92,7 +92,6 @@ returns-clause-answer c =
     let e = ap (λ (l : Layout). l.d) O.layout_is in
     let long : bound_of s ≤ length trace = omega (arith, e, c.if-trace-d.false) in
     let r = planning s w _ p work trace c.if-work-words.false long c.plan.new.trace c.plan.result c.plan.ensures.answer in
-    let q = plan_cleared s w _ p work c.if-work-words.false trace long c.args.index.now in
     c.answer_of.ensures ∙ r.0
 
 pub returns-clause-trace : goal.returns-clause-trace
@@ -106,7 +105,6 @@ returns-clause-trace c =
     let e = ap (λ (l : Layout). l.d) O.layout_is in
     let long : bound_of s ≤ length trace = omega (arith, e, c.if-trace-d.false) in
     let r = planning s w _ p work trace c.if-work-words.false long c.plan.new.trace c.plan.result c.plan.ensures.answer in
-    let q = plan_cleared s w _ p work c.if-work-words.false trace long c.args.index.now in
     r.1
 
 pub returns-clause-work : goal.returns-clause-work
@@ -119,7 +117,6 @@ returns-clause-work c =
     let p = answered O in
     let e = ap (λ (l : Layout). l.d) O.layout_is in
     let long : bound_of s ≤ length trace = omega (arith, e, c.if-trace-d.false) in
-    let r = planning s w _ p work trace c.if-work-words.false long c.plan.new.trace c.plan.result c.plan.ensures.answer in
     let q = plan_cleared s w _ p work c.if-work-words.false trace long c.args.index.now in
     cleared w work _ c.plan.ensures.work c.if-work-words.false ∙ sym q.0
 
@@ -133,6 +130,5 @@ returns-clause-index c =
     let p = answered O in
     let e = ap (λ (l : Layout). l.d) O.layout_is in
     let long : bound_of s ≤ length trace = omega (arith, e, c.if-trace-d.false) in
-    let r = planning s w _ p work trace c.if-work-words.false long c.plan.new.trace c.plan.result c.plan.ensures.answer in
     let q = plan_cleared s w _ p work c.if-work-words.false trace long c.args.index.now in
     c.plan.ensures.index ∙ sym q.1

@@ -15,13 +15,11 @@ returns-in-Refused-clause-answer c =
     let h = c.args.history.now in
     let work = c.args.work.now in
     let q = refused_by s (sym c.in-Refused.is ∙ c.inspect.ensures) in
-    let u = sheet_untouched s _ q work work work in
     sym (sheet_refused_reply s _ q h (length work))
 
 pub returns-in-Refused-clause-work : goal.returns-in-Refused-clause-work
 returns-in-Refused-clause-work c =
     let s = c.args.s.now in
-    let h = c.args.history.now in
     let work = c.args.work.now in
     let q = refused_by s (sym c.in-Refused.is ∙ c.inspect.ensures) in
     let u = sheet_untouched s _ q work work work in

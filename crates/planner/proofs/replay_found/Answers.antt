@@ -40,7 +40,7 @@ returns-then-d-history-clause-work c =
     let w = c.args.found.words in
     let work = c.args.work.now in
     let O = c.requires in
-    let e = ap (λ (l : Layout). l.d) O.layout_is in cleared w work _ c.clear.ensures.work c.if-work-required.false ∙ sym (replay_cleared s w _ (answered O) work c.if-work-required.false)
+    cleared w work _ c.clear.ensures.work c.if-work-required.false ∙ sym (replay_cleared s w _ (answered O) work c.if-work-required.false)
 
 pub slice_bounds-accepts-end-2 : goal.slice_bounds-accepts-end-2
 slice_bounds-accepts-end-2 c =
@@ -68,5 +68,4 @@ returns-clause-work c =
     let w = c.args.found.words in
     let work = c.args.work.now in
     let p = answered c.requires in
-    let r = replaying s w _ p work c.if-work-required.false c.args.history.now c.accepts.result c.accepts.ensures.answer in
     cleared w work _ c.accepts.ensures.work c.if-work-required.false ∙ sym (replay_cleared s w _ p work c.if-work-required.false)

@@ -25,17 +25,14 @@ returns-in-Found-clause-place c =
 
 pub returns-in-Found-clause-trace : goal.returns-in-Found-clause-trace
 returns-in-Found-clause-trace c =
-    let q = sym c.plan.ensures.answer ∙ c.in-Found.is in
     c.plan.ensures.trace
 
 pub returns-in-Found-clause-work : goal.returns-in-Found-clause-work
 returns-in-Found-clause-work c =
-    let q = sym c.plan.ensures.answer ∙ c.in-Found.is in
     c.plan.ensures.work
 
 pub returns-in-Found-clause-index : goal.returns-in-Found-clause-index
 returns-in-Found-clause-index c =
-    let q = sym c.plan.ensures.answer ∙ c.in-Found.is in
     c.plan.ensures.index
 
 pub returns-in-Refused-clause-number : goal.returns-in-Refused-clause-number
@@ -60,15 +57,12 @@ returns-in-Refused-clause-place c =
 
 pub returns-in-Refused-clause-trace : goal.returns-in-Refused-clause-trace
 returns-in-Refused-clause-trace c =
-    let q = sym c.plan.ensures.answer ∙ c.in-Refused.is in
     c.plan.ensures.trace
 
 pub returns-in-Refused-clause-work : goal.returns-in-Refused-clause-work
 returns-in-Refused-clause-work c =
-    let q = sym c.plan.ensures.answer ∙ c.in-Refused.is in
     c.plan.ensures.work
 
 pub returns-in-Refused-clause-index : goal.returns-in-Refused-clause-index
 returns-in-Refused-clause-index c =
-    let q = sym c.plan.ensures.answer ∙ c.in-Refused.is in
     c.plan.ensures.index

@@ -20,7 +20,6 @@ returns-in-Yes-clause-place c =
 
 pub returns-in-Yes-clause-work : goal.returns-in-Yes-clause-work
 returns-in-Yes-clause-work c =
-    let q = sym c.replay.ensures.answer ∙ c.in-Yes.is in
     c.replay.ensures.work
 
 pub returns-in-No-clause-number : goal.returns-in-No-clause-number
@@ -40,7 +39,6 @@ returns-in-No-clause-place c =
 
 pub returns-in-No-clause-work : goal.returns-in-No-clause-work
 returns-in-No-clause-work c =
-    let q = sym c.replay.ensures.answer ∙ c.in-No.is in
     c.replay.ensures.work
 
 pub returns-in-Refused-clause-number : goal.returns-in-Refused-clause-number
@@ -60,5 +58,4 @@ returns-in-Refused-clause-place c =
 
 pub returns-in-Refused-clause-work : goal.returns-in-Refused-clause-work
 returns-in-Refused-clause-work c =
-    let q = sym c.replay.ensures.answer ∙ c.in-Refused.is in
     c.replay.ensures.work
