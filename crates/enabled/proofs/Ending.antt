@@ -12,13 +12,11 @@ use Rattle.records.specs.Placeholders.{put}
 use Rattle.records.proofs.Placeholders.{put_small}
 use Rattle.sets.specs.Sets.{member, Has, set_at, PutSet}
 use Rattle.sets.proofs.Members.{has_by}
-use Rattle.golog.specs.declared.State.{State}
-use Rattle.golog.specs.World.{World}
 use Rattle.golog.specs.Written.{span_of}
 use Rattle.remaining.proofs.Written.{picks_b}
 use Rattle.enabled.specs.Spans.{SpansKnown}
 use Rattle.enabled.specs.Enabled.{valuation_of, final_in}
-use Rattle.enabled.specs.Filled.{most_formulas, final_set, valuation_by, RuledTable, FinalBy, SeesConditions, FinalsWherever, Kept}
+use Rattle.enabled.specs.Filled.{most_formulas, final_set, valuation_by, RuledTable, FinalBy, FinalsWherever, Kept}
 use Rattle.enabled.proofs.Read.{final_agrees_by, final_read}
 use Rattle.enabled.proofs.Filling.{linked, below_a, below_b, span_read}
 

@@ -1,7 +1,6 @@
 -- The table is filled upwards, by the laws of Filling: each turn puts the two sets of a record, right in whatever state is seen so. Assumes
 -- nothing.
 use mathlib.Core.Path.{◌∙◌}
-use Prim.Native.Nat.{◌-◌}
 use native.Mathlib.Nat.{le_antisymm}
 use native.Mathlib.Omega.{arith}
 use Rattle.enabled.proofs.Filling.{readable, kept_none, known_none, kept_more, known_more}

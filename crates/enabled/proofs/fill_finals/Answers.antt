@@ -1,6 +1,5 @@
 -- The table is filled upwards, by the laws of Ending. Assumes nothing.
 use mathlib.Core.Path.{◌∙◌}
-use Prim.Native.Nat.{◌-◌}
 use native.Mathlib.Nat.{le_antisymm}
 use native.Mathlib.Omega.{arith}
 use Rattle.enabled.proofs.Filling.{readable, kept_none}

@@ -1,7 +1,7 @@
 -- The table is filled upwards: what each record lists, by what the records see, is the definition's entry. Assumes nothing.
 use mathlib.Core.Path.{◌∙◌}
 use mathlib.Core.List.{map-id}
-use Prim.Native.Nat.{ℕ, ◌-◌}
+use Prim.Native.Nat.{ℕ}
 use native.Mathlib.Nat.{le_antisymm}
 use native.Mathlib.Omega.{arith}
 use Rattle.records.proofs.Fills.{start, more}

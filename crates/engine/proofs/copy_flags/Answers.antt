@@ -1,5 +1,5 @@
 -- Place by place. Assumes nothing.
-use Rattle.std.proofs.Common.{◌-◌, sym, refl, ◌∙◌, arith, length-set}
+use Rattle.std.proofs.Common.{sym, refl, ◌∙◌, arith, length-set}
 use Rattle.engine.proofs.Copied.{same_none, same_more, same_all}
 use Rattle.engine.proofs.copy_flags.Goals as goal
 

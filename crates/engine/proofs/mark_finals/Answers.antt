@@ -1,6 +1,6 @@
 -- The records in doubt are gone through upwards, by the law of Skipping: each turn puts what the record is, whatever state is seen so.
 -- Assumes nothing.
-use Rattle.std.proofs.Common.{◌+◌, ◌-◌, ◌<◌, Bool, true, List, refl, ap, ◌∙◌, arith, length-set, get_or-set_other}
+use Rattle.std.proofs.Common.{◌+◌, ◌<◌, Bool, true, List, refl, ap, ◌∙◌, arith, length-set, get_or-set_other}
 use Rattle.kinds.specs.Programs.{final_by}
 use Rattle.leaves.specs.Tallies.{extended_size}
 use Rattle.leaves.specs.Endable.{FinalsKnown}

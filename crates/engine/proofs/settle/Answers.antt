@@ -1,5 +1,5 @@
 -- Place by place; what may be final is not written. Assumes nothing.
-use Rattle.std.proofs.Common.{◌-◌, false, sym, refl, ◌∙◌, arith, length-set, length-take-le, get_or-take}
+use Rattle.std.proofs.Common.{false, sym, refl, ◌∙◌, arith, length-set, length-take-le, get_or-take}
 use Rattle.engine.proofs.Copied.{same_none, same_more, same_all}
 use Rattle.engine.proofs.Windows.{window_long, window_set, only_same, only_then, only_set, read_before}
 use Rattle.engine.proofs.settle.Goals as goal

@@ -1,6 +1,5 @@
 -- At each bound the search stands ready and the bounds below are tried; the next one is higher, and at most D. Assumes nothing.
-use Rattle.std.proofs.Common.{◌≡◌, suc, ◌-◌, false, sym, refl, ap, ◌∙◌, subst, add-one, arith}
-use borrow.Author.Tests.{not-true, not-false}
+use Rattle.std.proofs.Common.{◌≡◌, suc, false, sym, refl, ap, ◌∙◌, subst, add-one, arith}
 use Rattle.sheet.specs.declared.Layout.{Layout}
 use Rattle.sheet.proofs.Accepted.{laid}
 use Rattle.demands.specs.Decoded.{first_of, bound_of}
@@ -10,8 +9,6 @@ use Rattle.search.specs.Searching.{verdict_from}
 use Rattle.search.specs.declared.Question.{Question}
 use Rattle.first.proofs.Kept.{kept_first, kept_on}
 use Rattle.first.proofs.Deepened.{any_asked, Tried, tried_none, tried_on, tried_out, all_tried}
-use Rattle.std.proofs.lemmas.Bool.{not_from_true}
-use Rattle.std.proofs.lemmas.Bool.{not_from_false}
 use Rattle.first.proofs.deepen.Goals as goal
 
 pub loop-low-init : goal.loop-low-init

@@ -1,5 +1,5 @@
 -- One entry more is settled at each turn, and there are at most 64. Assumes nothing.
-use Rattle.std.proofs.Common.{◌-◌, arith}
+use Rattle.std.proofs.Common.{arith}
 use Rattle.first.proofs.Kept.{kept_first, kept_on}
 use Rattle.first.proofs.Settled.{settled_first}
 use Rattle.first.proofs.grow.Goals as goal

@@ -1,5 +1,5 @@
 -- One entry after the other is written, and the rest of the trace stays. Assumes nothing.
-use Rattle.std.proofs.Common.{◌≡◌, ℕ, ◌-◌, List, get_or, set, refl, ap, ◌∙◌, arith, length-set}
+use Rattle.std.proofs.Common.{◌≡◌, ℕ, List, get_or, set, refl, ap, ◌∙◌, arith, length-set}
 use Rattle.first.proofs.Histories.{written, written_more}
 use Rattle.first.proofs.hand_out.Goals as goal
 

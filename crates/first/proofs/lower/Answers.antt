@@ -1,6 +1,6 @@
 -- The bound half way between those tried and the plan at hand: a plan of fewer transitions takes its place, or more bounds are tried, by the
 -- laws of Deepened. Assumes nothing.
-use Rattle.std.proofs.Common.{◌-◌, ◌<◌, true, sym, refl, ap, ◌∙◌, arith}
+use Rattle.std.proofs.Common.{◌<◌, true, sym, refl, ap, ◌∙◌, arith}
 use Rattle.sheet.proofs.Accepted.{laid}
 use Rattle.search.specs.declared.Question.{Question}
 use Rattle.first.specs.Settling.{transition_count}

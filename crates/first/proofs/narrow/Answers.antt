@@ -1,6 +1,6 @@
 -- While what is known is below the rank at hand, the next window ends between them; each answer brings them nearer, by the law of Settled.
 -- Assumes nothing.
-use Rattle.std.proofs.Common.{◌-◌, ◌<◌, refl, inl, inr, ⊎_elim, arith}
+use Rattle.std.proofs.Common.{◌-◌, ◌<◌, refl, inl, inr, arith}
 use borrow.Author.Tests.{not-true, not-false}
 use Rattle.first.proofs.Kept.{kept_first, kept_on}
 use Rattle.first.proofs.Settled.{rank_of, Narrowing, narrowing_none, narrowing_inside, narrowing_on, narrowing_met}

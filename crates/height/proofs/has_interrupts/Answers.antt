@@ -1,6 +1,6 @@
 -- The loop keeps the invariant of Scan for records that are no interrupt. Assumes nothing.
 use mathlib.Core.Path.{sym, subst}
-use Prim.Native.Nat.{ℕ, ◌-◌, ◌<◌, ◌≤◌}
+use Prim.Native.Nat.{ℕ, ◌<◌, ◌≤◌}
 use borrow.Author.Tests.{lt-ltb, le-ltb}
 use Rattle.records.proofs.Scan.{start, more, found, done}
 use Rattle.height.specs.Height.{interrupts}

@@ -2,7 +2,7 @@
 -- nothing.
 use Rattle.index.proofs.Content.{begun}
 use Rattle.records.proofs.Laid.{laid_none, laid_more}
-use Prim.Native.Nat.{ℕ, ◌-◌}
+use Prim.Native.Nat.{ℕ}
 use native.Mathlib.Omega.{arith}
 use Rattle.index.proofs.begin.Goals as goal
 

@@ -2,7 +2,7 @@
 -- nothing.
 use Rattle.index.proofs.Buckets.{product_small, share_below}
 use native.Mathlib.Omega.{arith}
-use Prim.Native.Nat.{◌-◌, ◌%◌, ◌^◌}
+use Prim.Native.Nat.{◌%◌, ◌^◌}
 use Rattle.index.proofs.bucket.Goals as goal
 
 pub overflow_mul-result : goal.overflow_mul-result

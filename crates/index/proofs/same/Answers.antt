@@ -1,6 +1,5 @@
 -- The words passed are equal, so at the end the runs are. Assumes nothing.
 use Rattle.index.proofs.Content.{never}
-use Prim.Native.Nat.{◌-◌}
 use lib.Seq.{ext_get_or}
 use borrow.Author.Count.{below_more}
 use native.Mathlib.Omega.{arith}

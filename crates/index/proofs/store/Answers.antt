@@ -2,7 +2,7 @@
 use Rattle.records.proofs.Laid.{laid_none, laid_more}
 use Rattle.records.specs.Laid.{Laid}
 use lib.ListN.{get_or}
-use Prim.Native.Nat.{ℕ, ◌-◌}
+use Prim.Native.Nat.{ℕ}
 use mathlib.Core.Path.{refl, subst}
 use native.Mathlib.Omega.{arith}
 use Rattle.index.proofs.store.Goals as goal

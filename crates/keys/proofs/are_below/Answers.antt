@@ -1,5 +1,4 @@
 -- The loop has seen the values from the first place up to x, and the answer is no as soon as one of them is not below the limit. Assumes nothing.
-use Prim.Native.Nat.{◌-◌}
 use native.Mathlib.Omega.{arith}
 use borrow.Author.Count.{below_more}
 use borrow.Author.Tests.{ltb-true}

@@ -1,5 +1,4 @@
 -- The loop lays a pair of nodes into one word after the other, and has tested these. Assumes nothing.
-use Prim.Native.Nat.{◌-◌}
 use mathlib.Core.Path.{refl}
 use native.Mathlib.Omega.{arith}
 use Rattle.records.proofs.Laid.{laid_none, laid_more}

@@ -1,5 +1,4 @@
 -- The loop lays eight values into one word after the other. Assumes nothing.
-use Prim.Native.Nat.{◌-◌}
 use mathlib.Core.Path.{refl}
 use native.Mathlib.Omega.{arith}
 use Rattle.records.proofs.Laid.{laid_none, laid_more}

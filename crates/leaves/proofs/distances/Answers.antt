@@ -1,7 +1,7 @@
 -- The table is filled upwards: the distance of record i by the places filled so far is the definition's entry i. Assumes nothing.
 use mathlib.Core.Path.{sym, ◌∙◌, ap}
 use mathlib.Core.List.{map-id}
-use Prim.Native.Nat.{ℕ, ◌-◌, min}
+use Prim.Native.Nat.{ℕ, min}
 use native.Mathlib.Nat.{le_antisymm}
 use native.Mathlib.Omega.{arith}
 use Rattle.records.proofs.Fills.{start, full, at, more}

@@ -1,5 +1,4 @@
 -- After i records the marks are those of their actions. Assumes nothing.
-use Prim.Native.Nat.{◌-◌}
 use mathlib.Core.Path.{◌≡◌}
 use native.Mathlib.Omega.{arith}
 use borrow.Author.Tests.{ltb-true}
@@ -24,7 +23,7 @@ loop-i-preserved c =
       omega arith,
       elim c.if-acts-a.branch [ then-acts-a w ↦ rw w.marks-is (simp length-set v.1) | else-acts-a w ↦ rw w.marks-is v.1 ],
       elim c.if-acts-a.branch [
-        then-acts-a w ↦ rw w.marks-is (performed_more _ v.2 e v.1 (rw (← f) w.if-acts-a.true))
+        | then-acts-a w ↦ rw w.marks-is (performed_more _ v.2 e v.1 (rw (← f) w.if-acts-a.true))
         | else-acts-a w ↦ rw w.marks-is (performed_passed _ v.2 e (rw (← f) w.if-acts-a.false))
       ],
     )

@@ -19,7 +19,7 @@ loop-i-preserved c =
       omega arith,
       simp length-set v.1,
       more (omega arith) (omega arith) (omega arith) v.2 (elim c.if-doubt_at.branch [
-        then-doubt_at w ↦ inl (sym d ∙ w.if-doubt_at.true, w.first-is)
+        | then-doubt_at w ↦ inl (sym d ∙ w.if-doubt_at.true, w.first-is)
         | else-doubt_at w ↦ inr (sym d ∙ w.if-doubt_at.false, w.first-is)
       ]),
     )

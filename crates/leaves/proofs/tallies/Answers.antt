@@ -1,7 +1,6 @@
 -- The table is filled upwards, by the law of Filling: each turn puts the record's count, whatever state is seen so. The table's length
 -- stands apart, since a state need not be there. Assumes nothing.
 use mathlib.Core.Path.{sym, ◌∙◌}
-use Prim.Native.Nat.{◌-◌}
 use native.Mathlib.Nat.{le_antisymm}
 use native.Mathlib.Omega.{arith}
 use lib.ListN.{length-set}

@@ -1,6 +1,5 @@
 -- The loop joins the sets upwards: so far it has the union of the first q. Assumes nothing.
 use mathlib.Core.Path.{refl, ◌∙◌, ap}
-use Prim.Native.Nat.{◌-◌}
 use native.Mathlib.Nat.{le_antisymm}
 use native.Mathlib.Omega.{arith}
 use Rattle.named.specs.Tables.{or_from, union_of}

@@ -8,7 +8,6 @@ use Rattle.records.specs.declared.Program.{Program}
 use Rattle.positions.specs.Found.{further}
 use Rattle.positions.proofs.Finding.{way_falls, way_can, way_fits, rank_falls, finds_nowhere, finds_idle, finds_own, by_first, by_second, finds_first, finds_other}
 use Rattle.positions.proofs.Finding.{answer_there, answer_none}
-use Rattle.std.proofs.lemmas.Bool.{not_from_false, not_from_true}
 use Rattle.positions.proofs.+find_way.Goals as goal
 
 pub returns-then-not-w : goal.returns-then-not-w

@@ -1,7 +1,7 @@
 -- The table is filled upwards: the digits of record i by the places filled so far are the definition's entry i. Assumes nothing.
 use mathlib.Core.Path.{sym, ◌∙◌}
 use mathlib.Core.List.{map-id}
-use Prim.Native.Nat.{ℕ, ◌-◌}
+use Prim.Native.Nat.{ℕ}
 use native.Mathlib.Nat.{le_antisymm}
 use native.Mathlib.Omega.{arith}
 use Rattle.records.specs.Records.{program_at}

@@ -1,6 +1,6 @@
 -- The values passed by are not enabled. Assumes nothing.
 use mathlib.Core.Path.{sym, ◌∙◌, ap}
-use Prim.Native.Nat.{ℕ, ◌+◌, ◌-◌}
+use Prim.Native.Nat.{ℕ, ◌+◌}
 use native.Mathlib.Omega.{arith}
 use Rattle.records.specs.Placeholders.{put}
 use Rattle.sets.specs.Sets.{member, set_at}

@@ -1,5 +1,4 @@
 -- Of the environments below e those are taken out in which effects contradict each other. Assumes nothing.
-use Prim.Native.Nat.{◌-◌}
 use mathlib.Core.Path.{sym, ◌∙◌}
 use mathlib.Core.Logic.{inl, inr}
 use native.Mathlib.Omega.{arith}
@@ -22,7 +21,7 @@ loop-e-preserved c =
     let removed = c.loop-e.invariant.1 in (
       omega arith,
       elim c.if-has.branch [
-        then-has+then-conflict_in w ↦ rw w.left-is (removed_one _ _ removed (sym w.conflict_in.ensures ∙ w.if-conflict_in.true) w.only.ensures w.without-less.ensures)
+        | then-has+then-conflict_in w ↦ rw w.left-is (removed_one _ _ removed (sym w.conflict_in.ensures ∙ w.if-conflict_in.true) w.only.ensures w.without-less.ensures)
         | then-has+else-conflict_in w ↦ rw w.left-is (removed_passed _ _ removed (inr (sym w.conflict_in.ensures ∙ w.if-conflict_in.false)))
         | else-has w ↦ rw w.left-is (removed_passed _ _ removed (inl (sym c.has.ensures ∙ w.if-has.false)))
       ],

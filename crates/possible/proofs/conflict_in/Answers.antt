@@ -1,6 +1,6 @@
 -- Up to number i what each fluent was given in e is noted; the loop is left at an effect that gives another value, or at the range's end. Assumes
 -- nothing.
-use Prim.Native.Nat.{ℕ, ◌+◌, ◌-◌}
+use Prim.Native.Nat.{ℕ, ◌+◌}
 use mathlib.Core.Path.{◌≡◌, refl, sym, ap, ◌∙◌}
 use native.Mathlib.Omega.{arith}
 use Rattle.records.specs.Records.{effect_at}
@@ -39,12 +39,12 @@ loop-i-preserved c =
     let e = c.effect_at-r.ensures.record in
     let n = c.requires.0.names _ v.0 (omega (arith, v.2)) in
     let is : resolved_effect c.args.e c.effect_at-r.result ≡ effect_at (resolved_table c.args.e c.args.effects.now) c.loop-i.i =
-        ap (resolved_effect c.args.e) e ∙ sym (resolved_at _ _ _ (omega (arith, c.requires.0.long, v.2))) in (
+    ap (resolved_effect c.args.e) e ∙ sym (resolved_at _ _ _ (omega (arith, c.requires.0.long, v.2))) in (
       omega arith,
       omega arith,
       v.2,
       elim c.if-has_in.branch [
-        then-has_in+else-differs w ↦ rw w.noted-is (noted_more _ _ _ v.3 is c.has_in.ensures v.0 w.if-has_in.true refl (ap (λ (x : ℕ). x + 1) w.resolved.ensures.0)
+        | then-has_in+else-differs w ↦ rw w.noted-is (noted_more _ _ _ v.3 is c.has_in.ensures v.0 w.if-has_in.true refl (ap (λ (x : ℕ). x + 1) w.resolved.ensures.0)
             (rw e n) (sym w.differs.ensures ∙ w.if-differs.false))
         | else-has_in w ↦ rw w.noted-is (noted_passed _ _ _ v.3 is c.has_in.ensures w.if-has_in.false)
       ],

@@ -33,7 +33,7 @@ loop-i-preserved c =
       omega arith,
       v.2,
       elim c.if-effect-ge-VALUES.branch [
-        then-effect-ge-VALUES w ↦ rw (w.left-is, next) (staying_more _ _ _ _ _ _ v.3 is (omega (arith, here)) w.staying-less.ensures)
+        | then-effect-ge-VALUES w ↦ rw (w.left-is, next) (staying_more _ _ _ _ _ _ v.3 is (omega (arith, here)) w.staying-less.ensures)
         | else-effect-ge-VALUES w ↦ rw (w.left-is, next) (staying_more _ _ _ _ _ _ v.3 is (omega (arith, here)) (value_stays _ _ _ gives v.3.has.len w.if-effect-ge-VALUES.false))
       ],
     )

@@ -1,6 +1,6 @@
 -- Up to number i the fluents noted have their new values and the others their old ones; the loop is left once all are noted, or at the range's
 -- end. Assumes nothing.
-use Prim.Native.Nat.{◌-◌, ◌<◌}
+use Prim.Native.Nat.{◌<◌}
 use mathlib.Core.Path.{◌≡◌, refl, sym, ap, ◌∙◌}
 use native.Mathlib.Omega.{arith}
 use Rattle.records.specs.Records.{effect_at}
@@ -55,7 +55,7 @@ loop-i-preserved c =
       omega arith,
       v.2,
       elim c.if-has_in-given.branch [
-        then-has_in-given+else-left-eq0 w ↦ rw (w.given-is, w.new-is, w.left-is, w.resolved.ensures.0) (giving_more _ _ _ _ _ _ v.3 (omega arith) e f w.if-has_in-given.true ((let fact : c.effect_at-d.result.fluent < c.args.n = fluent_below _ _ _ _ _ c.requires.0.names c.loop-i.invariant.0 c.loop-i-test.true c.effect_at-d.ensures.record in fact)) c.requires.1 v.2)
+        | then-has_in-given+else-left-eq0 w ↦ rw (w.given-is, w.new-is, w.left-is, w.resolved.ensures.0) (giving_more _ _ _ _ _ _ v.3 (omega arith) e f w.if-has_in-given.true ((let fact : c.effect_at-d.result.fluent < c.args.n = fluent_below _ _ _ _ _ c.requires.0.names c.loop-i.invariant.0 c.loop-i-test.true c.effect_at-d.ensures.record in fact)) c.requires.1 v.2)
         | else-has_in-given w ↦ rw (w.given-is, w.new-is, w.left-is) (giving_passed _ _ _ _ _ _ v.3 (omega arith) e f w.if-has_in-given.false)
       ],
     )

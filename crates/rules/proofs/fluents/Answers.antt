@@ -1,5 +1,4 @@
 -- The loop keeps the invariant of Scan for the rule of fluents. Assumes nothing.
-use Prim.Native.Nat.{◌-◌}
 use mathlib.Core.Path.{ap, ◌∙◌}
 use Rattle.records.proofs.Scan.{start, more, found, done}
 use Rattle.rules.specs.Rules.{fluent_ok}

@@ -1,7 +1,5 @@
 -- The loop keeps the invariant of Scan for the rule of formulas. Assumes nothing.
-use Prim.Native.Nat.{◌-◌}
 use Rattle.records.proofs.Scan.{start, more, found, done}
-use Rattle.rules.specs.Tables.{formulas_ok}
 use Rattle.std.proofs.lemmas.Bool.{not_from_true}
 use Rattle.std.proofs.lemmas.Bool.{not_from_false}
 use Rattle.rules.proofs.formulas.Goals as goal

@@ -1,5 +1,5 @@
 -- Word by word, and bit by bit: a bit of an and is that of both. Assumes nothing.
-use Prim.Native.Nat.{◌-◌, ◌/◌, ◌%◌}
+use Prim.Native.Nat.{◌/◌, ◌%◌}
 use mathlib.Core.Path.{refl}
 use lib.ListN.{get_or}
 use Rattle.sets.specs.Sets.{member}

@@ -1,5 +1,4 @@
 -- The loop gathers the words by or. Assumes nothing.
-use Prim.Native.Nat.{◌-◌}
 use mathlib.Core.Path.{◌≡◌}
 use native.Mathlib.Omega.{arith}
 use Rattle.sets.proofs.Empty.{gathered_none, gathered_more}

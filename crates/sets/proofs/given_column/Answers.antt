@@ -1,5 +1,5 @@
 -- Word by word: each row is full or empty by its bit v, which is that of the environment with v in placeholder 0. Assumes nothing.
-use Prim.Native.Nat.{◌-◌, ◌/◌, ◌%◌, ◌^◌}
+use Prim.Native.Nat.{◌/◌, ◌%◌, ◌^◌}
 use mathlib.Core.Path.{refl, ◌∙◌}
 use lib.ListN.{get_or}
 use lib.Bits.{and_le_r}

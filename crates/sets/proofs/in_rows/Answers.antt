@@ -1,5 +1,5 @@
 -- Word by word: rows 2 k and 2 k + 1 are full or empty by those bits of the values. Assumes nothing.
-use Prim.Native.Nat.{◌-◌, ◌*◌, ◌/◌, ◌%◌}
+use Prim.Native.Nat.{◌*◌, ◌/◌, ◌%◌}
 use mathlib.Core.Path.{refl, ap, ◌∙◌}
 use Rattle.records.specs.Mask.{has_bit}
 use Rattle.sets.proofs.Bits.{bit_pair}

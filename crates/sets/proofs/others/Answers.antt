@@ -1,5 +1,5 @@
 -- Word by word, and bit by bit: a word fits, so each bit of its complement is the other. Assumes nothing.
-use Prim.Native.Nat.{◌-◌, ◌/◌, ◌%◌}
+use Prim.Native.Nat.{◌/◌, ◌%◌}
 use mathlib.Core.Path.{refl}
 use lib.ListN.{get_or}
 use borrow.Author.Rules.{elem_Fits}

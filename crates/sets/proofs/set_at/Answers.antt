@@ -1,5 +1,4 @@
 -- The loop lays the eight words of set i. Assumes nothing.
-use Prim.Native.Nat.{◌-◌}
 use mathlib.Core.Path.{refl, sym}
 use native.Mathlib.Omega.{arith}
 use Rattle.records.proofs.Laid.{laid_none, laid_more}

@@ -1,6 +1,6 @@
 -- Word by word: each row is full or empty by whether it has a bit, which is one of the environments with some value in placeholder 0. Assumes
 -- nothing.
-use Prim.Native.Nat.{◌-◌, ◌/◌, ◌%◌}
+use Prim.Native.Nat.{◌/◌, ◌%◌}
 use mathlib.Core.Path.{refl, ◌∙◌}
 use native.Mathlib.Omega.{arith}
 use mir.Syntax.{w32}

@@ -1,5 +1,5 @@
 -- Word by word, and bit by bit: of y the complement, whose bits are the others, since a word fits. Assumes nothing.
-use Prim.Native.Nat.{◌-◌, ◌/◌, ◌%◌}
+use Prim.Native.Nat.{◌/◌, ◌%◌}
 use mathlib.Core.Path.{refl}
 use lib.ListN.{get_or}
 use borrow.Author.Rules.{elem_Fits}

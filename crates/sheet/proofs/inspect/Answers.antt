@@ -1,14 +1,11 @@
 -- At each return the tests that led there say which case of check_of holds. Assumes nothing.
 use mathlib.Core.Path.{sym, ap, ◌∙◌}
-use borrow.Author.Tests.{not-true, not-false}
 use Rattle.sheet.specs.Layout.{layout_of}
 use Rattle.sheet.specs.Check.{records_checked, check_of}
 use Rattle.sheet.specs.Inspection.{inspected_in}
 use Rattle.sheet.specs.declared.Layout.{Layout}
 use Rattle.sheet.proofs.Checking.{within, placed, short, unmarked, outside, misplaced, in_place}
 use Rattle.sheet.proofs.Found.{laid_out, some_fault, no_fault}
-use Rattle.std.proofs.lemmas.Bool.{not_from_true}
-use Rattle.std.proofs.lemmas.Bool.{not_from_false}
 use Rattle.sheet.proofs.inspect.Goals as goal
 
 pub returns-then-n-lt-TRAILER : goal.returns-then-n-lt-TRAILER

@@ -3,7 +3,6 @@ use mathlib.Core.Path.{◌∙◌}
 use mathlib.Core.List.{map-id}
 use native.Mathlib.Nat.{le_antisymm}
 use mathlib.Core.Bool.{Bool, false}
-use Prim.Native.Nat.{◌-◌}
 use native.Mathlib.Omega.{arith}
 use Rattle.state.specs.Truths.{truths_of}
 use Rattle.records.proofs.Fills.{refill_start, refill_full, refill_at, refill_more}

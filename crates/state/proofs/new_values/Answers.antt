@@ -1,6 +1,6 @@
 -- Up to number i the fluents noted have their new values and the others their old ones; the loop is left once all are noted, or at the range's
 -- end. Assumes nothing.
-use Prim.Native.Nat.{◌-◌, ◌<◌}
+use Prim.Native.Nat.{◌<◌}
 use mathlib.Core.Path.{refl}
 use native.Mathlib.Omega.{arith}
 use Rattle.state.proofs.Giving.{fluent_below, giving_none, giving_passed, giving_some, giving_more, giving_all, giving_done}

@@ -1,6 +1,5 @@
 -- Down to the left part, and after it, where it goes, to the right one; the number of nodes falls (Stepping.antt). Assumes nothing.
 use Rattle.steps.specs.Laid.{Sources, sources_of}
-use borrow.Author.Tests.{not-true, not-false}
 use native.Mathlib.Omega.{arith}
 use Rattle.words.proofs.Standing.{gone_at, leaf_at}
 use Rattle.words.proofs.Reading.{holds_room, construct}
@@ -13,8 +12,6 @@ use lib.ListN.{length, get_or}
 use Rattle.remaining.specs.Rest.{leaf}
 use Rattle.words.specs.Words.{Kept}
 use Rattle.steps.specs.Stepped.{Stepped}
-use Rattle.std.proofs.lemmas.Bool.{not_from_true}
-use Rattle.std.proofs.lemmas.Bool.{not_from_false}
 use Rattle.steps.proofs.+step_rest.Goals as goal
 
 pub tag_at-tag-requires : goal.tag_at-tag-requires

@@ -1,5 +1,4 @@
 -- The loop fills the table upwards: the sets of the lower formulas give the next one. Assumes nothing.
-use Prim.Native.Nat.{◌-◌}
 use native.Mathlib.Nat.{le_antisymm}
 use native.Mathlib.Omega.{arith}
 use Rattle.truths.proofs.Filling.{filled_none, next_evaluable, filled_more}

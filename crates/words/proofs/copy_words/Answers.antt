@@ -1,6 +1,5 @@
 -- The words below k are copied. Each store is above all that is still read, so what is read is what stood there at the start. Assumes nothing.
 use native.Mathlib.Omega.{arith}
-use Prim.Native.Nat.{◌-◌}
 use Rattle.words.proofs.Written.{copied_none, copied_more, copied_all}
 use Rattle.words.proofs.copy_words.Goals as goal
 

@@ -4,14 +4,11 @@ use native.Mathlib.Omega.{arith}
 use mathlib.Core.Bool.{Bool, cond}
 use mathlib.Core.Option.{Option}
 use mathlib.Core.Path.{sym, ◌∙◌, ap}
-use borrow.Author.Tests.{not-true, not-false}
 use lib.ListN.{set}
 use Rattle.engine.specs.Going.{move_of}
 use Rattle.engine.proofs.Codes.{is_test, is_move}
 use Rattle.search.specs.Moves.{noted}
 use Rattle.search.proofs.Rows.{noted_none}
-use Rattle.std.proofs.lemmas.Bool.{not_from_true}
-use Rattle.std.proofs.lemmas.Bool.{not_from_false}
 use Rattle.search.proofs.guide.note.Goals as goal
 
 pub returns-then-not-is_found-clause-answer : goal.returns-then-not-is_found-clause-answer

@@ -1,6 +1,5 @@
 -- Up to number i what each fluent was given is noted; the loop is left at an effect that gives another value, or at the range's end. Assumes
 -- nothing.
-use Prim.Native.Nat.{◌-◌}
 use mathlib.Core.Path.{refl, sym, ◌∙◌}
 use native.Mathlib.Omega.{arith}
 use Rattle.state.proofs.Noting.{noted_none, noted_passed, noted_more, noted_other, noted_all}

@@ -1,5 +1,5 @@
 -- Each turn judges one action of the list; what it marks is conflicted, and what is not listed stays unmarked. Assumes nothing.
-use Prim.Native.Nat.{◌-◌, ◌<◌}
+use Prim.Native.Nat.{◌<◌}
 use mathlib.Core.Path.{◌≡◌, sym, ◌∙◌}
 use native.Mathlib.Omega.{arith}
 use lib.ListN.{get_or}

@@ -1,5 +1,4 @@
 -- By the formula's kind. Assumes nothing.
-use native.Mathlib.Omega.{arith}
 use mathlib.Core.Path.{refl, sym, ◌∙◌, ap}
 use mathlib.Core.Bool.{Bool, ◌&&◌}
 use borrow.Author.Tests.{ltb-true}

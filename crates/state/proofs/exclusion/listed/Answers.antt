@@ -1,5 +1,4 @@
 -- The list grows by the marked numbers, in rising order; its last place says how many. Assumes nothing.
-use Prim.Native.Nat.{◌-◌}
 use native.Mathlib.Omega.{arith}
 use Rattle.state.proofs.Excluding.{listing_none, listing_passed, listing_more, listing_done}
 use Rattle.state.proofs.exclusion.listed.Goals as goal

@@ -1,5 +1,4 @@
 -- Each turn looks at one marked action; what is left out contradicts itself in no state. Assumes nothing.
-use Prim.Native.Nat.{◌-◌}
 use native.Mathlib.Omega.{arith}
 use Rattle.state.proofs.Excluding.{below_none, below_passed, below_more, below_done}
 use Rattle.state.proofs.exclusion.may_conflict.Goals as goal
