@@ -1,6 +1,5 @@
 -- Up to number i no effect changes the fluent, so that what the rest of the range gives is what the whole range gives; the loop is left
 -- at the first effect that does, or at the range's end. Assumes nothing.
-use Prim.Native.Nat.{◌-◌}
 use mathlib.Core.Path.{refl}
 use native.Mathlib.Omega.{arith}
 use Rattle.state.proofs.Performed.{passed_none, passed_more, passed_found, passed_all}
