@@ -39,7 +39,7 @@ const TRAILER: u16 = 0x7472; // tr
 
 // A sheet in the buffer: how far after the first record each table and the trailer start, its bounds in the buffer, and
 // what is shown beside the answer.
-#[derive(Drop)]
+#[derive(Clone, Copy)]
 pub struct Case {
     formulas: u32,
     effects: u32,
@@ -54,7 +54,7 @@ pub struct Case {
 
 // Where the numbers of a clause go, from the one at place `first` on, below `end`: to index `at`, a byte each for those
 // from `byte` on and below `wide`, two bytes each for the others.
-#[derive(Drop)]
+#[derive(Clone, Copy)]
 struct Fields {
     at: usize,
     first: usize,

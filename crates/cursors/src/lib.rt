@@ -78,7 +78,7 @@ pub fn total_rest(table: &[u32], distances: &[u32], work: &[u32], at: usize) -> 
 
 // Where a transition is: the place of its record's node, and its position among those of the record. Where there is none, whether what was
 // searched is final, and whether it has no transition at all.
-#[derive(Drop)]
+#[derive(Clone, Copy)]
 pub struct Cursor {
     pub there: bool,
     pub place: usize,

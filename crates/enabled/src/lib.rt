@@ -1,6 +1,8 @@
 // For a state, the environments in which each program record is final, and in which it is enabled, which is to have a transition: sets made
 // upwards, one pass, in the table that has the environments in which formulas hold and actions are possible. And, told once of a sheet, how
 // many values are listed where a record chooses one.
+#![tactic(auto)]
+
 ghost use Rattle.std.specs.Prelude.{◌≡◌, false, not, cond, ◌&&◌, ◌||◌, ℕ, ◌*◌, ◌≤◌, ◌<◌, length, get_or};
 ghost use Rattle.records.specs.Records.{TwoBytes, ProgramTable};
 ghost use Rattle.sets.specs.Sets.{member, Has, set_at};

@@ -1,4 +1,6 @@
 // What the tables say of a remaining program: each function calls itself on the parts, whose sizes fall.
+#![tactic(auto)]
+
 ghost use Rattle.std.specs.Prelude.{◌≡◌, cond, ◌*◌, ◌^◌, ◌<◌, min, length};
 ghost use Rattle.remaining.specs.Rest.{Rest};
 ghost use Rattle.remaining.specs.Leaves.{goes_right};
@@ -40,7 +42,7 @@ pub fn goes_right(tag: u32, done: bool, idle: bool) -> bool
 
 // Whether it is final, how many transitions it has, how far it is from its end at least, and the same by way of any transition, that one
 // counted.
-#[derive(Drop)]
+#[derive(Clone, Copy)]
 pub struct Totals {
     pub done: bool,
     pub count: usize,

@@ -1,6 +1,8 @@
 // The machine on one configuration of an accepted sheet: its first remaining program, a survey of a configuration, and its transitions
 // made one by one from a cursor on. A state goes by value, a remaining program stands in a frame of the work area, and the tables of a
 // state in two lent slices that only this crate looks into.
+#![tactic(auto)]
+
 ghost use Rattle.std.specs.Prelude.{◌≡◌, ℕ, ◌+◌, ◌*◌, ◌%◌, ◌^◌, ◌<◌, ◌≤◌, true, false, List, length, slice_index};
 ghost use Rattle.sheet.specs.Layout.{layout_of};
 ghost use Rattle.sheet.specs.Inspection.{Of};
@@ -53,7 +55,7 @@ const COUNTS: usize = MAY_CONFLICT + state::exclusion::LIST;
 const SURVEYS: usize = COUNTS + SETS * leaves::RECORDS;
 
 // How far the transitions of a configuration have been gone through: the number of the next one, and how many there are.
-#[derive(Drop)]
+#[derive(Clone, Copy)]
 pub struct Cursor {
     pub next: usize,
     pub end: usize,
@@ -61,7 +63,7 @@ pub struct Cursor {
 
 // What a survey tells of a configuration: whether it is final, how far it is from its end at least by way of any transition, that one
 // counted, and the first cursor.
-#[derive(Drop)]
+#[derive(Clone, Copy)]
 pub struct Findings {
     pub done: bool,
     pub soon: usize,
@@ -69,7 +71,7 @@ pub struct Findings {
 }
 
 // The next transition, where one was made: the code of its move, the state after it, and the cursor after it.
-#[derive(Drop)]
+#[derive(Clone, Copy)]
 pub struct Taken {
     pub made: bool,
     pub entry: u32,

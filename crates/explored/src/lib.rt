@@ -17,7 +17,7 @@ use sheet::Inspection;
 
 // A configuration as an index is asked of it: the frame of its program, its state, and what is asked of the moves to come, as a number,
 // 0 where that is nothing.
-#[derive(Drop)]
+#[derive(Clone, Copy)]
 pub struct Subject {
     pub depth: usize,
     pub state: State,
@@ -25,7 +25,7 @@ pub struct Subject {
 }
 
 // What is known of a visit by the index: whether it may be passed over, and whether the bound has then run out in some run.
-#[derive(Drop)]
+#[derive(Clone, Copy)]
 pub struct Recalled {
     pub served: bool,
     pub more: bool,

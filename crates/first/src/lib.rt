@@ -14,14 +14,14 @@ use search::{Outcome, Question, Window};
 use sheet::Inspection;
 
 // A history: the first n of the entries.
-#[derive(Drop)]
+#[derive(Clone, Copy)]
 pub struct History {
     pub entries: [u16; sheet::MOST_TRANSITIONS],
     pub n: usize,
 }
 
 // What came of a question: whether there is such a plan, and the history to go on with.
-#[derive(Drop)]
+#[derive(Clone, Copy)]
 struct Answer {
     found: bool,
     history: History,

@@ -17,7 +17,7 @@ const VALUES: u32 = 33554432;
 const LENGTHS: usize = 128;
 
 // What an index says of a key.
-#[derive(Drop)]
+#[derive(Clone, Copy)]
 pub enum Answer {
     Found { value: u32 },
     Missing,

@@ -163,7 +163,7 @@ fn write_wide(key: &mut [u32], to: usize, work: &[u32], from: usize, n: usize) -
 }
 
 // How nodes stand in a key: in how many words, 0 where they do not fit, and whether each has a word of its own.
-#[derive(Drop)]
+#[derive(Clone, Copy)]
 struct Way {
     words: usize,
     wide: bool,

@@ -11,7 +11,7 @@ const LAST_KIND: usize = 7;
 
 // What a field of a formula is: a fluent, one of its values, a number up to its size, a lower formula, a placeholder, how many values are
 // gone through.
-#[derive(Drop)]
+#[derive(Clone, Copy)]
 pub enum Field {
     Unused,
     Fluent,

@@ -10,7 +10,7 @@ use records::Program;
 const LAST_KIND: usize = 11;
 
 // What a field of a program record is: an action, a formula, a lower record, how many values are chosen from, a placeholder.
-#[derive(Drop)]
+#[derive(Clone, Copy)]
 pub enum Field {
     Unused,
     Action,

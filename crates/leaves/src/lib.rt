@@ -1,6 +1,8 @@
 // Tables over the program records, each by one pass: for a state, whether each record is final and how many transitions it has; and for
 // every state at once, whether it may be final, whether it surely is, which records depend on the state, how far each is from its end, and
 // which actions they perform.
+#![tactic(auto)]
+
 ghost use Rattle.std.specs.Prelude.{◌≡◌, true, ◌&&◌, ◌≤◌, ◌<◌, min, T, length, get_or};
 ghost use Rattle.records.specs.Records.{TwoBytes, ProgramTable, program_at};
 ghost use Rattle.kinds.specs.Programs.{acts};

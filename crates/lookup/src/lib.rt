@@ -1,11 +1,13 @@
 // Looks up one fluent of a table.
+#![tactic(auto)]
+
 ghost use Rattle.std.specs.Prelude.{◌≡◌, ◌*◌, ◌≤◌, length};
 ghost use Rattle.lookup.specs.LookUp.{looked_in};
 
 use sheet::Refusal;
 
 // What a look-up answers: a fluent's domain size and initial value, or why there is none.
-#[derive(Drop)]
+#[derive(Clone, Copy)]
 pub enum Looked {
     Found { size: usize, initial: usize },
     Refused { why: Refusal },

@@ -11,7 +11,7 @@ use golog::State;
 use state::conflicts::ACTIONS;
 
 // How many records each table has, and whether there are interrupts.
-#[derive(Drop)]
+#[derive(Clone, Copy)]
 pub struct Shape {
     pub f: usize,
     pub q: usize,

@@ -14,14 +14,14 @@ use search::Outcome;
 use sheet::{Checked, Inspected, Inspection, Refusal};
 
 // What planning answers: n moves and t transitions, the moves standing in the trace; or why there is none.
-#[derive(Drop)]
+#[derive(Clone, Copy)]
 pub enum Planned {
     Found { n: usize, t: usize },
     Refused { why: Refusal },
 }
 
 // What replay answers: yes, no, or why there is none.
-#[derive(Drop)]
+#[derive(Clone, Copy)]
 pub enum Replayed {
     Yes,
     No,
@@ -29,7 +29,7 @@ pub enum Replayed {
 }
 
 // What is told of a sheet's sizes: the number of its fluents and its bound, or why there is none.
-#[derive(Drop)]
+#[derive(Clone, Copy)]
 pub enum Sized {
     Known { fluents: usize, bound: usize },
     Refused { why: Refusal },

@@ -210,7 +210,7 @@ fn apart_of(d: usize) -> u64
 }
 
 // Where a search goes on: to the transitions of record i, read in e, from position k on, which stand `base` further on; or not at all.
-#[derive(Drop)]
+#[derive(Clone, Copy)]
 pub struct Way {
     pub goes: bool,
     pub i: usize,
@@ -220,14 +220,14 @@ pub struct Way {
 }
 
 // The position of a transition, where there is one.
-#[derive(Drop)]
+#[derive(Clone, Copy)]
 pub struct Found {
     pub there: bool,
     pub at: u64,
 }
 
 // A record, and its one way, then the other.
-#[derive(Drop)]
+#[derive(Clone, Copy)]
 pub struct Fork {
     pub r: Program,
     pub first: Way,

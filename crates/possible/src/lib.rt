@@ -1,5 +1,7 @@
 // Actions of a sheet with placeholders (document 02, F-6), by a table of the environments in which each formula holds: in which environments an
 // action is possible, and the state after a move.
+#![tactic(auto)]
+
 ghost use Rattle.std.specs.Prelude.{◌≡◌, not, ◌&&◌, ℕ, ◌+◌, ◌*◌, ◌≤◌, ◌<◌, eqb, length};
 ghost use Rattle.records.specs.Records.{effect_at};
 ghost use Rattle.sets.specs.Sets.{member, Has};

@@ -14,14 +14,14 @@ pub const PLACEHOLDERS: usize = 2;
 pub const CHOICES: usize = 16;
 
 // Document 01: "Fluent, 2 bytes".
-#[derive(Drop)]
+#[derive(Clone, Copy)]
 pub struct Fluent {
     pub size: usize,
     pub initial: usize,
 }
 
 // Document 01: "Formula, 6 bytes".
-#[derive(Drop)]
+#[derive(Clone, Copy)]
 pub struct Formula {
     pub kind: usize,
     pub x: usize,
@@ -30,7 +30,7 @@ pub struct Formula {
 }
 
 // Document 01: "Effect, 4 bytes".
-#[derive(Drop)]
+#[derive(Clone, Copy)]
 pub struct Effect {
     pub condition: usize,
     pub fluent: usize,
@@ -38,7 +38,7 @@ pub struct Effect {
 }
 
 // Document 01: "Action, 6 bytes".
-#[derive(Drop)]
+#[derive(Clone, Copy)]
 pub struct Action {
     pub precondition: usize,
     pub first: usize,
@@ -46,7 +46,7 @@ pub struct Action {
 }
 
 // Document 01: "Program, 8 bytes".
-#[derive(Drop)]
+#[derive(Clone, Copy)]
 pub struct Program {
     pub kind: usize,
     pub a: usize,

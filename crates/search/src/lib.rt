@@ -20,7 +20,7 @@ mod guide;
 mod pruning;
 
 // What a search comes to: a run that ends final, of n moves and t transitions; none at all; none within the bound.
-#[derive(Drop)]
+#[derive(Clone, Copy)]
 pub enum Outcome {
     Found { n: usize, t: usize },
     Nothing,
@@ -28,14 +28,14 @@ pub enum Outcome {
 }
 
 // What may follow the given moves, by rank: nothing is 0, and an entry e is e + 1. From low on, below high.
-#[derive(Drop)]
+#[derive(Clone, Copy)]
 pub struct Window {
     pub low: u32,
     pub high: u32,
 }
 
 // What is left of the guide: so many of the given moves are used; or nothing is asked any more.
-#[derive(Drop)]
+#[derive(Clone, Copy)]
 pub struct Given {
     pub used: usize,
     pub free: bool,
@@ -43,7 +43,7 @@ pub struct Given {
 
 // What is asked of a search: a run of at most `left` transitions that makes the given moves, followed by what the window has, or any run.
 // With `cut` only a plan matters, as where the bound ran out in some run before.
-#[derive(Drop)]
+#[derive(Clone, Copy)]
 pub struct Question {
     pub free: bool,
     pub window: Window,
@@ -52,7 +52,7 @@ pub struct Question {
 }
 
 // What stays the same throughout a search: what was found of the sheet, the window, and the round in which the index is told.
-#[derive(Drop)]
+#[derive(Clone, Copy)]
 struct Task {
     found: Inspection,
     window: Window,
@@ -61,7 +61,7 @@ struct Task {
 
 // A visit to a configuration: the transitions made, which number its frame, and those left; what is left of the guide, the moves made; the
 // state.
-#[derive(Drop)]
+#[derive(Clone, Copy)]
 struct Visit {
     depth: usize,
     left: usize,
@@ -71,7 +71,7 @@ struct Visit {
 }
 
 // What is seen without a transition: what the search comes to, where that is known, or else the first cursor.
-#[derive(Drop)]
+#[derive(Clone, Copy)]
 struct Seen {
     known: bool,
     outcome: Outcome,
@@ -79,7 +79,7 @@ struct Seen {
 }
 
 // Where the transitions of a visit are tried from: whether the bound ran out in some run before, and the first cursor.
-#[derive(Drop)]
+#[derive(Clone, Copy)]
 struct Start {
     ran: bool,
     cursor: Cursor,

@@ -33,7 +33,7 @@ pub const MOST_TRANSITIONS: usize = 64;
 const MOST_HEIGHT: usize = 16;
 
 // Document 01: "the trailer", the last 18 bytes.
-#[derive(Drop)]
+#[derive(Clone, Copy)]
 pub struct Trailer {
     pub f: usize,
     pub q: usize,
@@ -46,7 +46,7 @@ pub struct Trailer {
 }
 
 // The numbers of records, the bound, and the index at which each table starts; `end` is the trailer's.
-#[derive(Drop)]
+#[derive(Clone, Copy)]
 pub struct Layout {
     pub f: usize,
     pub q: usize,
@@ -63,7 +63,7 @@ pub struct Layout {
 }
 
 // Why a call turns its input away: document 01's number, and its place, which is 0 unless a record is at fault.
-#[derive(Drop)]
+#[derive(Clone, Copy)]
 pub struct Refusal {
     pub number: u32,
     pub place: usize,
@@ -71,14 +71,14 @@ pub struct Refusal {
 
 // What a check answers: the words of work that planning and replay require, and the set of the fluents that formulas name, bit x for
 // fluent x; or why it turns the sheet away.
-#[derive(Drop)]
+#[derive(Clone, Copy)]
 pub enum Checked {
     Accepted { words: usize, names: u32 },
     Refused { why: Refusal },
 }
 
 // What was found of an accepted sheet: where its tables lie, whether there are interrupts, the words of a frame and of the work area.
-#[derive(Drop)]
+#[derive(Clone, Copy)]
 pub struct Inspection {
     pub layout: Layout,
     pub interrupts: bool,
@@ -87,7 +87,7 @@ pub struct Inspection {
 }
 
 // What an inspection answers: a check, with all that it found.
-#[derive(Drop)]
+#[derive(Clone, Copy)]
 pub enum Inspected {
     Accepted { found: Inspection },
     Refused { why: Refusal },

@@ -16,7 +16,7 @@ const VALUES: usize = 16;
 pub const LIST: usize = ACTIONS + 1;
 
 // What a condition asks for, that a fluent has a value: 2 more than the fluent, and the value; of any other condition 1 and 0.
-#[derive(Drop)]
+#[derive(Clone, Copy)]
 struct Asked {
     fluent: u16,
     value: usize,

@@ -55,7 +55,7 @@ pub fn possible(actions: &[u8], truths: &[bool], conflicted: &[bool], a: usize) 
 }
 
 // What evaluating a formula answers: whether it holds, and the set of the fluents that it names, bit x for fluent x.
-#[derive(Drop)]
+#[derive(Clone, Copy)]
 pub struct Evaluated {
     pub holds: bool,
     pub names: u32,
@@ -73,7 +73,7 @@ pub fn evaluate(truths: &[bool], sets: &[u32], q: usize) -> Evaluated
 
 // What a possible-check answers: whether the action is possible, and the set of the fluents that its precondition and the conditions of its
 // effects name.
-#[derive(Drop)]
+#[derive(Clone, Copy)]
 pub struct Possibility {
     pub possible: bool,
     pub names: u32,

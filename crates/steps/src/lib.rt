@@ -1,5 +1,7 @@
 // The k-th transition of a remaining program: straight down by counts to what performs it, and on the way back up the constructs around
 // what it leaves.
+#![tactic(auto)]
+
 ghost use Rattle.std.specs.Prelude.{◌≡◌, ◌&&◌, ◌+◌, ◌^◌, ◌≤◌, ◌<◌, eqb};
 ghost use Rattle.records.specs.Records.{ProgramTable};
 ghost use Rattle.kinds.specs.Programs.{tag_a, tag_b};
@@ -16,7 +18,7 @@ use records::Program;
 pub const TEST: u32 = 65536;
 
 // How a program table is read: the number of its records, whether there are interrupts, and whether they run.
-#[derive(Drop)]
+#[derive(Clone, Copy)]
 pub struct Setting {
     pub n: usize,
     pub interrupts: bool,
@@ -84,7 +86,7 @@ pub fn wrap_b(work: &mut [u32], to: usize, r: Program, n: usize) -> usize
 }
 
 // What a transition left: the code of its move, and the number of nodes.
-#[derive(Drop)]
+#[derive(Clone, Copy)]
 pub struct Laid {
     pub entry: u32,
     pub size: usize,
@@ -133,7 +135,7 @@ fn lay_record(
 }
 
 // A transition that was made, with the code of its move and the number of nodes; or none, with what is left of k and whether it is final.
-#[derive(Drop)]
+#[derive(Clone, Copy)]
 pub enum Turn {
     Made { entry: u32, size: usize },
     Passed { k: usize, done: bool },

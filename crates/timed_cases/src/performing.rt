@@ -17,14 +17,14 @@ const TIMES: usize = 1000;
 const ROUNDS: usize = 10;
 
 // Values, and the microseconds that it took to come to them.
-#[derive(Drop)]
+#[derive(Clone, Copy)]
 struct Round {
     values: [u8; 32],
     time: u64,
 }
 
 // The times of the quickest round in each way, and whether values were the same in all rounds.
-#[derive(Drop)]
+#[derive(Clone, Copy)]
 struct Times {
     one_pass: u64,
     each_fluent: u64,

@@ -23,7 +23,7 @@ const INDEX: usize = 4096;
 const BEFORE: u16 = 0xbe4e;
 
 // What planning answers: n and t, or a number and its place.
-#[derive(Drop)]
+#[derive(Clone, Copy)]
 struct Answer {
     found: bool,
     first: usize,
@@ -31,7 +31,7 @@ struct Answer {
 }
 
 // The answer and the trace, whether the whole index was 0 after it, and the microseconds that it took.
-#[derive(Drop)]
+#[derive(Clone, Copy)]
 struct Run {
     answer: Answer,
     trace: [u16; ENTRIES],
@@ -40,7 +40,7 @@ struct Run {
 }
 
 // The times of the quickest round with and without an index, and whether the answers were the same in all rounds.
-#[derive(Drop)]
+#[derive(Clone, Copy)]
 struct Times {
     with_index: u64,
     without: u64,

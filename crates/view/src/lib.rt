@@ -1,5 +1,7 @@
 // A view of a sheet: it looks at the caller's bytes and copies nothing. `open`, `find` and `viewed` are walked by hand; `opened_of`,
 // `count_from` and `find_in`, which do the work, and `look_up` above them are covered.
+#![tactic(auto)]
+
 ghost use Rattle.std.specs.Prelude.{◌≡◌, min};
 ghost use Rattle.lookup.specs.LookUp.{look_of};
 ghost use Rattle.view.specs.View.{opened_of, count_from, found_from, view_of, found_in};
@@ -9,7 +11,7 @@ use sheet::{Inspected, Refusal};
 
 // Document 01: "a struct holding the sheet slice and table offset"; the number and the place say why a sheet was turned away, and are 0
 // where it was not.
-#[derive(Drop)]
+#[derive(Clone, Copy)]
 pub struct View<'a> {
     pub src: &'a [u8],
     pub at: usize,
@@ -18,7 +20,7 @@ pub struct View<'a> {
 }
 
 // What a view holds beside the slice.
-#[derive(Drop)]
+#[derive(Clone, Copy)]
 pub struct Opened {
     pub at: usize,
     pub number: u32,

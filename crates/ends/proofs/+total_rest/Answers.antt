@@ -1,0 +1,71 @@
+-- By the outermost node, and of the parts by the same; the number of nodes falls. A number of a table fits a word, so the sum over the
+-- nodes of a frame fits. Assumes nothing.
+use mathlib.Core.Path.{◌∙◌, sym, subst}
+use native.Mathlib.Omega.{arith}
+use Rattle.words.proofs.Standing.{gone_at, leaf_at, at_room}
+use Rattle.words.proofs.Reading.{holds_room, Construct, construct, Sized, sized}
+use Rattle.ends.specs.Ends.{Totalled}
+use Rattle.ends.proofs.Parts.{total_gone, total_leaf, totals_few, total_node}
+use Rattle.ends.proofs.+total_rest.Goals as goal
+
+pub tag_at-tag-requires : goal.tag_at-tag-requires
+tag_at-tag-requires t c = holds_room c.requires.stands
+
+pub returns-then-tag-eq-GONE : goal.returns-then-tag-eq-GONE
+returns-then-tag-eq-GONE t c g h = total_gone _ _ _ (gone_at _ _ _ c.tag_at-tag.ensures g h c.if-tag-eq-GONE.true)
+
+pub record_at-i-requires : goal.record_at-i-requires
+record_at-i-requires t c = holds_room c.requires.stands
+
+pub returns-then-tag-eq-LEAF : goal.returns-then-tag-eq-LEAF
+returns-then-tag-eq-LEAF t c g h =
+    total_leaf _ _ _ (leaf_at _ _ _ c.tag_at-tag.ensures g h c.if-tag-eq-LEAF.true) c.record_at-i.ensures
+    (c.wide32-count.ensures.0 ∙ c.number_in.ensures) c.wide32-count.ensures.1
+    (c.wide32-far.ensures.0 ∙ c.number_in-then-tag-eq-LEAF.ensures) c.wide32-far.ensures.1 c.flag_in.ensures c.soon_of.ensures
+
+pub overflow_add-at : goal.overflow_add-at
+overflow_add-at t c = let h = ((let fact : Construct c.args.work.now c.args.at = construct c.requires.stands c.tag_at-tag.ensures c.if-tag-eq-GONE.false c.if-tag-eq-LEAF.false in fact)).left_room in omega arith
+
+pub size_at-left-requires : goal.size_at-left-requires
+size_at-left-requires t c = ((let fact : Construct c.args.work.now c.args.at = construct c.requires.stands c.tag_at-tag.ensures c.if-tag-eq-GONE.false c.if-tag-eq-LEAF.false in fact)).left_room
+
+pub overflow_add-at-2 : goal.overflow_add-at-2
+overflow_add-at-2 t c = let h = ((let fact : Construct c.args.work.now c.args.at = construct c.requires.stands c.tag_at-tag.ensures c.if-tag-eq-GONE.false c.if-tag-eq-LEAF.false in fact)).left_room in omega arith
+
+pub total_rest-l-requires : goal.total_rest-l-requires
+total_rest-l-requires t c =
+    let L = (let fact : Construct c.args.work.now c.args.at = construct c.requires.stands c.tag_at-tag.ensures c.if-tag-eq-GONE.false c.if-tag-eq-LEAF.false in fact) in
+    (L.left_less c.decreases, (L.left, c.requires.work_len_bound))
+
+pub overflow_add-at-3 : goal.overflow_add-at-3
+overflow_add-at-3 t c = let h = ((let fact : Sized c.args.work.now c.args.at c.tag_at-tag.result c.size_at-left.result =
+    sized c.requires.stands c.tag_at-tag.ensures c.if-tag-eq-GONE.false c.if-tag-eq-LEAF.false c.size_at-left.ensures in fact)).right_room in omega arith
+
+pub overflow_mul-left : goal.overflow_mul-left
+overflow_mul-left t c = let h = ((let fact : Sized c.args.work.now c.args.at c.tag_at-tag.result c.size_at-left.result =
+    sized c.requires.stands c.tag_at-tag.ensures c.if-tag-eq-GONE.false c.if-tag-eq-LEAF.false c.size_at-left.ensures in fact)).right_room in omega arith
+
+pub overflow_add-at-4 : goal.overflow_add-at-4
+overflow_add-at-4 t c = let h = ((let fact : Sized c.args.work.now c.args.at c.tag_at-tag.result c.size_at-left.result =
+    sized c.requires.stands c.tag_at-tag.ensures c.if-tag-eq-GONE.false c.if-tag-eq-LEAF.false c.size_at-left.ensures in fact)).right_room in omega arith
+
+pub total_rest-r-requires : goal.total_rest-r-requires
+total_rest-r-requires t c =
+    let R = (let fact : Sized c.args.work.now c.args.at c.tag_at-tag.result c.size_at-left.result =
+    sized c.requires.stands c.tag_at-tag.ensures c.if-tag-eq-GONE.false c.if-tag-eq-LEAF.false c.size_at-left.ensures in fact) in
+    (R.right_less c.decreases, (R.right, c.requires.work_len_bound))
+
+pub join_totals-requires : goal.join_totals-requires
+join_totals-requires t c =
+    let H = c.requires.stands in
+    let P = ((let fact : Sized c.args.work.now c.args.at c.tag_at-tag.result c.size_at-left.result =
+    sized c.requires.stands c.tag_at-tag.ensures c.if-tag-eq-GONE.false c.if-tag-eq-LEAF.false c.size_at-left.ensures in fact)).parts_of H.rest H.at in
+    totals_few _ _ _ P.is (c.total_rest-l.ensures P.l P.l_at) (c.total_rest-r.ensures P.r P.r_at)
+    (omega (arith, at_room H.rest _ _ H.at, c.requires.work_len_bound))
+
+pub returns : goal.returns
+returns t c g h =
+    let P = ((let fact : Sized c.args.work.now c.args.at c.tag_at-tag.result c.size_at-left.result =
+    sized c.requires.stands c.tag_at-tag.ensures c.if-tag-eq-GONE.false c.if-tag-eq-LEAF.false c.size_at-left.ensures in fact)).parts_of g h in
+    subst (Totalled _ _ _ g) (sym c.join_totals.ensures)
+    (total_node _ _ _ P.is (c.total_rest-l.ensures P.l P.l_at) (c.total_rest-r.ensures P.r P.r_at))

@@ -1,0 +1,58 @@
+-- The program in the frame is asked by the table of what is final in the state. Assumes nothing.
+use Rattle.std.proofs.Common.{ℕ, ◌+◌, Bool, List, sym, refl, ap, ◌∙◌, subst, arith}
+use Rattle.height.specs.Work.{header}
+use Rattle.words.specs.Words.{At, Stands}
+use Rattle.ends.specs.Ends.{final_by_table}
+use Rattle.engine.specs.Tables.{finals_from}
+use Rattle.engine.proofs.Frames.{frame_by, frame_holds}
+use Rattle.engine.proofs.Tables.{filled}
+use Rattle.engine.proofs.Windows.{window_at, only_same}
+use Rattle.engine.proofs.Telling.{final_told}
+use Rattle.engine.proofs.is_final.Goals as goal
+
+pub overflow_mul-d : goal.overflow_mul-d
+overflow_mul-d c =
+    omega (arith, frame_by c.requires.of.0 c.args.d, c.requires.by_index.2.roomy.inside, c.requires.by_index.2.roomy.small)
+
+pub overflow_add-d : goal.overflow_add-d
+overflow_add-d c =
+    omega (arith, frame_by c.requires.of.0 c.args.d, c.requires.by_index.2.roomy.inside, c.requires.by_index.2.roomy.small)
+
+pub final_rest-requires : goal.final_rest-requires
+final_rest-requires c =
+    subst (λ (o : ℕ). Stands c.args.work.now (o + header)) (sym (frame_by c.requires.of.0 c.args.d)) (frame_holds c.requires.by_index.2)
+
+pub returns-clause-answer : goal.returns-clause-answer
+returns-clause-answer c =
+    let O = c.requires.of.0 in
+    let P = c.requires.of.1 in
+    let d = c.args.d in
+    let x = c.flags_from-from.result in
+    let J = c.judge.ensures.tables in
+    let flags = c.judge.new.flags in
+    let n = c.judge.auto.flags in
+    let e = window_at (x + 512) (finals_from d) (x + 512 + 260) 260 flags (omega (arith, c.flags_from-from.ensures.0)) (omega arith) in λ left p F. c.final_rest.ensures F.rest (subst (λ (o : ℕ). At F.rest c.args.work.now (o + header)) (sym (frame_by O d)) F.words_are)
+    ∙ ap (λ (l : List Bool). final_by_table l F.rest) e
+    ∙ final_told O.accepted F c.args.st J.finals_are
+
+pub returns-clause-tables : goal.returns-clause-tables
+returns-clause-tables c =
+    let O = c.requires.of.0 in
+    let P = c.requires.of.1 in
+    let d = c.args.d in
+    let x = c.flags_from-from.result in
+    let J = c.judge.ensures.tables in
+    let flags = c.judge.new.flags in
+    let n = c.judge.auto.flags in
+    let e = window_at (x + 512) (finals_from d) (x + 512 + 260) 260 flags (omega (arith, c.flags_from-from.ensures.0)) (omega arith) in J.prepared
+
+pub returns-clause-written : goal.returns-clause-written
+returns-clause-written c =
+    let O = c.requires.of.0 in
+    let P = c.requires.of.1 in
+    let d = c.args.d in
+    let x = c.flags_from-from.result in
+    let J = c.judge.ensures.tables in
+    let flags = c.judge.new.flags in
+    let n = c.judge.auto.flags in
+    let e = window_at (x + 512) (finals_from d) (x + 512 + 260) 260 flags (omega (arith, c.flags_from-from.ensures.0)) (omega arith) in filled d P.flags_long P.numbers_long c.judge.ensures.written n (only_same _) refl

@@ -1,0 +1,74 @@
+-- The step is asked what stands in the frame, with the tables of its state. Assumes nothing.
+use Rattle.std.proofs.Common.{◌+◌, arith}
+use Rattle.engine.specs.Tables.{truths_from, finals_from, counts_from}
+use Rattle.sheet.proofs.Parts.{in_order, programs_long}
+use Rattle.sheet.proofs.Found.{in_sheet}
+use Rattle.engine.proofs.Frames.{frame_by, next_inside}
+use Rattle.engine.proofs.Windows.{window_at}
+use Rattle.engine.proofs.Made.{asked, turned}
+use Rattle.engine.proofs.lay_next.Goals as goal
+
+pub overflow_mul-at : goal.overflow_mul-at
+overflow_mul-at c =
+    let F = c.requires.2.frame in
+    omega (arith, frame_by c.requires.0 c.args.d, F.roomy.inside, F.roomy.small)
+
+pub overflow_add-at : goal.overflow_add-at
+overflow_add-at c =
+    let F = c.requires.2.frame in
+    omega (arith, frame_by c.requires.0 c.args.d, F.roomy.inside, F.roomy.small)
+
+pub slice_bounds-step_rest-count : goal.slice_bounds-step_rest-count
+slice_bounds-step_rest-count c = (in_order (in_sheet c.requires.0)).programs
+
+pub slice_bounds-step_rest-start : goal.slice_bounds-step_rest-start
+slice_bounds-step_rest-start c = let o = in_order (in_sheet c.requires.0) in omega arith
+
+pub slice_bounds-step_rest-end : goal.slice_bounds-step_rest-end
+slice_bounds-step_rest-end c = (in_order (in_sheet c.requires.0)).end
+
+pub overflow_add-at-2 : goal.overflow_add-at-2
+overflow_add-at-2 c =
+    let F = c.requires.2.frame in
+    omega (arith, frame_by c.requires.0 c.args.d, next_inside F, F.roomy.small, c.requires.0.frame_is)
+
+pub step_rest-requires-clause-program_table : goal.step_rest-requires-clause-program_table
+step_rest-requires-clause-program_table c =
+    let O = c.requires.0 in
+    let d = c.args.d in
+    let x = c.flags_from-from.result in
+    let y = c.counts_from-first.result in
+    let ex = c.flags_from-from.ensures.0 in
+    let flags = c.args.flags.now in
+    let numbers = c.args.numbers.now in programs_long _ _ (in_sheet O)
+
+pub step_rest-requires-clause-can_step : goal.step_rest-requires-clause-can_step
+step_rest-requires-clause-can_step c =
+    let O = c.requires.0 in
+    let d = c.args.d in
+    let x = c.flags_from-from.result in
+    let y = c.counts_from-first.result in
+    let ex = c.flags_from-from.ensures.0 in
+    let flags = c.args.flags.now in
+    let numbers = c.args.numbers.now in asked O c.requires.1 _ _ _ _ _
+    (window_at x (truths_from d) (x + 512) 512 flags ex (omega arith))
+    (window_at (x + 512) (finals_from d) (x + 512 + 260) 260 flags (omega (arith, ex)) (omega arith))
+    (window_at y (counts_from d) (y + 260) 260 numbers c.counts_from-first.ensures.0 (omega arith))
+    (omega (arith, frame_by O d))
+    (omega (arith, frame_by O d, O.frame_is)) c.requires.2
+
+pub returns : goal.returns
+returns c =
+    let O = c.requires.0 in
+    let d = c.args.d in
+    let x = c.flags_from-from.result in
+    let y = c.counts_from-first.result in
+    let ex = c.flags_from-from.ensures.0 in
+    let flags = c.args.flags.now in
+    let numbers = c.args.numbers.now in
+    turned O c.requires.1 _ _ _ _ _
+    (window_at x (truths_from d) (x + 512) 512 flags ex (omega arith))
+    (window_at (x + 512) (finals_from d) (x + 512 + 260) 260 flags (omega (arith, ex)) (omega arith))
+    (window_at y (counts_from d) (y + 260) 260 numbers c.counts_from-first.ensures.0 (omega arith))
+    (omega (arith, frame_by O d))
+    (omega (arith, frame_by O d, O.frame_is)) _ c.step_rest.ensures

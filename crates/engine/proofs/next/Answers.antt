@@ -1,0 +1,48 @@
+-- A spent cursor has none ahead of it; else the transition at the cursor is made, for there is one. Assumes nothing.
+use Rattle.std.proofs.Common.{◌+◌, sym, ◌∙◌, subst, true≢false, arith}
+use Rattle.sheet.specs.Layout.{layout_of}
+use Rattle.demands.specs.Decoded.{world_of}
+use Rattle.state.specs.Truths.{AreTruths}
+use Rattle.words.proofs.Written.{kept_refl}
+use Rattle.engine.specs.Tables.{truths_from}
+use Rattle.engine.specs.Going.{MakesNext}
+use Rattle.engine.proofs.Windows.{window_at}
+use Rattle.engine.proofs.Going.{ahead_none}
+use Rattle.engine.proofs.Made.{none_left, made_known, made_next, step_kept}
+use Rattle.engine.proofs.next.Goals as goal
+
+pub returns-then-k : goal.returns-then-k
+returns-then-k c =
+    let r = c.none_made.ensures in
+    record {
+      makes = λ g. subst (MakesNext c.args.s.now (g.program, c.args.st) g.left _ _ c.none_made.result) (sym (ahead_none g.listed c.if-k.true)) r;
+      kept = kept_refl _ _;
+      falls = λ e. absurd (true≢false (sym e ∙ r));
+    }
+
+pub returns-in_default : goal.returns-in_default
+returns-in_default c =
+    let P = c.requires in
+    absurd (none_left P.0.accepted c.lay_next-turn.ensures P.2 _ _ c.in_default.is c.if-k.false)
+
+pub state_after-state-requires-clause-of : goal.state_after-state-requires-clause-of
+state_after-state-requires-clause-of c =
+    let P = c.requires in
+    let x = c.flags_from-from.result in
+    let T = window_at x (truths_from c.args.d) (x + 512) 512 c.args.flags.now c.flags_from-from.ensures.0 (omega arith) in (P.0, subst (AreTruths (world_of c.args.s.now) c.args.st (layout_of c.args.s.now).q) (sym T) P.1.truths_are)
+
+pub state_after-state-requires-clause-known : goal.state_after-state-requires-clause-known
+state_after-state-requires-clause-known c =
+    let P = c.requires in
+    let x = c.flags_from-from.result in
+    let T = window_at x (truths_from c.args.d) (x + 512) 512 c.args.flags.now c.flags_from-from.ensures.0 (omega arith) in made_known P.0.accepted c.lay_next-turn.ensures P.2 c.in-Made.is
+
+pub returns : goal.returns
+returns c =
+    let P = c.requires in
+    let A = c.lay_next-turn.ensures in
+    record {
+      makes = λ g. made_next P.0.accepted A g c.in-Made.is c.state_after-state.ensures;
+      kept = step_kept P.0.accepted A P.2;
+      falls = λ e. omega (arith, c.if-k.false);
+    }

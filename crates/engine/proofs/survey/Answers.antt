@@ -1,0 +1,54 @@
+-- The totals by the tables of the state are what the definition says of the configuration; counting the survey leaves them. Assumes nothing.
+use Rattle.std.proofs.Common.{ℕ, ◌+◌, sym, subst, arith}
+use Rattle.height.specs.Work.{header}
+use Rattle.words.specs.Words.{At, Stands}
+use Rattle.engine.proofs.Frames.{frame_by, frame_holds}
+use Rattle.engine.proofs.Tables.{filled, filled_then, counted, counted_filled}
+use Rattle.engine.proofs.Telling.{tells}
+use Rattle.engine.proofs.survey.Goals as goal
+
+pub overflow_mul-d : goal.overflow_mul-d
+overflow_mul-d c =
+    omega (arith, frame_by c.requires.of.0 c.args.d, c.requires.by_index.2.roomy.inside, c.requires.by_index.2.roomy.small)
+
+pub overflow_add-d : goal.overflow_add-d
+overflow_add-d c =
+    omega (arith, frame_by c.requires.of.0 c.args.d, c.requires.by_index.2.roomy.inside, c.requires.by_index.2.roomy.small)
+
+pub total-totals-requires : goal.total-totals-requires
+total-totals-requires c =
+    let S = counted c.count_survey.ensures.written c.count_survey.auto.numbers c.tally.ensures.tables.prepared.numbers_long c.tally.ensures.tables in
+    let F = c.requires.by_index.2 in (
+      S.prepared.flags_long,
+      S.prepared.numbers_long,
+      subst (λ (o : ℕ). Stands c.args.work.now (o + header)) (sym (frame_by c.requires.of.0 c.args.d)) (frame_holds F),
+      F.roomy.small,
+    )
+
+pub returns-clause-answer : goal.returns-clause-answer
+returns-clause-answer c =
+    let O = c.requires.of.0 in
+    let P = c.requires.of.1 in
+    let d = c.args.d in
+    let long = c.tally.ensures.tables.prepared.numbers_long in
+    let S = counted c.count_survey.ensures.written c.count_survey.auto.numbers long c.tally.ensures.tables in
+    let T = filled d P.flags_long P.numbers_long c.judge.ensures.written c.judge.auto.flags c.tally.ensures.written c.tally.auto.numbers in λ left p F. tells O.accepted F c.args.st S
+    (c.total-totals.ensures F.rest (subst (λ (o : ℕ). At F.rest c.args.work.now (o + header)) (sym (frame_by O d)) F.words_are))
+
+pub returns-clause-tables : goal.returns-clause-tables
+returns-clause-tables c =
+    let O = c.requires.of.0 in
+    let P = c.requires.of.1 in
+    let d = c.args.d in
+    let long = c.tally.ensures.tables.prepared.numbers_long in
+    let S = counted c.count_survey.ensures.written c.count_survey.auto.numbers long c.tally.ensures.tables in
+    let T = filled d P.flags_long P.numbers_long c.judge.ensures.written c.judge.auto.flags c.tally.ensures.written c.tally.auto.numbers in S
+
+pub returns-clause-written : goal.returns-clause-written
+returns-clause-written c =
+    let O = c.requires.of.0 in
+    let P = c.requires.of.1 in
+    let d = c.args.d in
+    let long = c.tally.ensures.tables.prepared.numbers_long in
+    let S = counted c.count_survey.ensures.written c.count_survey.auto.numbers long c.tally.ensures.tables in
+    let T = filled d P.flags_long P.numbers_long c.judge.ensures.written c.judge.auto.flags c.tally.ensures.written c.tally.auto.numbers in filled_then T (counted_filled c.count_survey.ensures.written c.count_survey.auto.numbers long d d) d d (omega arith) (omega arith) (omega arith) (omega arith)
