@@ -1,7 +1,7 @@
 /*
  * Plans a sheet, as a program that links the library does it: a program to copy from.
  *
- *     rt staticlib planner_c
+ *     scripts/build planner_c
  *     cc -Iinclude examples/plan.c target/staticlib/libplanner_c.a
  *     ./a.out FILE                  without FILE: standard input
  *

@@ -1,7 +1,8 @@
 /*
- * The verified planner, for C (C99) and C++ (C++11), and for every language that calls C; x86-64 System V.
+ * The verified planner, for C (C99) and C++ (C++11), and for every language that calls C; x86-64 System V. The archive
+ * has instructions of x86-64-v2.
  *
- *     rt staticlib planner_c        writes target/staticlib/libplanner_c.a
+ *     scripts/build planner_c       writes target/staticlib/libplanner_c.a
  *     cc -Iinclude program.c target/staticlib/libplanner_c.a
  *
  * examples/plan.c is a program to copy from. "Document 01" is the paper that fixes sheets, programs, plans and numbers;
@@ -34,8 +35,9 @@
  * Time and stack. planner_plan and planner_replay search, which may take time exponential in D; planner_plan, where
  * there is a plan, in the number of its transitions. Where an index has room for all configurations reached, the time
  * of planner_plan grew about in proportion to their transitions and to D on the sheets that were measured; where it has
- * not, it may be as without one. planner_replay has a small index of its own. A call cannot be broken off. It takes at
- * most PLANNER_STACK bytes of stack, as measured.
+ * not, it may be as without one. (Times on this page were measured with an archive that an older compiler made.)
+ * planner_replay has a small index of its own. A call cannot be broken off. It takes at most PLANNER_STACK bytes of
+ * stack, as measured.
  *
  * Answers. Every function returns a number; the place and the other results come through pointers.
  *  - 0: accepted, found, answered. The place is 0.

@@ -1,4 +1,4 @@
-//! Finds the archive that `rt staticlib planner_c` writes: in target/staticlib of the repository, or in the folder that
+//! Finds the archive that `scripts/build planner_c` writes: in target/staticlib of the repository, or in the folder that
 //! PLANNER_LIB_DIR names.
 
 use std::env;
@@ -13,7 +13,7 @@ fn main() {
     if !archive.is_file() {
         eprintln!("there is no {}", archive.display());
         eprintln!(
-            "run `rt staticlib planner_c` in the repository's root, or name the archive's folder by PLANNER_LIB_DIR"
+            "run `scripts/build planner_c` in the repository's root, or name the archive's folder by PLANNER_LIB_DIR"
         );
         exit(1);
     }

@@ -105,14 +105,19 @@ module _ (In : Rest → Type 0) (C : Closed In)
     soon_over g H x k = every_at (all_far g H) k
 
 -- the tables of a state, and those told once
-module _ (p : ℕ → Program) (m : ℕ) (distances : List ℕ) (D : Distances p m distances) (W : World) (low : AllLower p) (plain : Plain p) (s : State) where
-  count_none : (i : ℕ) → InTable p m (leaf i) → eqb (get_or (counts_of W s p m) i 0) 0 ≡ is_none (leaf_of W s p i).transitions
-  unfolding largest
-  count_none i H =
-      ap (λ (n : ℕ). eqb n 0) (counts_exact W s p low plain m i (within_leaf H).0 (within_leaf H).1) ∙ sym (none_length (leaf_of W s p i).transitions)
+module _ (p : ℕ → Program) (m : ℕ) (distances : List ℕ) (D : Distances p m distances) where
+  pub far_in : (g : Rest) → InTable p m g → far_by_table distances g ≤ distance (unfolded p g)
+  far_in = far_over (InTable p m) (within_closed p m) p distances (λ i H. D i (within_leaf H).0)
 
-  pub soon_in : (g : Rest) → InTable p m g → (x : RestTransition) → Memᴰ x (rest_transitions W s p g)
-      → soon_by_table (finals_of W s p m) distances (counts_of W s p m) g ≤ suc (distance (unfolded p x.1))
-  soon_in =
-      soon_over (InTable p m) (within_closed p m) p distances (λ i H. D i (within_leaf H).0) W low s (finals_of W s p m) (λ i H. finals_at W s p m i (within_leaf H).0)
-      (counts_of W s p m) count_none
+  module _ (W : World) (low : AllLower p) (plain : Plain p) (s : State) where
+    count_none : (i : ℕ) → InTable p m (leaf i) → eqb (get_or (counts_of W s p m) i 0) 0 ≡ is_none (leaf_of W s p i).transitions
+    unfolding largest
+    count_none i H =
+        ap (λ (n : ℕ). eqb n 0) (counts_exact W s p low plain m i (within_leaf H).0 (within_leaf H).1) ∙ sym (none_length (leaf_of W s p i).transitions)
+
+    -- no transition leaves what is nearer
+    pub soon_in : (g : Rest) → InTable p m g → (x : RestTransition) → Memᴰ x (rest_transitions W s p g)
+        → soon_by_table (finals_of W s p m) distances (counts_of W s p m) g ≤ suc (distance (unfolded p x.1))
+    soon_in =
+        soon_over (InTable p m) (within_closed p m) p distances (λ i H. D i (within_leaf H).0) W low s (finals_of W s p m)
+        (λ i H. finals_at W s p m i (within_leaf H).0) (counts_of W s p m) count_none

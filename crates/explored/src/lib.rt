@@ -1,6 +1,8 @@
 // What an index says of configurations already explored (document 02, F-4). An entry's key is the packed configuration, with what is asked of
 // the moves to come as its label; its value has the transitions left when it was explored, a flag of what is known of the bound, and the
 // round. Where something is asked, an entry serves in its own round only, since a later search asks something else.
+#![tactic(auto)]
+
 ghost use Rattle.std.specs.Prelude.{◌≡◌, true, false, ◌||◌, ◌⊎◌, ℕ, ◌^◌, ◌≤◌, ◌<◌, eqb};
 ghost use Rattle.golog.specs.Prog.{Prog};
 ghost use Rattle.runs.specs.Guide.{Guide};

@@ -1,5 +1,7 @@
 // The first plan (document 02, F-1), by the bounded search alone. Its number of transitions: the least bound that finds a plan. Its history:
 // entry by entry, each the least that some plan of so many transitions has after those before it.
+#![tactic(auto)]
+
 ghost use Rattle.std.specs.Prelude.{◌≡◌, ◌+◌, ◌<◌, ◌≤◌, ◌++◌, length, drop, replicate};
 ghost use Rattle.runs.specs.Guide.{rank};
 ghost use Rattle.sheet.specs.Inspection.{Of};

@@ -55,7 +55,7 @@ node_same false n i j w w' S x h = go (dec_lt (2 * (x / 2)) x)
 module _ {g n n' i j label label' : ℕ} {st st' : State} {w w' key : List ℕ} (P : Packed g st w i n label key) (Q : Packed g st' w' j n' label' key) where
   heads : (st'.running ≡ st.running) × (n' ≡ n) × (label' ≡ label) × (Q.wide ≡ P.wide)
   heads =
-      head_same st.running st'.running P.wide Q.wide n n' label label' P.few Q.few P.Label-small Q.Label-small
+      head_same st.running st'.running P.wide Q.wide n n' label label' P.few Q.few P.label_small Q.label_small
       (sym Q.head_is ∙ P.head_is)
 
   pub sizes_same : n' ≡ n

@@ -1,4 +1,6 @@
 // The key of a configuration: its remaining program, its state and a label, in few words. Equal keys are those of equal configurations.
+#![tactic(auto)]
+
 ghost use Rattle.std.specs.Prelude.{◌≡◌, true, false, cond, ℕ, ◌+◌, ◌*◌, ◌/◌, ◌%◌, ◌≤◌, ◌<◌, length, get_or, take};
 ghost use Rattle.golog.specs.Prog.{Prog};
 ghost use Rattle.sheet.specs.Inspection.{Of};

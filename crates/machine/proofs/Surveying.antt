@@ -22,6 +22,8 @@ use Rattle.golog.specs.Prog.{program_of}
 use Rattle.remaining.specs.Extended.{empty, virtual}
 use Rattle.remaining.proofs.Started.{table_above}
 use Rattle.remaining.proofs.Written.{Linked}
+use Rattle.sets.specs.Sets.{set_at}
+use Rattle.truths.specs.Held.{HoldsIn}
 use Rattle.possible.specs.Written.{Written}
 use Rattle.leaves.specs.Endable.{final_bound_at, final_bounds_of}
 use Rattle.leaves.specs.Distances.{distances_of}
@@ -124,19 +126,25 @@ module _ {formulas effects actions programs : List ℕ} {v : Shape} (R : RuledOn
       long = omega (arith, window_long (sets_from d) 8768 numbers (omega (arith, T.long)));
     }
 
--- in the world of the tables what positions are found by is known
+-- in the world of the tables what positions are found by is known, if the sets behind those of its formulas are told too: `positions` asks for
+-- those of 512 formulas, whichever records have conditions
 pub surveyed :
     {fluents formulas effects actions programs : List ℕ} {v : Shape} {s : State} {d : ℕ} {numbers : List ℕ} → RuledTables fluents formulas effects actions programs v
     → StateTold fluents formulas effects actions programs v s d numbers → (W : World) → Written fluents formulas effects actions W
+    → ((q : ℕ) → v.q ≤ q → q < 512 → HoldsIn W s q (set_at (sets_at d numbers) q))
     → Surveyed W s (tables_of programs (setting_of v s) (spans_on numbers) (digits_on numbers) (sets_at d numbers))
 unfolding prepared
-surveyed {programs = programs} {v = v} {s = s} {d = d} R S W is =
+surveyed {programs = programs} {v = v} {s = s} {d = d} {numbers = numbers} R S W is behind =
     let K = S.sets_known.known W is in
     record {
       prepared = prepared R.once S.told s d;
       ends = ends_marked R.once W s;
       runs = refl;
-      truths = λ i t. S.sets_known.held W is (records_of programs v i).c ((records_ruled R.once i).condition t);
+      truths = λ q few. truth_at q few (dec_lt q v.q);
       finals = K.final;
       enabled = K.enabled;
     }
+  where
+    truth_at : (q : ℕ) → q < 512 → Dec (q < v.q) → HoldsIn W s q (set_at (sets_at d numbers) q)
+    truth_at q few (yes l) = S.sets_known.held W is q l
+    truth_at q few (no l) = behind q (omega arith) few

@@ -172,7 +172,7 @@ module _ {W : World} {s : State} {t : Tables} (Q : Surveyed W s t) (w : Way) whe
         (spots_own Q w.i w.e h own (own_plain (t.records w.i).kind own) (not-true _ (sym (enabled_is Q w.i w.e l h) ∙ q))))
         ∙ own_first _ w.base w.k
 
-    -- by the one way, or by the other
+    -- by the one way, by the other, or by none
     module _ {f : Fork} (F : Forks W s t w.i w.e w.k f) where
       pub by_first : {n : ℕ} → way_first W s t f.first ≡ some n → first_of (from_spot w.k (spots_in W s t w.i w.e)) ≡ some n
       by_first q = F.found ∙ ap (λ (o : Option ℕ). or_else o (way_first W s t f.second)) q
@@ -183,8 +183,16 @@ module _ {W : World} {s : State} {t : Tables} (Q : Surveyed W s t) (w : Way) whe
       pub finds_first : {n : ℕ} → way_first W s t f.first ≡ some n → way_first W s t w ≡ some (w.base + n)
       finds_first {n} q = on (some n) (by_first q)
 
-      pub finds_second : {o : Option ℕ} → way_first W s t f.first ≡ none → way_first W s t f.second ≡ o → way_first W s t w ≡ further w.base o
-      finds_second {o} q p = on o (by_second q p)
+      pub finds_second : {n : ℕ} → way_first W s t f.first ≡ none → way_first W s t f.second ≡ some n → way_first W s t w ≡ some (w.base + n)
+      finds_second {n} q p = on (some n) (by_second q p)
+
+      pub finds_none : way_first W s t f.first ≡ none → way_first W s t f.second ≡ none → way_first W s t w ≡ none
+      finds_none q p = on none (by_second q p)
+
+      -- either, as one answer
+      pub finds_other : {o : Option ℕ} → way_first W s t f.first ≡ none → way_first W s t f.second ≡ o → way_first W s t w ≡ further w.base o
+      finds_other {o = some n} q p = finds_second q p
+      finds_other {o = none} q p = finds_none q p
 
 -- an answer that is there, or not
 pub answer_there : (r : Found) → r.there ≡ true → answer_of r ≡ some r.at

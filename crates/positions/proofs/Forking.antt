@@ -256,7 +256,9 @@ module _ {W : World} {s : State} {t : Tables} (Q : Surveyed W s t) where
 
       held : T (has_condition r.kind) → holds W R.c s ≡ h
       unfolding R
-      held c = ap (λ (q : ℕ). holds W q s) (read_condition e (span_of t.records i) r c) ∙ sym ((Q.truths i c).each e small) ∙ sym (condition c)
+      held c =
+          let few = Q.prepared.conditions i c in
+          ap (λ (q : ℕ). holds W q s) (read_condition e (span_of t.records i) r c) ∙ sym ((Q.truths r.c few).each e small) ∙ sym (condition c)
 
       shape_of : (own x : Bool) (by : ℕ) (y : Bool) → List Spot
       shape_of own x by y = only own ((0, (own_move R, gone)) ∷ []) ++ (map (moved 0 FA) (only x As) ++ map (moved by FB) (only y Bs))

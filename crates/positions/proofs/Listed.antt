@@ -3,7 +3,7 @@
 use mathlib.Core.Path.{◌≡◌, refl, sym, ◌∙◌, ap, ap₂, fun_ext}
 use mathlib.Core.Bool.{Bool, true, false, cond, ◌||◌}
 use mathlib.Core.List.{List, [], ◌∷◌, ◌++◌, map, map-append}
-use Prim.Native.Nat.{ℕ, zero, suc, ◌*◌, ◌^◌, ◌<◌}
+use Prim.Native.Nat.{ℕ, zero, suc, ◌+◌, ◌*◌, ◌^◌, ◌<◌}
 use native.Mathlib.Omega.{arith}
 use lib.Dec.{T, eqb}
 use lib.ListN.{get_or}
@@ -17,7 +17,7 @@ use Rattle.golog.specs.declared.State.{State}
 use Rattle.golog.specs.World.{World, holds, possible}
 use Rattle.golog.specs.Transitions.{is_none, lists_from}
 use Rattle.runs.specs.Guide.{only}
-use Rattle.remaining.specs.Rest.{Rest, gone, leaf, node, AllLower}
+use Rattle.remaining.specs.Rest.{Rest, gone, leaf, node, nodes, AllLower}
 use Rattle.remaining.specs.Leaves.{RestTransition, on_rest, wrap_a, wrap_b, Leaf, own_move, sibling_a, leaf_with, pick_leaf, leaf_of, goes_right, wrap_right, rest_final, rest_transitions}
 use Rattle.remaining.proofs.Entries.{lower_a, lower_b, leaf_plain, leaf_pick}
 use Rattle.positions.specs.Spots.{Spot, moved, apart, spots_with, spots_picked, spots_at, spots_of, rest_spots}
@@ -156,5 +156,5 @@ module _ (W : World) (s : State) where
     rest_spots_are place (node tag l r) =
         let goes : Bool = goes_right tag (rest_final W s P l) (is_none (rest_transitions W s P l)) in
         map-append (λ (x : Spot). x.1) (map (moved 0 (λ (g : Rest). node tag g r)) (rest_spots W s P digits _ l)) _
-        ∙ ap₂ ◌++◌ (bare_moved 0 (λ (g : Rest). node tag g r) (rest_spots W s P digits _ l) ∙ ap (map (on_rest (λ (g : Rest). node tag g r))) (rest_spots_are _ l))
-        (bare_part goes 0 (wrap_right tag l) (rest_spots W s P digits _ r) (λ t. rest_spots_are _ r))
+        ∙ ap₂ ◌++◌ (bare_moved 0 (λ (g : Rest). node tag g r) (rest_spots W s P digits _ l) ∙ ap (map (on_rest (λ (g : Rest). node tag g r))) (rest_spots_are (place + 3) l))
+        (bare_part goes 0 (wrap_right tag l) (rest_spots W s P digits _ r) (λ t. rest_spots_are (place + 3 + 3 * nodes l) r))

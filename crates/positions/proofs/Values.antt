@@ -28,9 +28,11 @@ next_multiple u n = add-mul u 1 n ∙ ap (λ (m : ℕ). u * n + m) (one-mul n)
 of_lists : {x : Spot} (G : ℕ → List Spot) (c i : ℕ) → Memᴰ x (lists_from G i c) → (u : ℕ) × (i ≤ u) × (u < i + c) × Memᴰ x (G u)
 unfolding lists_from
 of_lists G zero i m = absurd (Memᴰ.not-nil m)
-of_lists G (suc c) i m =
-    ⊎_elim (λ l. (i, omega arith, omega arith, l)) (λ r. let z = of_lists G c (suc i) r in (z.0, omega (arith, z.1), omega (arith, z.2), z.3))
-    (Memᴰ.append_cases (G i) m)
+of_lists {x} G (suc c) i m =
+    ⊎_elim (λ l. (i, omega arith, omega arith, l)) (λ r. later (of_lists G c (suc i) r)) (Memᴰ.append_cases (G i) m)
+  where
+    later : ((u : ℕ) × (suc i ≤ u) × (u < suc i + c) × Memᴰ x (G u)) → (u : ℕ) × (i ≤ u) × (u < i + suc c) × Memᴰ x (G u)
+    later z = (z.0, omega (arith, z.1), omega (arith, z.2), z.3)
 
 module _ (k : ℕ) (G : ℕ → List Spot) where
   none_lists : (c i : ℕ) → ((u : ℕ) → i ≤ u → u < i + c → first_of (from_spot k (G u)) ≡ none) → first_of (from_spot k (lists_from G i c)) ≡ none

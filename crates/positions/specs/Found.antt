@@ -89,9 +89,7 @@ pub record Surveyed (W : World) (s : State) (t : Tables) : Type 0 where
   pub prepared : Prepared t
   pub ends : Endable W s t.records prepared.endable
   pub runs : s.running ≡ t.running
-  pub truths :
-      (i : ℕ) → T (has_condition (t.records i).kind)
-      → Has (λ (e : ℕ). holds W (reading (t.records i).c e) s) (set_at t.sets (t.records i).c)
+  pub truths : (q : ℕ) → q < 512 → Has (λ (e : ℕ). holds W (reading q e) s) (set_at t.sets q)
   pub finals : (i : ℕ) → i < t.many → Has (λ (e : ℕ). (leaf_of W s (written_records t.records) (reading i e)).final) (set_at t.sets (512 + i))
   pub enabled :
       (i : ℕ) → i < t.many

@@ -1,4 +1,6 @@
 // Transitions by their positions (specs/Spots.antt): where no counter holds how many there are, a cursor that rises goes through all.
+#![tactic(auto)]
+
 ghost use Rattle.std.specs.Prelude.{◌≡◌, true, false, not, cond, ◌&&◌, ℕ, ◌+◌, ◌-◌, ◌/◌, ◌^◌, ◌≤◌, ◌<◌, min, max, T, eqb, length, get_or};
 ghost use Rattle.records.specs.Records.{ProgramTable};
 ghost use Rattle.remaining.specs.Extended.{table_of};

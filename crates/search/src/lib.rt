@@ -1,4 +1,6 @@
 // The bounded depth-first search over the engine's configurations, under a guide: the one primitive of the strategies. And replay.
+#![tactic(auto)]
+
 ghost use Rattle.std.specs.Prelude.{◌≡◌, true, false, ℕ, ◌≤◌, length, get_or, replicate};
 ghost use Rattle.golog.specs.Prog.{Prog};
 ghost use Rattle.demands.specs.Decoded.{bound_of};

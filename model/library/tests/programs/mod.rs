@@ -13,7 +13,7 @@ pub fn compare(name: &str, variable: &str, cases: Vec<Case>) -> ExitCode {
     let program = env::var_os(variable).map_or(built, PathBuf::from);
     if !program.is_file() {
         eprintln!("there is no {}", program.display());
-        eprintln!("run `rt check {name}` in the repository's root, or name the program by {variable}");
+        eprintln!("run `scripts/build {name}` in the repository's root, or name the program by {variable}");
         return ExitCode::FAILURE;
     }
     let (mut passed, mut failed) = (0, 0);

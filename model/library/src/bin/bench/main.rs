@@ -531,7 +531,7 @@ fn print_timed_cases() {
     let program = Path::new(env!("CARGO_MANIFEST_DIR")).join("../../target/bin/timed_cases");
     match Command::new(program).output() {
         Ok(output) => print!("{}", String::from_utf8_lossy(&output.stderr)),
-        Err(error) => println!("{error}: `rt check timed_cases` in the repository's root makes the program"),
+        Err(error) => println!("{error}: `scripts/build timed_cases` in the repository's root makes the program"),
     }
 }
 

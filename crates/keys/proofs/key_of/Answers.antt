@@ -1,0 +1,77 @@
+-- The frame's program, its number of nodes and the groups of the sheet's values are those that are packed. Assumes nothing.
+use Prim.Native.Nat.{ℕ, ◌+◌, ◌*◌, ◌/◌, ◌≤◌}
+use mathlib.Core.Path.{◌≡◌, ap, subst, ◌∙◌}
+use mathlib.Core.List.{List}
+use native.Mathlib.Omega.{arith}
+use lib.ListN.{length, get_or}
+use Rattle.height.specs.Work.{header}
+use Rattle.sheet.specs.declared.Layout.{Layout}
+use Rattle.sheet.specs.declared.Inspection.{Inspection}
+use Rattle.sheet.specs.Inspection.{Of}
+use Rattle.golog.specs.Prog.{Prog}
+use Rattle.golog.specs.declared.State.{State}
+use Rattle.remaining.specs.Rest.{nodes}
+use Rattle.engine.specs.Frames.{nodes_at, Frame}
+use Rattle.keys.specs.Packed.{Packed}
+use Rattle.keys.specs.Keyed.{groups_of}
+use Rattle.sheet.proofs.Found.{in_sheet}
+use Rattle.words.proofs.Standing.{at_node_room, at_size, at_room}
+use Rattle.engine.proofs.Frames.{frame_by}
+use Rattle.keys.proofs.key_of.Goals as goal
+
+module _ {s w : List ℕ} {m : Inspection} {left d n : ℕ} {p : Prog} (O : Of s m) (F : Frame s left w d p) (e : n ≡ get_or w (d * m.frame + header + 2) 0) where
+  -- the number of nodes is read where the frame's begin
+  size_is : n ≡ nodes F.rest
+  size_is = e ∙ ap (λ (i : ℕ). get_or w (i + header + 2) 0) (frame_by O d) ∙ at_size F.rest w (nodes_at s d) F.words_are
+
+  nodes-inside : d * m.frame + header + 3 * n ≤ length w
+  nodes-inside = omega (arith, size_is, frame_by O d, at_room F.rest w (nodes_at s d) F.words_are)
+
+  packed-there :
+      {st : State} {label : ℕ} {key : List ℕ}
+      → Packed ((m.layout.f + 7) / 8) st w (d * m.frame + header) n label key
+      → Packed (groups_of s) st w (nodes_at s d) (nodes F.rest) label key
+  packed-there {st} {label} {key} P =
+      subst (λ (g : ℕ). Packed g st w (nodes_at s d) (nodes F.rest) label key) (ap (λ (l : Layout). (l.f + 7) / 8) O.layout_is)
+      (subst (λ (i : ℕ). Packed ((m.layout.f + 7) / 8) st w (i + header) (nodes F.rest) label key) (frame_by O d)
+      (subst (λ (k : ℕ). Packed ((m.layout.f + 7) / 8) st w (d * m.frame + header) k label key) size_is P))
+
+pub overflow_mul-at : goal.overflow_mul-at
+overflow_mul-at c =
+    let F = c.requires.1.2 in
+    omega (arith, frame_by c.requires.0 c.args.d, F.roomy.inside, F.roomy.small)
+
+pub overflow_add-at : goal.overflow_add-at
+overflow_add-at c =
+    let F = c.requires.1.2 in
+    omega (arith, frame_by c.requires.0 c.args.d, F.roomy.inside, F.roomy.small)
+
+pub size_at-n-requires : goal.size_at-n-requires
+size_at-n-requires c =
+    let F = c.requires.1.2 in
+    omega (arith, frame_by c.requires.0 c.args.d, at_node_room F.rest _ _ F.words_are)
+
+pub overflow_add-l : goal.overflow_add-l
+overflow_add-l c = let O = c.requires.0 in omega (arith, (in_sheet O).f)
+
+pub pack-requires : goal.pack-requires
+pack-requires c =
+    let O = c.requires.0 in
+    let F = c.requires.1.2 in
+    (nodes-inside O F c.size_at-n.ensures, omega (arith, (in_sheet O).f))
+
+pub returns-clause-inside : goal.returns-clause-inside
+returns-clause-inside c =
+    let O = c.requires.0 in c.pack.ensures.inside
+
+pub returns-clause-keyed : goal.returns-clause-keyed
+returns-clause-keyed c =
+    let O = c.requires.0 in λ left p F h.
+    record {
+      words = c.args.work.now;
+      place = nodes_at c.args.s.now c.args.d;
+      rest = F.rest;
+      stands_for = F.stands_for;
+      words_are = F.words_are;
+      packed = packed-there O F c.size_at-n.ensures (c.pack.ensures.packed h);
+    }

@@ -1,0 +1,62 @@
+-- By whether it chooses a value (Finding.antt). Assumes nothing.
+use mathlib.Core.Path.{◌≡◌, sym, ◌∙◌, ap, subst}
+use mathlib.Core.Bool.{true, false}
+use borrow.Author.Tests.{eq-eqb, ne_eqb}
+use Rattle.kinds.specs.Programs.{picks, has_own}
+use Rattle.records.specs.declared.Program.{Program}
+use Rattle.records.specs.Records.{TwoBytes}
+use Rattle.positions.proofs.Finding.{span_is, parts_record, can_fork, can_choose, forked_parts, forked_values}
+use Rattle.positions.proofs.ways.Goals as goal
+
+pub fork_values-requires-clause-can_fork : goal.fork_values-requires-clause-can_fork
+fork_values-requires-clause-can_fork c =
+    let C = c.requires.can_look in
+    let is = c.record_at-r.ensures.record in
+    let d = c.wide32-d.ensures.0 ∙ c.number_in.ensures in
+    let p : picks c.record_at-r.result.kind ≡ true = eq-eqb c.record_at-r.result.kind 12 c.if-r-eq-CHOICE.true in
+    let n = c.wide32-n.ensures.0 ∙ c.number_in-then-r-eq-CHOICE.ensures ∙ span_is C is p in
+    can_fork C is d
+
+pub fork_values-requires-clause-n_bound : goal.fork_values-requires-clause-n_bound
+fork_values-requires-clause-n_bound c =
+    let C = c.requires.can_look in
+    let is = c.record_at-r.ensures.record in
+    let d = c.wide32-d.ensures.0 ∙ c.number_in.ensures in
+    let p : picks c.record_at-r.result.kind ≡ true = eq-eqb c.record_at-r.result.kind 12 c.if-r-eq-CHOICE.true in
+    let n = c.wide32-n.ensures.0 ∙ c.number_in-then-r-eq-CHOICE.ensures ∙ span_is C is p in
+    can_choose C is p n
+
+pub returns-then-r-eq-CHOICE : goal.returns-then-r-eq-CHOICE
+returns-then-r-eq-CHOICE c =
+    let C = c.requires.can_look in
+    let is = c.record_at-r.ensures.record in
+    let d = c.wide32-d.ensures.0 ∙ c.number_in.ensures in
+    let p : picks c.record_at-r.result.kind ≡ true = eq-eqb c.record_at-r.result.kind 12 c.if-r-eq-CHOICE.true in
+    let n = c.wide32-n.ensures.0 ∙ c.number_in-then-r-eq-CHOICE.ensures ∙ span_is C is p in
+    record {
+      record_is = c.fork_values.ensures.record_is ∙ is;
+      fields = subst TwoBytes (sym c.fork_values.ensures.record_is) c.record_at-r.ensures.fields;
+      forked =
+          λ o. forked_values C is d n p c.fork_values.ensures;
+    }
+
+pub fork_parts-requires : goal.fork_parts-requires
+fork_parts-requires c =
+    let C = c.requires.can_look in
+    let is = c.record_at-r.ensures.record in
+    let d = c.wide32-d.ensures.0 ∙ c.number_in.ensures in
+    can_fork C is d
+
+pub returns : goal.returns
+returns c =
+    let C = c.requires.can_look in
+    let is = c.record_at-r.ensures.record in
+    let d = c.wide32-d.ensures.0 ∙ c.number_in.ensures in
+    let p : picks c.record_at-r.result.kind ≡ false = ne_eqb c.record_at-r.result.kind 12 c.if-r-eq-CHOICE.false in
+    let same = parts_record c.fork_parts.ensures in
+    record {
+      record_is = same ∙ is;
+      fields = subst TwoBytes (sym same) c.record_at-r.ensures.fields;
+      forked =
+          λ o. forked_parts C is d p (sym (ap (λ (r : Program). has_own r.kind) same) ∙ o) c.fork_parts.ensures;
+    }
