@@ -1,49 +1,57 @@
 // Runs the checks of a sheet on the cases that standard input lists, one to a line: writes each line, and after it what
 // checking that line's sheet answers. The first line describes the sheet with which all others start; headings, which
 // are written as they stand, say how a line is to be read.
+#![tactic(auto)]
+
 mod cases;
 mod report;
 mod scan;
 mod write;
 
-fn line(base: &[u8], t: &[u8]) {
-    report::text(t);
+use std::io;
+
+// The bytes that the program reads; more are left unread.
+const BYTES: usize = 65536;
+
+fn line(rt: &impl Print, base: &[u8], t: &[u8]) -> io::Result<()> {
+    report::text(rt, t)?;
     if scan::is_heading(t) {
-        report::text(b"\n");
-        return;
+        return report::text(rt, b"\n");
     }
     let mut s = [0u8; 16384];
     let c = cases::build(&mut s, cases::empty(), scan::clauses(base));
-    report_on(cases::build(&mut s, c, scan::clauses(t)), &s);
+    report_on(rt, cases::build(&mut s, c, scan::clauses(t)), &s)
 }
 
-fn report_on(c: cases::Case, s: &[u8]) {
-    report::answer(s, c.start, c.end);
+fn report_on(rt: &impl Print, c: cases::Case, s: &[u8]) -> io::Result<()> {
+    report::answer(rt, s, c.start, c.end)?;
     if c.shows_trailer {
-        report::trailer(s, c.end);
+        report::trailer(rt, s, c.end)?;
     }
     if c.shows_notes {
-        report::notes(s, c.start, c.end);
+        report::notes(rt, s, c.start, c.end)?;
     }
+    Ok(())
 }
 
-fn lines(base: &[u8], text: &[u8]) {
+fn lines(rt: &impl Print, base: &[u8], text: &[u8]) -> io::Result<()> {
     let mut at = 0;
     while at < text.len() {
         let end = scan::find(text, at, b'\n');
-        line(base, &text[at..end]);
+        line(rt, base, &text[at..end])?;
         at = end + 1;
     }
+    Ok(())
 }
 
-fn report_all(text: &[u8]) {
+fn report_all(rt: &impl Print, text: &[u8]) -> io::Result<()> {
     let start = 0;
     let first = scan::find(text, start, b'\n');
-    lines(&text[start..first], text);
+    lines(rt, &text[start..first], text)
 }
 
-fn main() {
-    let mut text = io::large_buffer();
-    let n = io::read_full(0, &mut text);
-    report_all(&text[..n]);
+fn main(rt: HostRuntime) -> io::Result<()> {
+    let mut text = [0u8; BYTES];
+    let n = input::read_full(&mut rt.stdin(), &mut text)?;
+    report_all(&rt, &text[..n])
 }

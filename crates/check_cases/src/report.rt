@@ -1,14 +1,14 @@
 // What is written of a case.
 use sheet::Checked;
+use std::io;
 
-pub fn text(label: &[u8]) {
-    io::write_all(1, label);
+pub fn text(rt: &impl Print, label: &[u8]) -> io::Result<()> {
+    rt.write_all(label)
 }
 
 // A number with a blank before it.
-fn number(n: u64) {
-    text(b" ");
-    io::print_decimal(1, n);
+fn number(rt: &impl Print, n: u64) -> io::Result<()> {
+    print!(rt; " {n}")
 }
 
 // A byte, as a number to be written.
@@ -28,69 +28,67 @@ fn part(s: &[u8], start: usize, end: usize) -> &[u8] {
 }
 
 // `ok`, the words of work and, where formulas name fluents, `names` and their set; or the number and the place.
-pub fn answer(s: &[u8], start: usize, end: usize) {
-    text(b":");
+pub fn answer(rt: &impl Print, s: &[u8], start: usize, end: usize) -> io::Result<()> {
+    text(rt, b":")?;
     match sheet::check(part(s, start, end)) {
         Checked::Accepted { words, names } => {
-            text(b" ok");
-            number(words as u64);
+            text(rt, b" ok")?;
+            number(rt, words as u64)?;
             if names != 0 {
-                text(b" names");
-                number(names as u64);
+                text(rt, b" names")?;
+                number(rt, names as u64)?;
             }
         }
         Checked::Refused { why } => {
-            number(why.number as u64);
-            number(why.place as u64);
+            number(rt, why.number as u64)?;
+            number(rt, why.place as u64)?;
         }
     }
-    text(b"\n");
+    text(rt, b"\n")
 }
 
 // The first and the last byte, where there are any.
-fn ends(t: &[u8]) {
+fn ends(rt: &impl Print, t: &[u8]) -> io::Result<()> {
     if t.len() > 0 {
-        text(b" first");
-        number(wide(t[0]));
-        text(b", last");
-        number(wide(t[t.len() - 1]));
-        text(b",");
+        text(rt, b" first")?;
+        number(rt, wide(t[0]))?;
+        text(rt, b", last")?;
+        number(rt, wide(t[t.len() - 1]))?;
+        text(rt, b",")?;
     }
+    Ok(())
 }
 
 // The notes' length, their first and last byte, and the number and place beside them.
-pub fn notes(s: &[u8], start: usize, end: usize) {
+pub fn notes(rt: &impl Print, s: &[u8], start: usize, end: usize) -> io::Result<()> {
     let mut n: u32 = 0;
     let mut place: usize = 0;
     let found = sheet::notes(part(s, start, end), &mut n, &mut place);
-    text(b"  notes:");
-    number(found.len() as u64);
-    text(b" bytes,");
-    ends(found);
-    text(b" number");
-    number(n as u64);
-    text(b", place");
-    number(place as u64);
-    text(b"\n");
+    text(rt, b"  notes:")?;
+    number(rt, found.len() as u64)?;
+    text(rt, b" bytes,")?;
+    ends(rt, found)?;
+    text(rt, b" number")?;
+    number(rt, n as u64)?;
+    text(rt, b", place")?;
+    number(rt, place as u64)?;
+    text(rt, b"\n")
 }
 
 // A byte in hexadecimal, with a blank before it.
-fn hex(x: u8) {
-    text(b" ");
-    io::print_hex(1, wide(x), 2);
+fn hex(rt: &impl Print, x: u8) -> io::Result<()> {
+    print!(rt; " {x:02x}")
 }
 
 // The last 18 bytes in hexadecimal.
-pub fn trailer(s: &[u8], end: usize) {
+pub fn trailer(rt: &impl Print, s: &[u8], end: usize) -> io::Result<()> {
     if end < 18 {
-        return;
+        return Ok(());
     }
     let t = part(s, end - 18, end);
-    text(b"  trailer:");
-    let mut i = 0;
-    while i < t.len() {
-        hex(t[i]);
-        i += 1;
+    text(rt, b"  trailer:")?;
+    for x in t {
+        hex(rt, *x)?;
     }
-    text(b"\n");
+    text(rt, b"\n")
 }

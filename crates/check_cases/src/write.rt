@@ -39,7 +39,7 @@ pub fn bytes(s: &mut [u8], at: usize, n: usize, v: u8, step: u8) -> usize {
     let mut i = 0;
     while i < n {
         next = byte(s, next, x);
-        x = std::num::wrapping_add_u8(x, step);
+        x = x.wrapping_add(step);
         i += 1;
     }
     next

@@ -1,5 +1,7 @@
 // Remaining programs whose records are read in environments, by the sets of a state: whether they are final, how far they are from their end
 // at least, and their transitions by cursors. A leaf's number is that of its record, read in its environment (records/specs/Placeholders.antt).
+#![tactic(auto)]
+
 ghost use Rattle.std.specs.Prelude.{◌≡◌, false, cond, ◌&&◌, ◌-◌, ◌*◌, ◌^◌, ◌≤◌, ◌<◌, length};
 ghost use Rattle.records.specs.Records.{ProgramTable};
 ghost use Rattle.records.specs.Placeholders.{read_in, environment_of};

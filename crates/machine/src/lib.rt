@@ -1,5 +1,7 @@
 // The tables of a sheet with placeholders (document 02, F-6), over the bytes of its five tables: what is told once, and what is told of a
 // state. All stand in one lent slice of numbers; those of a state twice, for even and for odd depths of a search.
+#![tactic(auto)]
+
 ghost use Rattle.std.specs.Prelude.{◌≡◌, ◌+◌, ◌*◌, ◌≤◌, ◌<◌, length};
 ghost use Rattle.machine.specs.Tables.{Only, PutAt, spans_on, marks_on, told_places, sets_places, sets_from, sets_at, places, records_of, many_of};
 ghost use Rattle.machine.specs.Ruled.{RuledActions, RuledOnce, RuledTables, IsEntry};

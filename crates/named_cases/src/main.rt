@@ -1,18 +1,20 @@
 // Reads a sheet from standard input and writes which fluents are named, as sets, bit x for fluent x (document 02, F-5), beside what is said in
 // the initial state: for each formula `formula`, its number, whether it holds, its set; for each action `action`, its number, whether it is
 // possible, its set; then `sheet`, the words of work and the union. Or `refused`, number, place.
+#![tactic(auto)]
+
 ghost use Rattle.std.specs.Prelude.{◌≡◌, length};
 ghost use Rattle.sheet.specs.Inspection.{Of};
 ghost use Rattle.engine.specs.Tables.{flag_places};
 
 use sheet::{Checked, Inspected, Inspection};
+use std::io;
 
 // The bytes that the program reads.
 const BYTES: usize = 16384;
 
-fn number(x: usize) {
-    io::write_all(1, b" ");
-    io::print_decimal(1, x as u64);
+fn number(rt: &impl Print, x: usize) -> io::Result<()> {
+    print!(rt; " {x}")
 }
 
 fn digit(b: bool) -> usize {
@@ -20,42 +22,45 @@ fn digit(b: bool) -> usize {
 }
 
 // One line: a word, a record's number, what is said of it, and its set.
-fn line(word: &[u8], i: usize, said: bool, set: u32) {
-    io::write_all(1, word);
-    number(i);
-    number(digit(said));
-    number(set as usize);
-    io::write_all(1, b"\n");
+fn line(rt: &impl Print, word: &str, i: usize, said: bool, set: u32) -> io::Result<()> {
+    rt.print(word)?;
+    number(rt, i)?;
+    number(rt, digit(said))?;
+    number(rt, set as usize)?;
+    println!(rt)
 }
 
 // Each of the first n formulas, evaluated in the state that was judged at depth 0.
-fn formulas(flags: &[bool], sets: &[u32], n: usize)
+fn formulas(rt: &impl Print, flags: &[bool], sets: &[u32], n: usize) -> io::Result<()>
     requires { length flags.now ≡ flag_places }
 {
-    let mut q = 0;
-    while q < n {
+    for q in 0..n {
         let e = engine::evaluate(flags, sets, 0, q);
-        line(b"formula", q, e.holds, e.names);
-        q += 1;
+        line(rt, "formula", q, e.holds, e.names)?;
     }
+    Ok(())
 }
 
 // Each action of the sheet, checked in that state.
-fn actions(flags: &[bool], sets: &[u32], s: &[u8], found: Inspection)
+fn actions(
+    rt: &impl Print,
+    flags: &[bool],
+    sets: &[u32],
+    s: &[u8],
+    found: Inspection,
+) -> io::Result<()>
     requires { Of s.now found × (length flags.now ≡ flag_places) }
 {
     let l = found.layout;
-    let n = l.a;
-    let mut a = 0;
-    while a < n {
+    for a in 0..l.a {
         let p = engine::possible_check(flags, sets, s, found, 0, a);
-        line(b"action", a, p.possible, p.names);
-        a += 1;
+        line(rt, "action", a, p.possible, p.names)?;
     }
+    Ok(())
 }
 
 // The formulas and the actions of an accepted sheet.
-fn tell(s: &[u8], found: Inspection)
+fn tell(rt: &impl Print, s: &[u8], found: Inspection) -> io::Result<()>
     requires { Of s.now found }
 {
     let mut flags = [false; engine::FLAGS];
@@ -65,42 +70,41 @@ fn tell(s: &[u8], found: Inspection)
     engine::judge(&mut flags, &numbers, s, found, st, 0);
     let l = found.layout;
     let sets = engine::formula_sets(s, found);
-    formulas(&flags, &sets, l.q);
+    formulas(rt, &flags, &sets, l.q)?;
     let unions = engine::action_sets(s, found, &sets);
-    actions(&flags, &unions, s, found);
+    actions(rt, &flags, &unions, s, found)
 }
 
 // What the check answers.
-fn check(s: &[u8]) {
+fn check(rt: &impl Print, s: &[u8]) -> io::Result<()> {
     match sheet::check(s) {
         Checked::Accepted { words, names } => {
-            io::write_all(1, b"sheet");
-            number(words);
-            number(names as usize);
+            rt.print("sheet")?;
+            number(rt, words)?;
+            number(rt, names as usize)?;
         }
         Checked::Refused { why } => {
-            io::write_all(1, b"refused");
-            number(why.number as usize);
-            number(why.place);
+            rt.print("refused")?;
+            number(rt, why.number as usize)?;
+            number(rt, why.place)?;
         }
     }
-    io::write_all(1, b"\n");
+    println!(rt)
 }
 
-fn report(s: &[u8]) {
-    match sheet::inspect(s) {
-        Inspected::Accepted { found } => tell(s, found),
-        Inspected::Refused { why: _ } => {}
+fn report(rt: &impl Print, s: &[u8]) -> io::Result<()> {
+    if let Inspected::Accepted { found } = sheet::inspect(s) {
+        tell(rt, s, found)?;
     }
-    check(s);
+    check(rt, s)
 }
 
-fn main() {
+fn main(rt: HostRuntime) -> io::Result<()> {
     let mut input = [0u8; BYTES + 1];
-    let n = io::read_full(0, &mut input);
+    let n = input::read_full(&mut rt.stdin(), &mut input)?;
     if BYTES < n {
-        io::write_all(1, b"too long\n");
+        println!(rt; "too long")
     } else {
-        report(&input[..n]);
+        report(&rt, &input[..n])
     }
 }

@@ -1,5 +1,8 @@
 // Reads a sheet from standard input and prints the plan: `found`, n, t and then one entry a line, or `refused`, number, place.
+#![tactic(auto)]
+
 use planner::Planned;
+use std::io;
 
 // The words, the trace entries and the words of index that the program lends, and the bytes that it reads.
 const WORDS: usize = 16384;
@@ -14,50 +17,42 @@ fn wide(x: u16) -> usize {
     x as usize
 }
 
-fn number(x: usize) {
-    io::print_decimal(1, x as u64);
+fn number(rt: &impl Print, x: usize) -> io::Result<()> {
+    print!(rt; "{x}")
 }
 
 // One line: a word and two numbers.
-fn line(word: &[u8], a: usize, b: usize) {
-    io::write_all(1, word);
-    io::write_all(1, b" ");
-    number(a);
-    io::write_all(1, b" ");
-    number(b);
-    io::write_all(1, b"\n");
+fn line(rt: &impl Print, word: &str, a: usize, b: usize) -> io::Result<()> {
+    println!(rt; "{word} {a} {b}")
 }
 
-fn entries(trace: &[u16], n: usize) {
-    let mut i = 0;
-    while i < n {
-        if i < trace.len() {
-            number(wide(trace[i]));
-            io::write_all(1, b"\n");
-        }
-        i += 1;
+fn entries(rt: &impl Print, trace: &[u16], n: usize) -> io::Result<()> {
+    for entry in trace.iter().take(n) {
+        number(rt, wide(*entry))?;
+        println!(rt)?;
     }
+    Ok(())
 }
 
-fn report(sheet: &[u8]) {
+fn report(rt: &impl Print, sheet: &[u8]) -> io::Result<()> {
     let mut work = [0u32; WORDS];
     let mut trace = [0u16; ENTRIES];
     let mut index = [0u32; INDEX];
     match planner::plan(sheet, &mut work, &mut trace, &mut index) {
         Planned::Found { n, t } => {
-            line(b"found", n, t);
-            entries(&trace, n);
+            line(rt, "found", n, t)?;
+            entries(rt, &trace, n)
         }
-        Planned::Refused { why } => line(b"refused", why.number as usize, why.place),
+        Planned::Refused { why } => line(rt, "refused", why.number as usize, why.place),
     }
 }
 
-fn main() {
+fn main(rt: HostRuntime) -> io::Result<()> {
     let mut input = [0u8; BYTES + 1];
-    let n = io::read_full(0, &mut input);
+    let n = input::read_full(&mut rt.stdin(), &mut input)?;
     if BYTES < n {
-        io::write_all(1, b"too long\n");
+        println!(rt; "too long")
     } else {
-        report(&input[..n]);
+        report(&rt, &input[..n])
     }
 }

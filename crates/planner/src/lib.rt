@@ -1,4 +1,6 @@
 // The library's face: check, sizes, plan, replay, look up, notes. No call has a `requires`.
+#![tactic(auto)]
+
 ghost use Rattle.std.specs.Prelude.{◌≡◌, length};
 ghost use Rattle.sheet.specs.Check.{refusal_of, check_of, number_of, place_of};
 ghost use Rattle.sheet.specs.Notes.{notes_of};

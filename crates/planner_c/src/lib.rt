@@ -1,6 +1,8 @@
 // The library for C and Rust, declared in include/planner.h: a slice passes as a pointer, which is never null, and a length, results
 // through pointers to numbers. Each function answers document 01's number, 0 where there is none. Raw, since a C program calls the
 // header's functions over these, which take a null pointer for an empty slice.
+#![tactic(auto)]
+
 ghost use Rattle.std.specs.Prelude.{◌≡◌, length};
 ghost use Rattle.sheet.specs.Check.{check_of, number_of, place_of, words_of, fluents_named};
 ghost use Rattle.sheet.specs.Notes.{notes_of};

@@ -1,18 +1,23 @@
 // The processor time of this program.
 
-// A number that is not negative, 0 for one that is.
-fn unsigned(x: i64) -> u64 {
-    if x > 0 { x as u64 } else { 0 }
+use std::time::CpuClock;
+
+// A number that 64 bits hold, 0 for one that they do not.
+fn narrow(x: u128) -> u64 {
+    u64::try_from(x).unwrap_or(0)
 }
 
 // The processor time that this program has used, in microseconds; 0 where it cannot be told.
-pub fn microseconds() -> u64 {
-    unsigned(libc::clock())
+pub fn microseconds(rt: &impl CpuClock) -> u64 {
+    match rt.process_cpu_time() {
+        Ok(time) => narrow(time.as_micros()),
+        Err(_) => 0,
+    }
 }
 
 // What it has used since then.
-pub fn since(then: u64) -> u64 {
-    let now = microseconds();
+pub fn since(rt: &impl CpuClock, then: u64) -> u64 {
+    let now = microseconds(rt);
     if now < then { 0 } else { now - then }
 }
 

@@ -1,5 +1,7 @@
 // What document 02 asks to be measured: one thing done in two ways. Whether both give the same, and whether the one is as quick as asked, goes
 // to standard output and is compared with what is stored; the times go to standard error.
+#![tactic(auto)]
+
 mod clock;
 mod each_fluent;
 mod performing;
@@ -8,7 +10,9 @@ mod report;
 mod sheets;
 mod writing;
 
-fn main() {
-    performing::cases();
-    planning::cases();
+use std::io;
+
+fn main(rt: HostRuntime) -> io::Result<()> {
+    performing::cases(&rt)?;
+    planning::cases(&rt)
 }

@@ -10,6 +10,8 @@ ghost use Rattle.timed_cases.specs.Ranges.{InEffects};
 use crate::{clock, each_fluent, report, writing};
 use records::Action;
 use sheet::{Inspected, Inspection};
+use std::io;
+use std::time::CpuClock;
 
 // How often an action is performed in a round, and how many rounds there are.
 const TIMES: usize = 1000;
@@ -51,6 +53,7 @@ fn new_values(
 
 // Performs the action again and again, each time from the values that it gave.
 fn perform_often(
+    rt: &impl CpuClock,
     one_pass: bool,
     effects: &[u8],
     r: Action,
@@ -60,48 +63,44 @@ fn perform_often(
 ) -> Round
     requires { InEffects effects.now r n }
 {
-    let begin = clock::microseconds();
+    let begin = clock::microseconds(rt);
     let mut v = values;
-    let mut i = 0;
-    while i < TIMES {
+    for _ in 0..TIMES {
         let new = new_values(one_pass, effects, r, n, truths, v);
         v = new;
-        i += 1;
     }
     Round {
         values: v,
-        time: clock::since(begin),
+        time: clock::since(rt, begin),
     }
 }
 
 fn is_same(a: [u8; 32], b: [u8; 32]) -> bool {
-    let mut x = 0;
-    while x < 32 {
-        if a[x] != b[x] {
-            return false;
-        }
-        x += 1;
-    }
-    true
+    a == b
 }
 
 // Both ways in turn, round by round.
-fn measure(effects: &[u8], r: Action, n: usize, truths: &[bool], values: [u8; 32]) -> Times
+fn measure(
+    rt: &impl CpuClock,
+    effects: &[u8],
+    r: Action,
+    n: usize,
+    truths: &[bool],
+    values: [u8; 32],
+) -> Times
     requires { InEffects effects.now r n }
 {
     let mut one_pass = 0xffffffffffffffff;
     let mut each_fluent = 0xffffffffffffffff;
     let mut same = true;
-    let mut i = 0;
-    while i < ROUNDS {
-        let a = perform_often(true, effects, r, n, truths, values);
-        let b = perform_often(false, effects, r, n, truths, values);
+    for _ in 0..ROUNDS {
+        let a = perform_often(rt, true, effects, r, n, truths, values);
+        let b = perform_often(rt, false, effects, r, n, truths, values);
         one_pass = clock::least(one_pass, a.time);
         each_fluent = clock::least(each_fluent, b.time);
         let by_one_pass = a.values;
         let by_each_fluent = b.values;
         same = same & is_same(by_one_pass, by_each_fluent);
-        i += 1;
     }
     Times {
         one_pass,
@@ -111,36 +110,56 @@ fn measure(effects: &[u8], r: Action, n: usize, truths: &[bool], values: [u8; 32
 }
 
 // Writes whether one pass takes at most half as long. Times go to standard error.
-fn tell_times(t: Times) {
-    report::answer(b"  the same values in every round", t.same);
+fn tell_times(rt: &(impl Print + Eprint), t: Times) -> io::Result<()> {
+    report::answer(rt, "  the same values in every round", t.same)?;
     report::answer(
-        b"  one pass takes at most half as long",
+        rt,
+        "  one pass takes at most half as long",
         clock::at_most(t.one_pass, t.each_fluent / 2),
-    );
-    report::time(b"one pass, a thousand times", t.one_pass);
-    report::time(b"a pass for each fluent, a thousand times", t.each_fluent);
+    )?;
+    report::time(rt, "one pass, a thousand times", t.one_pass)?;
+    report::time(
+        rt,
+        "a pass for each fluent, a thousand times",
+        t.each_fluent,
+    )?;
     report::ratio(
-        b"one pass to a pass for each fluent",
+        rt,
+        "one pass to a pass for each fluent",
         t.one_pass,
         t.each_fluent,
-    );
+    )
 }
 
 // The range performed once in each way, and timed if asked.
-fn compare(effects: &[u8], r: Action, n: usize, truths: &[bool], values: [u8; 32], timed: bool)
+fn compare(
+    rt: &(impl Print + Eprint + CpuClock),
+    effects: &[u8],
+    r: Action,
+    n: usize,
+    truths: &[bool],
+    values: [u8; 32],
+    timed: bool,
+) -> io::Result<()>
     requires { InEffects effects.now r n }
 {
     let a = new_values(true, effects, r, n, truths, values);
     let b = new_values(false, effects, r, n, truths, values);
-    report::values(n, &a);
-    report::answer(b"  the same values in both ways", is_same(a, b));
+    report::values(rt, n, &a)?;
+    report::answer(rt, "  the same values in both ways", is_same(a, b))?;
     if timed {
-        tell_times(measure(effects, r, n, truths, values));
+        tell_times(rt, measure(rt, effects, r, n, truths, values))?;
     }
+    Ok(())
 }
 
 // The first action of an accepted sheet, from the initial values.
-fn perform_first(s: &[u8], found: Inspection, timed: bool)
+fn perform_first(
+    rt: &(impl Print + Eprint + CpuClock),
+    s: &[u8],
+    found: Inspection,
+    timed: bool,
+) -> io::Result<()>
     requires { Of s.now found }
 {
     let l = found.layout;
@@ -149,30 +168,34 @@ fn perform_first(s: &[u8], found: Inspection, timed: bool)
     let actions = l.actions;
     let programs = l.programs;
     if l.a == 0 {
-        report::text(b"no action\n");
-        return;
+        return report::text(rt, "no action\n");
     }
     let st = engine::initial_of(s, found);
     let mut truths = [false; sheet::MOST_FORMULAS];
     state::fill_truths(&s[formulas..effects], l.q, st, &mut truths);
     let r = records::action_at(&s[actions..programs], 0);
     let values = st.values;
-    compare(&s[effects..actions], r, l.f, &truths, values, timed);
+    compare(rt, &s[effects..actions], r, l.f, &truths, values, timed)
 }
 
-fn case(title: &[u8], from: usize, timed: bool) {
-    report::text(title);
+fn case(
+    rt: &(impl Print + Eprint + CpuClock),
+    title: &str,
+    from: usize,
+    timed: bool,
+) -> io::Result<()> {
+    report::text(rt, title)?;
     let mut s = [0u8; writing::BYTES];
     writing::write(&mut s, from);
     match sheet::inspect(&s) {
-        Inspected::Accepted { found } => perform_first(&s, found, timed),
-        Inspected::Refused { why: _ } => report::text(b"refused\n"),
+        Inspected::Accepted { found } => perform_first(rt, &s, found, timed),
+        Inspected::Refused { why: _ } => report::text(rt, "refused\n"),
     }
 }
 
-pub fn cases() {
-    case(b"512 effects on 32 fluents, none holds\n", 512, true);
-    case(b"the last 212 hold\n", 300, false);
-    case(b"the last 20 hold\n", 492, false);
-    case(b"all hold\n", 0, false);
+pub fn cases(rt: &(impl Print + Eprint + CpuClock)) -> io::Result<()> {
+    case(rt, "512 effects on 32 fluents, none holds\n", 512, true)?;
+    case(rt, "the last 212 hold\n", 300, false)?;
+    case(rt, "the last 20 hold\n", 492, false)?;
+    case(rt, "all hold\n", 0, false)
 }

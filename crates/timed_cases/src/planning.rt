@@ -3,6 +3,8 @@ ghost use Rattle.std.specs.Prelude.{◌≤◌};
 
 use crate::{clock, report, sheets};
 use planner::Planned;
+use std::io;
+use std::time::CpuClock;
 
 // The bound of the request's case, and one at which planning ends soon without an index too.
 const FAR: u8 = 40;
@@ -63,23 +65,16 @@ fn answer_of(p: Planned) -> Answer {
 }
 
 fn is_zero(index: &[u32]) -> bool {
-    let mut i = 0;
-    while i < index.len() {
-        if index[i] != 0 {
-            return false;
-        }
-        i += 1;
-    }
-    true
+    index.iter().all(|word| *word == 0)
 }
 
 // Plans with this index.
-fn plan_with(s: &[u8], index: &mut [u32]) -> Run {
+fn plan_with(rt: &impl CpuClock, s: &[u8], index: &mut [u32]) -> Run {
     let mut work = [BEFORE as u32; WORDS];
     let mut trace = [BEFORE; ENTRIES];
-    let begin = clock::microseconds();
+    let begin = clock::microseconds(rt);
     let planned = planner::plan(s, &mut work, &mut trace, index);
-    let time = clock::since(begin);
+    let time = clock::since(rt, begin);
     Run {
         answer: answer_of(planned),
         trace,
@@ -89,11 +84,11 @@ fn plan_with(s: &[u8], index: &mut [u32]) -> Run {
 }
 
 // Plans with so many words of index.
-fn plan(s: &[u8], words: usize) -> Run
+fn plan(rt: &impl CpuClock, s: &[u8], words: usize) -> Run
     requires { words ≤ 4096 }
 {
     let mut index = [BEFORE as u32; INDEX];
-    plan_with(s, &mut index[..words])
+    plan_with(rt, s, &mut index[..words])
 }
 
 fn is_same(a: Answer, b: Answer) -> bool {
@@ -101,57 +96,55 @@ fn is_same(a: Answer, b: Answer) -> bool {
 }
 
 fn is_same_trace(a: [u16; ENTRIES], b: [u16; ENTRIES]) -> bool {
-    let mut i = 0;
-    while i < ENTRIES {
-        if a[i] != b[i] {
-            return false;
-        }
-        i += 1;
-    }
-    true
+    a == b
 }
 
-fn tell(a: Answer) {
+fn tell(rt: &impl Print, a: Answer) -> io::Result<()> {
     if a.found {
-        report::text(b"  found");
+        report::text(rt, "  found")?;
     } else {
-        report::text(b"  refused");
+        report::text(rt, "  refused")?;
     }
-    report::number(a.first as u64);
-    report::number(a.second as u64);
-    report::text(b"\n");
+    report::number(rt, a.first as u64)?;
+    report::number(rt, a.second as u64)?;
+    report::text(rt, "\n")
 }
 
-fn title(bound: u8) {
-    report::text(b"a star of a choice between two like actions, then a test that never holds, D");
-    report::number(bound as u64);
-    report::text(b"\n");
+fn title(rt: &impl Print, bound: u8) -> io::Result<()> {
+    report::text(
+        rt,
+        "a star of a choice between two like actions, then a test that never holds, D",
+    )?;
+    report::number(rt, bound as u64)?;
+    report::text(rt, "\n")
 }
 
 // The request's case.
-fn far() {
-    title(FAR);
+fn far(rt: &(impl Print + Eprint + CpuClock)) -> io::Result<()> {
+    title(rt, FAR)?;
     let s = sheets::star(FAR);
-    let r = plan(&s, INDEX);
-    tell(r.answer);
-    report::answer(b"  within ten seconds", clock::at_most(r.time, TEN_SECONDS));
-    report::answer(b"  index 0", r.cleared);
-    report::time(b"the request's case, 4,096 words of index", r.time);
+    let r = plan(rt, &s, INDEX);
+    tell(rt, r.answer)?;
+    report::answer(
+        rt,
+        "  within ten seconds",
+        clock::at_most(r.time, TEN_SECONDS),
+    )?;
+    report::answer(rt, "  index 0", r.cleared)?;
+    report::time(rt, "the request's case, 4,096 words of index", r.time)
 }
 
 // With the whole index and without one in turn, round by round.
-fn measure(s: &[u8], expected: Answer) -> Times {
+fn measure(rt: &impl CpuClock, s: &[u8], expected: Answer) -> Times {
     let mut with_index = 0xffffffffffffffff;
     let mut without = 0xffffffffffffffff;
     let mut same = true;
-    let mut i = 0;
-    while i < ROUNDS {
-        let a = plan(s, INDEX);
-        let b = plan(s, 0);
+    for _ in 0..ROUNDS {
+        let a = plan(rt, s, INDEX);
+        let b = plan(rt, s, 0);
         with_index = clock::least(with_index, a.time);
         without = clock::least(without, b.time);
         same = same & is_same(a.answer, expected) & is_same(b.answer, expected);
-        i += 1;
     }
     Times {
         with_index,
@@ -161,21 +154,22 @@ fn measure(s: &[u8], expected: Answer) -> Times {
 }
 
 // What an index saves.
-fn near() {
-    title(NEAR);
+fn near(rt: &(impl Print + Eprint + CpuClock)) -> io::Result<()> {
+    title(rt, NEAR)?;
     let s = sheets::star(NEAR);
-    let r = plan(&s, 0);
+    let r = plan(rt, &s, 0);
     let expected = r.answer;
-    tell(expected);
-    let t = measure(&s, expected);
-    report::answer(b"  the same answer in every round", t.same);
+    tell(rt, expected)?;
+    let t = measure(rt, &s, expected);
+    report::answer(rt, "  the same answer in every round", t.same)?;
     report::answer(
-        b"  with 4,096 words at most half as long as with none",
+        rt,
+        "  with 4,096 words at most half as long as with none",
         clock::at_most(t.with_index, t.without / 2),
-    );
-    report::time(b"4,096 words of index", t.with_index);
-    report::time(b"no index", t.without);
-    report::ratio(b"4,096 words of index to none", t.with_index, t.without);
+    )?;
+    report::time(rt, "4,096 words of index", t.with_index)?;
+    report::time(rt, "no index", t.without)?;
+    report::ratio(rt, "4,096 words of index to none", t.with_index, t.without)
 }
 
 // The lengths of index that are compared with 0.
@@ -194,36 +188,37 @@ fn length_at(i: usize) -> usize
 const LENGTHS: usize = 5;
 
 // Whether planning with each length of index is as without one, and leaves it 0.
-fn agrees(s: &[u8], expected: Run) -> bool {
+fn agrees(rt: &impl CpuClock, s: &[u8], expected: Run) -> bool {
     let answer = expected.answer;
     let trace = expected.trace;
     let mut same = true;
-    let mut i = 0;
-    while i < LENGTHS {
-        let r = plan(s, length_at(i));
+    for i in 0..LENGTHS {
+        let r = plan(rt, s, length_at(i));
         let entries = r.trace;
         same = same & is_same(r.answer, answer) & is_same_trace(entries, trace) & r.cleared;
-        i += 1;
     }
     same
 }
 
 // A sheet with a plan.
-fn lengths() {
-    report::text(b"two fluents exchange their values, 0, 1, 15, 16, 40 and 4,096 words of index\n");
+fn lengths(rt: &(impl Print + CpuClock)) -> io::Result<()> {
+    report::text(
+        rt,
+        "two fluents exchange their values, 0, 1, 15, 16, 40 and 4,096 words of index\n",
+    )?;
     let s = sheets::exchange();
-    let r = plan(&s, 0);
+    let r = plan(rt, &s, 0);
     let answer = r.answer;
     let trace = r.trace;
-    tell(answer);
+    tell(rt, answer)?;
     if answer.found {
-        report::entries(answer.first, &trace);
+        report::entries(rt, answer.first, &trace)?;
     }
-    report::answer(b"  the same at every length, index 0", agrees(&s, r));
+    report::answer(rt, "  the same at every length, index 0", agrees(rt, &s, r))
 }
 
-pub fn cases() {
-    far();
-    near();
-    lengths();
+pub fn cases(rt: &(impl Print + Eprint + CpuClock)) -> io::Result<()> {
+    far(rt)?;
+    near(rt)?;
+    lengths(rt)
 }

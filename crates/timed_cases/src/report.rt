@@ -1,29 +1,26 @@
 // What is written: answers to standard output, times to standard error.
 
-const OUT: i32 = 1;
-
-const ERR: i32 = 2;
+use std::io;
 
 // The most microseconds of which a ratio is told.
 const MOST: u64 = 1000000000000;
 
-pub fn text(label: &[u8]) {
-    io::write_all(OUT, label);
+pub fn text(rt: &impl Print, label: &str) -> io::Result<()> {
+    rt.print(label)
 }
 
 // A line's question and its answer.
-pub fn answer(question: &[u8], yes: bool) {
-    text(question);
+pub fn answer(rt: &impl Print, question: &str, yes: bool) -> io::Result<()> {
+    text(rt, question)?;
     if yes {
-        text(b": yes\n");
+        text(rt, ": yes\n")
     } else {
-        text(b": no\n");
+        text(rt, ": no\n")
     }
 }
 
-pub fn number(x: u64) {
-    text(b" ");
-    io::print_decimal(OUT, x);
+pub fn number(rt: &impl Print, x: u64) -> io::Result<()> {
+    print!(rt; " {x}")
 }
 
 fn wide(x: u8) -> u64 {
@@ -31,17 +28,12 @@ fn wide(x: u8) -> u64 {
 }
 
 // The first n values, all where there are not so many.
-pub fn values(n: usize, v: &[u8]) {
-    text(b"  values");
-    let mut x = 0;
-    while x < n {
-        if x >= v.len() {
-            break;
-        }
-        number(wide(v[x]));
-        x += 1;
+pub fn values(rt: &impl Print, n: usize, v: &[u8]) -> io::Result<()> {
+    text(rt, "  values")?;
+    for x in v.iter().take(n) {
+        number(rt, wide(*x))?;
     }
-    text(b"\n");
+    text(rt, "\n")
 }
 
 fn wide_entry(x: u16) -> u64 {
@@ -49,37 +41,27 @@ fn wide_entry(x: u16) -> u64 {
 }
 
 // The first n entries, all where there are not so many.
-pub fn entries(n: usize, trace: &[u16]) {
-    text(b"  entries");
-    let mut i = 0;
-    while i < n {
-        if i >= trace.len() {
-            break;
-        }
-        number(wide_entry(trace[i]));
-        i += 1;
+pub fn entries(rt: &impl Print, n: usize, trace: &[u16]) -> io::Result<()> {
+    text(rt, "  entries")?;
+    for x in trace.iter().take(n) {
+        number(rt, wide_entry(*x))?;
     }
-    text(b"\n");
+    text(rt, "\n")
 }
 
 // A time and what it is of.
-pub fn time(label: &[u8], microseconds: u64) {
-    io::write_all(ERR, label);
-    io::write_all(ERR, b": ");
-    io::print_decimal(ERR, microseconds);
-    io::write_all(ERR, b" us\n");
+pub fn time(rt: &impl Eprint, label: &str, microseconds: u64) -> io::Result<()> {
+    eprintln!(rt; "{label}: {microseconds} us")
 }
 
 // The one time in thousandths of the other, told only of times that are far from overflowing.
-pub fn ratio(label: &[u8], one: u64, other: u64) {
+pub fn ratio(rt: &impl Eprint, label: &str, one: u64, other: u64) -> io::Result<()> {
     if other == 0 {
-        return;
+        return Ok(());
     }
     if one > MOST {
-        return;
+        return Ok(());
     }
-    io::write_all(ERR, label);
-    io::write_all(ERR, b": ");
-    io::print_decimal(ERR, 1000 * one / other);
-    io::write_all(ERR, b" thousandths\n");
+    let thousandths = 1000 * one / other;
+    eprintln!(rt; "{label}: {thousandths} thousandths")
 }

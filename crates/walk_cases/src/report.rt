@@ -1,84 +1,80 @@
 // What is written of a configuration and of a transition.
 use engine::Findings;
 use golog::State;
+use std::io;
 
-pub fn text(label: &[u8]) {
-    io::write_all(1, label);
+pub fn text(rt: &impl Print, label: &str) -> io::Result<()> {
+    rt.print(label)
 }
 
 // A number with a blank before it.
-fn number(n: u64) {
-    text(b" ");
-    io::print_decimal(1, n);
+fn number(rt: &impl Print, n: u64) -> io::Result<()> {
+    print!(rt; " {n}")
 }
 
-fn yes_or_no(b: bool) {
-    if b {
-        text(b" yes");
-    } else {
-        text(b" no");
-    }
+fn yes_or_no(rt: &impl Print, b: bool) -> io::Result<()> {
+    if b { text(rt, " yes") } else { text(rt, " no") }
 }
 
 // The depth, the two fluents' values, whether interrupts run, whether the configuration is final, whether a transition may lead to a final
 // one, and how many transitions there are.
-pub fn configuration(d: usize, st: State, x: Findings) {
+pub fn configuration(rt: &impl Print, d: usize, st: State, x: Findings) -> io::Result<()> {
     let values = st.values;
     let first = x.first;
-    text(b"  depth");
-    number(d as u64);
-    text(b": values");
-    number(values[0] as u64);
-    number(values[1] as u64);
-    text(b", running");
-    yes_or_no(st.running);
-    text(b", final");
-    yes_or_no(x.done);
-    text(b", soon");
-    number(x.soon as u64);
-    text(b", transitions");
-    number(first.end as u64);
-    text(b", rest");
+    text(rt, "  depth")?;
+    number(rt, d as u64)?;
+    text(rt, ": values")?;
+    number(rt, values[0] as u64)?;
+    number(rt, values[1] as u64)?;
+    text(rt, ", running")?;
+    yes_or_no(rt, st.running)?;
+    text(rt, ", final")?;
+    yes_or_no(rt, x.done)?;
+    text(rt, ", soon")?;
+    number(rt, x.soon as u64)?;
+    text(rt, ", transitions")?;
+    number(rt, first.end as u64)?;
+    text(rt, ", rest")
 }
 
 // A node of the remaining program, by its tag and the number of its record.
-fn node(tag: u32, record: usize) {
+fn node(rt: &impl Print, tag: u32, record: usize) -> io::Result<()> {
     match tag {
-        0 => text(b" nil"),
+        0 => text(rt, " nil"),
         1 => {
-            text(b" record");
-            number(record as u64);
+            text(rt, " record")?;
+            number(rt, record as u64)
         }
-        3 => text(b" sequence"),
-        8 => text(b" together"),
-        9 => text(b" over"),
-        _ => text(b" ?"),
+        3 => text(rt, " sequence"),
+        8 => text(rt, " together"),
+        9 => text(rt, " over"),
+        _ => text(rt, " ?"),
     }
 }
 
 // So many nodes from `at` on, each construct before its parts.
-pub fn nodes(work: &[u32], at: usize, n: usize) {
+pub fn nodes(rt: &impl Print, work: &[u32], at: usize, n: usize) -> io::Result<()> {
     let mut i = at;
     let mut left = n;
     while left > 0 {
         if work.len() < 3 {
-            return;
+            return Ok(());
         }
         if work.len() - 3 < i {
-            return;
+            return Ok(());
         }
-        node(words::tag_at(work, i), words::record_at(work, i));
+        node(rt, words::tag_at(work, i), words::record_at(work, i))?;
         i += 3;
         left -= 1;
     }
-    text(b"\n");
+    text(rt, "\n")
 }
 
 // A transition taken: which one, and its entry.
-pub fn transition(k: usize, entry: u32) {
-    text(b"    transition");
-    number(k as u64);
-    text(b", entry");
-    number(entry as u64);
-    text(b"\n");
+pub fn transition(rt: &impl Print, k: usize, entry: u32) -> io::Result<()> {
+    text(rt, "    transition")?;
+    number(rt, k as u64)?;
+    text(rt, ", entry")?;
+    number(rt, entry as u64)?;
+    text(rt, "\n")
 }

@@ -1,5 +1,5 @@
 // A walk through the configurations of a sheet, one transition after another, by the functions of the engine that strategies use.
-ghost use Rattle.std.specs.Prelude.{◌≡◌, true, ℕ, ◌+◌, length};
+ghost use Rattle.std.specs.Prelude.{◌≡◌, true, ℕ, ◌+◌, length, IfOk};
 ghost use Rattle.golog.specs.Prog.{Prog};
 ghost use Rattle.demands.specs.Decoded.{bound_of};
 ghost use Rattle.engine.specs.Tables.{Prepared, Surveyed};
@@ -11,6 +11,7 @@ use crate::report;
 use engine::{Cursor, Taken};
 use golog::State;
 use sheet::{Inspected, Inspection};
+use std::io;
 
 fn wide(x: u8) -> usize {
     x as usize
@@ -26,6 +27,7 @@ fn choice(choices: &[u8], d: usize) -> usize {
 
 // Surveys and writes the configuration of frame d and the state: its first cursor.
 fn tell(
+    rt: &impl Print,
     flags: &mut [bool],
     numbers: &mut [u32],
     work: &[u32],
@@ -33,18 +35,18 @@ fn tell(
     found: Inspection,
     st: State,
     d: usize,
-) -> Cursor
+) -> io::Result<Cursor>
     requires of { Of s.now found × Prepared s.now flags.old numbers.old }
     requires by_index { (left : ℕ) × (p : Prog) × Frame s.now left work.now d p }
-    ensures answer { (left : ℕ) (p : Prog) → Frame s.now left work.now d p
-        → Ahead s.now (p, st) result (transitions_of s.now (p, st)) }
+    ensures answer { IfOk result (λ k. (left : ℕ) (p : Prog) → Frame s.now left work.now d p
+        → Ahead s.now (p, st) k (transitions_of s.now (p, st))) }
     ensures tables { Surveyed s.now st d flags.new numbers.new }
 {
     let f = engine::survey(flags, numbers, work, s, found, st, d);
-    report::configuration(d, st, f);
+    report::configuration(rt, d, st, f)?;
     let from = d * found.frame + height::HEADER;
-    report::nodes(work, from, words::size_at(work, from));
-    f.first
+    report::nodes(rt, work, from, words::size_at(work, from))?;
+    Ok(f.first)
 }
 
 // Makes the transitions from a cursor on, past n of them, each into the frame after frame d: the last one made, if there are so many.
@@ -79,6 +81,7 @@ fn make(
 
 // Walks on from the configuration of frame 0 and the state, while transitions are left and there is the one chosen.
 fn walk(
+    rt: &impl Print,
     work: &mut [u32],
     flags: &mut [bool],
     numbers: &mut [u32],
@@ -86,7 +89,7 @@ fn walk(
     choices: &[u8],
     found: Inspection,
     first: State,
-)
+) -> io::Result<()>
     requires of { Of s.now found × Prepared s.now flags.old numbers.old }
     requires frame { (p : Prog) × Frame s.now (bound_of s.now) work.old 0 p }
 {
@@ -94,21 +97,28 @@ fn walk(
     let mut st = first;
     let mut d = 0;
     while d < l.d {
-        let k = tell(flags, numbers, work, s, found, st, d);
+        let k = tell(rt, flags, numbers, work, s, found, st, d)?;
         let n = choice(choices, d);
         let x = make(work, flags, numbers, s, found, st, d, k, n);
         if !x.made {
-            return;
+            return Ok(());
         }
-        report::transition(n, x.entry);
+        report::transition(rt, n, x.entry)?;
         st = x.state;
         d += 1;
     }
-    tell(flags, numbers, work, s, found, st, d);
+    tell(rt, flags, numbers, work, s, found, st, d)?;
+    Ok(())
 }
 
 // Walks from the first configuration of a sheet of which so much was found.
-fn walk_from(work: &mut [u32], s: &[u8], found: Inspection, choices: &[u8])
+fn walk_from(
+    rt: &impl Print,
+    work: &mut [u32],
+    s: &[u8],
+    found: Inspection,
+    choices: &[u8],
+) -> io::Result<()>
     requires { Of s.now found × (length work.old ≡ found.words) }
 {
     let mut flags = [false; engine::FLAGS];
@@ -116,26 +126,31 @@ fn walk_from(work: &mut [u32], s: &[u8], found: Inspection, choices: &[u8])
     engine::prepare(&mut flags, &mut numbers, s, found);
     engine::put_first(work, s, found);
     let st = engine::initial_of(s, found);
-    walk(work, &mut flags, &mut numbers, s, choices, found, st);
+    walk(rt, work, &mut flags, &mut numbers, s, choices, found, st)
 }
 
 // The same, if so many words can be lent.
-fn walk_lent(work: &mut [u32], s: &[u8], found: Inspection, choices: &[u8])
+fn walk_lent(
+    rt: &impl Print,
+    work: &mut [u32],
+    s: &[u8],
+    found: Inspection,
+    choices: &[u8],
+) -> io::Result<()>
     requires { Of s.now found }
 {
     let words = found.words;
     if work.len() < words {
-        report::text(b"too large\n");
-        return;
+        return report::text(rt, "too large\n");
     }
-    walk_from(&mut work[..words], s, found, choices);
+    walk_from(rt, &mut work[..words], s, found, choices)
 }
 
 // Walks a sheet, if it is accepted and not too large.
-pub fn walk_sheet(s: &[u8], choices: &[u8]) {
+pub fn walk_sheet(rt: &impl Print, s: &[u8], choices: &[u8]) -> io::Result<()> {
     let mut work = [0u32; 1024];
     match sheet::inspect(s) {
-        Inspected::Accepted { found } => walk_lent(&mut work, s, found, choices),
-        Inspected::Refused { why: _ } => report::text(b"refused\n"),
+        Inspected::Accepted { found } => walk_lent(rt, &mut work, s, found, choices),
+        Inspected::Refused { why: _ } => report::text(rt, "refused\n"),
     }
 }

@@ -37,22 +37,12 @@ returns-clause-answer c =
 
 pub returns-clause-tables : goal.returns-clause-tables
 returns-clause-tables c =
-    let O = c.requires.of.0 in
-    let P = c.requires.of.1 in
-    let d = c.args.d in
-    let x = c.flags_from-from.result in
     let J = c.judge.ensures.tables in
-    let flags = c.judge.new.flags in
-    let n = c.judge.auto.flags in
-    let e = window_at (x + 512) (finals_from d) (x + 512 + 260) 260 flags (omega (arith, c.flags_from-from.ensures.0)) (omega arith) in J.prepared
+    J.prepared
 
 pub returns-clause-written : goal.returns-clause-written
 returns-clause-written c =
-    let O = c.requires.of.0 in
     let P = c.requires.of.1 in
     let d = c.args.d in
-    let x = c.flags_from-from.result in
-    let J = c.judge.ensures.tables in
-    let flags = c.judge.new.flags in
     let n = c.judge.auto.flags in
-    let e = window_at (x + 512) (finals_from d) (x + 512 + 260) 260 flags (omega (arith, c.flags_from-from.ensures.0)) (omega arith) in filled d P.flags_long P.numbers_long c.judge.ensures.written n (only_same _) refl
+    filled d P.flags_long P.numbers_long c.judge.ensures.written n (only_same _) refl

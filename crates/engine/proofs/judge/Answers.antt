@@ -37,9 +37,6 @@ pub fill_truths-requires-clause-lower_formulas : goal.fill_truths-requires-claus
 fill_truths-requires-clause-lower_formulas c =
     let O = c.requires.0 in
     let s = c.args.s.now in
-    let f = in_sheet O in
-    let x = c.flags_from-from.result in
-    let T = window_at x (truths_from c.args.d) (x + 512) 512 c.args.flags.now c.flags_from-from.ensures.0 (omega arith) in
     let low = subst (λ (l : Layout). LowerFormulas (formulas_in s l) l.q) (sym O.layout_is) (lower_formulas s O.accepted) in
     (low, formulas_plain O)
 
@@ -74,16 +71,6 @@ mark_finals-requires-clause-program_table c =
 pub mark_finals-requires-clause-all_lower : goal.mark_finals-requires-clause-all_lower
 mark_finals-requires-clause-all_lower c =
     let O = c.requires.0 in
-    let P = c.requires.1 in
-    let r = programs_long _ _ (in_sheet O) in
-    let flags = c.args.flags.now in
-    let x = c.flags_from-from.result in
-    let fits : x + 772 ≤ length flags = omega (arith, c.flags_from-from.ensures.1, P.flags_long) in
-    let said = c.fill_truths.new.truths in
-    let long : length said ≡ 512 = c.fill_truths.auto.truths ∙ window_at_long x (x + 512) 512 flags (omega arith) (omega arith) in
-    let first = only_put x (x + 512) 512 flags said (omega arith) (omega arith) long in
-    let finals = c.settle.ensures.finals ∙ endable_kept (omega (arith, c.flags_from-from.ensures.0)) first in
-    let n = c.settle.auto.flags ∙ same_len_mid x (x + 512 - x) flags said c.fill_truths.auto.truths in
     (runs_lower O, runs_plain O)
 
 pub mark_finals-requires-clause-skips : goal.mark_finals-requires-clause-skips
@@ -98,7 +85,6 @@ mark_finals-requires-clause-skips c =
     let long : length said ≡ 512 = c.fill_truths.auto.truths ∙ window_at_long x (x + 512) 512 flags (omega arith) (omega arith) in
     let first = only_put x (x + 512) 512 flags said (omega arith) (omega arith) long in
     let finals = c.settle.ensures.finals ∙ endable_kept (omega (arith, c.flags_from-from.ensures.0)) first in
-    let n = c.settle.auto.flags ∙ same_len_mid x (x + 512 - x) flags said c.fill_truths.auto.truths in
     skips_by O P _ _ finals refl
 
 pub returns-clause-tables : goal.returns-clause-tables
@@ -160,8 +146,4 @@ returns-clause-written c =
     let K : Only (truths_from d) 772 flags flags₃ =
     subst (λ (o : ℕ). Only o 772 flags flags₃) ex
     (only_then (only_in (omega arith) (omega arith) K₁) (only_then (only_in (omega arith) (omega arith) S.written) (only_in (omega arith) (omega arith) M.written))) in
-    let finals : (l : List Bool) → window (x + 512) 260 l ≡ finals_at d l = λ l. let e : x + 512 ≡ finals_from d = omega arith in ap (λ (o : ℕ). window o 260 l) e in
-    let truths : (l : List Bool) → window x 512 l ≡ truths_at d l = λ l. ap (λ (o : ℕ). window o 512 l) ex in
-    let same = window_before M.written n₃ x 512 (omega arith) (omega (arith, n₁, n₂)) ∙ window_before S.written n₂ x 512 (omega arith) (omega (arith, n₁)) in
-    let told = sym (truths flags₃) ∙ same ∙ window_put x (x + 512) 512 flags said (omega arith) (omega arith) long ∙ c.fill_truths.ensures in
-    let before : endable_in flags₁ ≡ endable_in flags = endable_kept (omega arith) K₁ in K
+    K

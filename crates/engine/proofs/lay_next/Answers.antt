@@ -35,12 +35,7 @@ overflow_add-at-2 c =
 pub step_rest-requires-clause-program_table : goal.step_rest-requires-clause-program_table
 step_rest-requires-clause-program_table c =
     let O = c.requires.0 in
-    let d = c.args.d in
-    let x = c.flags_from-from.result in
-    let y = c.counts_from-first.result in
-    let ex = c.flags_from-from.ensures.0 in
-    let flags = c.args.flags.now in
-    let numbers = c.args.numbers.now in programs_long _ _ (in_sheet O)
+    programs_long _ _ (in_sheet O)
 
 pub step_rest-requires-clause-can_step : goal.step_rest-requires-clause-can_step
 step_rest-requires-clause-can_step c =

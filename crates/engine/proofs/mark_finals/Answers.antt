@@ -69,17 +69,9 @@ returns-clause-finals c =
 pub returns-clause-written : goal.returns-clause-written
 returns-clause-written c =
     let v = c.loop-i.invariant in
-    let at = c.args.from in
-    let same = window_before v.2 v.1 at 512 (omega arith) (omega arith) in
-    let D : FinalsKnown _ _ (window at 512 c.args.flags.now) _ (window (at + 512) 260 c.loop-i.flags) =
-    λ W s can S i h. (v.4 W s can S).right i (omega (arith, c.places_of-size.ensures.0)) h in
     v.2
 
 pub returns-clause-behind : goal.returns-clause-behind
 returns-clause-behind c =
     let v = c.loop-i.invariant in
-    let at = c.args.from in
-    let same = window_before v.2 v.1 at 512 (omega arith) (omega arith) in
-    let D : FinalsKnown _ _ (window at 512 c.args.flags.now) _ (window (at + 512) 260 c.loop-i.flags) =
-    λ W s can S i h. (v.4 W s can S).right i (omega (arith, c.places_of-size.ensures.0)) h in
     v.3

@@ -34,8 +34,7 @@ state_after-state-requires-clause-of c =
 pub state_after-state-requires-clause-known : goal.state_after-state-requires-clause-known
 state_after-state-requires-clause-known c =
     let P = c.requires in
-    let x = c.flags_from-from.result in
-    let T = window_at x (truths_from c.args.d) (x + 512) 512 c.args.flags.now c.flags_from-from.ensures.0 (omega arith) in made_known P.0.accepted c.lay_next-turn.ensures P.2 c.in-Made.is
+    made_known P.0.accepted c.lay_next-turn.ensures P.2 c.in-Made.is
 
 pub returns : goal.returns
 returns c =

@@ -29,10 +29,5 @@ returns-clause-frame c =
 
 pub returns-clause-places : goal.returns-clause-places
 returns-clause-places c =
-    let O = c.requires.0 in
     let N = c.put_node.ensures in
-    let w = c.put_node.new.work in
-    let long = work_long c.args.s.now c.args.work.now (c.requires.1 ∙ c.requires.0.words_are) in
-    let i = c.top_of.ensures.0 ∙ ap₂ (λ (b : Bool) (l : Layout). top b l.p) O.interrupts_are O.layout_is in
-    let a = put_leaf 64 c.top_of.result c.args.work.now w N (omega arith) in
     N.len

@@ -32,8 +32,6 @@ shape_of-flags c = c.loop-i.invariant.1
 pub returns-clause-written : goal.returns-clause-written
 returns-clause-written c =
     let I = c.loop-i.invariant in
-    let to = c.args.to in
-    let n = length-take-le 260 c.args.flags.now (omega arith) in
     I.2
 
 pub returns-clause-finals : goal.returns-clause-finals

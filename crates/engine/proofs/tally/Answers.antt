@@ -67,8 +67,7 @@ tallies-requires-clause-tallyable c =
     let e = c.flags_from-from.ensures.0 in
     let T = window_at x (truths_from d) (x + 512) 512 flags e (omega arith) in
     let F = window_at (x + 512) (finals_from d) (x + 512 + 260) 260 flags (omega (arith, e)) (omega arith) in
-    let N = window_at y (counts_from d) (y + 260) 260 numbers c.counts_from-first.ensures.0 (omega arith) in
-    let r = programs_long _ _ (in_sheet O) in subst₂ (λ (t f : List Bool). Tallyable (runs s l b) (many l b) (actions_in s l) t c.args.st.running f) (sym T) (sym F) (tallyable O J)
+    subst₂ (λ (t f : List Bool). Tallyable (runs s l b) (many l b) (actions_in s l) t c.args.st.running f) (sym T) (sym F) (tallyable O J)
 
 pub returns-clause-tables : goal.returns-clause-tables
 returns-clause-tables c =
@@ -117,6 +116,4 @@ returns-clause-written c =
     let fits : y + 260 ≤ length numbers = omega (arith, c.counts_from-first.ensures.1, J.prepared.numbers_long) in
     let new = put_mid y (y + 260 - y) numbers counts in
     let K : Only (counts_from d) 260 numbers new = subst (λ (o : ℕ). Only o 260 numbers new) ey (only_put y (y + 260) 260 numbers counts (omega arith) fits long) in
-    let e : counts_at d new ≡ counts = subst (λ (o : ℕ). window o 260 new ≡ counts) ey (window_put y (y + 260) 260 numbers counts (omega arith) fits long) in
-    let conflicted = c.conflicted_at-conflicted.result in
-    let told = subst₂ (λ (t : List Bool) (k : List ℕ). Tallied (runs s l b) (many l b) (actions_in s l) t conflicted st.running k counts) T N c.tallies.ensures.counts in K
+    K

@@ -20,6 +20,4 @@ returns-clause-serves c =
 
 pub returns-clause-more : goal.returns-clause-more
 returns-clause-more c =
-    let a = c.args in
-    let told = eqb a.label 0 || eqb (round_of a.value) a.round in
     refl

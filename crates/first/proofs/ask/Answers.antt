@@ -24,13 +24,11 @@ returns-in-Found-clause-answer c =
 
 pub returns-in-Found-clause-stands : goal.returns-in-Found-clause-stands
 returns-in-Found-clause-stands c =
-    let a = c.args in
-    let p = c.requires in c.explore-o.ensures.stands
+    c.explore-o.ensures.stands
 
 pub returns-in-Found-clause-index : goal.returns-in-Found-clause-index
 returns-in-Found-clause-index c =
-    let a = c.args in
-    let p = c.requires in c.explore-o.ensures.index
+    c.explore-o.ensures.index
 
 pub returns-in-Nothing-clause-answer : goal.returns-in-Nothing-clause-answer
 returns-in-Nothing-clause-answer c =
@@ -42,18 +40,10 @@ returns-in-Nothing-clause-answer c =
 
 pub returns-in-Nothing-clause-stands : goal.returns-in-Nothing-clause-stands
 returns-in-Nothing-clause-stands c =
-    let a = c.args in
-    let p = c.requires in
-    let none = asked_no a.s.now a.t a.h a.i a.window p.3 (omega (arith, p.1, (laid _ p.0.of.accepted).d)) p.2 c.explore-o.ensures.answer
-    (ap is_found c.in-Nothing.is) in
     c.explore-o.ensures.stands
 
 pub returns-in-Nothing-clause-index : goal.returns-in-Nothing-clause-index
 returns-in-Nothing-clause-index c =
-    let a = c.args in
-    let p = c.requires in
-    let none = asked_no a.s.now a.t a.h a.i a.window p.3 (omega (arith, p.1, (laid _ p.0.of.accepted).d)) p.2 c.explore-o.ensures.answer
-    (ap is_found c.in-Nothing.is) in
     c.explore-o.ensures.index
 
 pub returns-in-More-clause-answer : goal.returns-in-More-clause-answer
@@ -66,16 +56,8 @@ returns-in-More-clause-answer c =
 
 pub returns-in-More-clause-stands : goal.returns-in-More-clause-stands
 returns-in-More-clause-stands c =
-    let a = c.args in
-    let p = c.requires in
-    let none = asked_no a.s.now a.t a.h a.i a.window p.3 (omega (arith, p.1, (laid _ p.0.of.accepted).d)) p.2 c.explore-o.ensures.answer
-    (ap is_found c.in-More.is) in
     c.explore-o.ensures.stands
 
 pub returns-in-More-clause-index : goal.returns-in-More-clause-index
 returns-in-More-clause-index c =
-    let a = c.args in
-    let p = c.requires in
-    let none = asked_no a.s.now a.t a.h a.i a.window p.3 (omega (arith, p.1, (laid _ p.0.of.accepted).d)) p.2 c.explore-o.ensures.answer
-    (ap is_found c.in-More.is) in
     c.explore-o.ensures.index

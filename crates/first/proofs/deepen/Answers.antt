@@ -40,7 +40,7 @@ lower-requires c =
     let B = c.loop-low.invariant.1 in
     let t = c.next_bound-t.result in
     let few = c.next_bound-t.ensures.1 in
-    let stops = sym c.is_more.ensures ∙ not-true _ (not_from_false _ c.if-not-is_more.true) in
+    let stops = sym c.is_more.ensures ∙ c.if-not-is_more.true in
     let out = tried_out B.tried t (omega (arith, few, B.bound)) ((let fact : Reported 0 0 c.loop-low.best c.explore-o.new.trace c.explore-o.result (verdict_from c.args.s.now c.next_bound-t.result (first_of c.args.s.now, unguided)) =
     any_asked c.args.s.now _ c.next_bound-t.result false c.any_run-a.ensures c.explore-o.ensures.answer in fact)) (omega (arith, few, B.room)) stops in
     (c.explore-o.ensures.stands, omega (arith, c.explore-o.auto.trace, B.bound, B.room), out, c.explore-o.ensures.index)
@@ -84,7 +84,7 @@ loop-low-preserved c =
     let B = c.loop-low.invariant.1 in
     let t = c.next_bound-t.result in
     let few = c.next_bound-t.ensures.1 in
-    let goes = sym c.is_more.ensures ∙ not-false _ (not_from_true _ c.if-not-is_more.false) in
+    let goes = sym c.is_more.ensures ∙ c.if-not-is_more.false in
     let on = tried_on B.tried t (omega (arith, few, B.bound)) ((let fact : Reported 0 0 c.loop-low.best c.explore-o.new.trace c.explore-o.result (verdict_from c.args.s.now c.next_bound-t.result (first_of c.args.s.now, unguided)) =
     any_asked c.args.s.now _ c.next_bound-t.result false c.any_run-a.ensures c.explore-o.ensures.answer in fact)) goes in
     let k = c.explore-o.auto in (
@@ -121,12 +121,8 @@ returns-clause-answer c =
 
 pub returns-clause-stands : goal.returns-clause-stands
 returns-clause-stands c =
-    let B = c.loop-low.invariant.1 in
-    let e : c.loop-low.low ≡ suc (bound_of c.args.s.now) = omega (arith, B.bound, B.inside, c.loop-low-test.false) in
     c.loop-low.invariant.0.standing
 
 pub returns-clause-index : goal.returns-clause-index
 returns-clause-index c =
-    let B = c.loop-low.invariant.1 in
-    let e : c.loop-low.low ≡ suc (bound_of c.args.s.now) = omega (arith, B.bound, B.inside, c.loop-low-test.false) in
     c.loop-low.invariant.0.lasting

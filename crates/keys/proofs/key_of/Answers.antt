@@ -62,7 +62,7 @@ pack-requires c =
 
 pub returns-clause-inside : goal.returns-clause-inside
 returns-clause-inside c =
-    let O = c.requires.0 in c.pack.ensures.inside
+    c.pack.ensures.inside
 
 pub returns-clause-keyed : goal.returns-clause-keyed
 returns-clause-keyed c =

@@ -42,5 +42,4 @@ returns-clause-counts c =
 pub returns-clause-places : goal.returns-clause-places
 returns-clause-places c =
     let v = c.loop-i.invariant in
-    let e = le_antisymm v.0 c.loop-i-test.false ∙ c.places_of-m.ensures.0 in
     v.1

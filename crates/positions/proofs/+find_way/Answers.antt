@@ -24,13 +24,11 @@ pub returns-then-not-enabled_in : goal.returns-then-not-enabled_in
 returns-then-not-enabled_in t c W s Q =
     let goes : c.args.w.goes ≡ true = not-false _ c.if-not-w.false in
     let can = c.requires.can_go goes in
-    finds_idle Q c.args.w goes can.look.inside can.look.small (sym c.enabled_in.ensures ∙ not-true _ (not_from_false _ c.if-not-enabled_in.true))
+    finds_idle Q c.args.w goes can.look.inside can.look.small (sym c.enabled_in.ensures ∙ c.if-not-enabled_in.true)
     ∙ sym (answer_none c.absent-then-not-enabled_in.result c.absent-then-not-enabled_in.ensures)
 
 pub ways-f-requires-clause-program_table : goal.ways-f-requires-clause-program_table
 ways-f-requires-clause-program_table t c =
-    let goes : c.args.w.goes ≡ true = not-false _ c.if-not-w.false in
-    let can = c.requires.can_go goes in
     c.requires.program_table
 
 pub ways-f-requires-clause-can_look : goal.ways-f-requires-clause-can_look
@@ -43,7 +41,7 @@ pub returns-then-has_own : goal.returns-then-has_own
 returns-then-has_own t c W s Q =
     let goes : c.args.w.goes ≡ true = not-false _ c.if-not-w.false in
     let can = c.requires.can_go goes in
-    finds_own Q c.args.w goes can.look.inside can.look.small (sym c.enabled_in.ensures ∙ not-false _ (not_from_true _ c.if-not-enabled_in.false))
+    finds_own Q c.args.w goes can.look.inside can.look.small (sym c.enabled_in.ensures ∙ c.if-not-enabled_in.false)
     (sym (ap (λ (r : Program). has_own r.kind) c.ways-f.ensures.record_is) ∙ sym c.has_own.ensures ∙ c.if-has_own.true)
 
 pub find_way-x-requires : goal.find_way-x-requires
@@ -66,7 +64,6 @@ further_on-requires t c h =
 pub returns-then-x : goal.returns-then-x
 returns-then-x t c W s Q =
     let goes : c.args.w.goes ≡ true = not-false _ c.if-not-w.false in
-    let can = c.requires.can_go goes in
     let other : has_own c.ways-f.result.r.kind ≡ false = sym c.has_own.ensures ∙ c.if-has_own.false in
     let F = c.ways-f.ensures.forked other in
     let there = answer_there c.find_way-x.result c.if-x.true in
@@ -93,7 +90,6 @@ further_on-requires-2 t c h =
 pub returns : goal.returns
 returns t c W s Q =
     let goes : c.args.w.goes ≡ true = not-false _ c.if-not-w.false in
-    let can = c.requires.can_go goes in
     let other : has_own c.ways-f.result.r.kind ≡ false = sym c.has_own.ensures ∙ c.if-has_own.false in
     let F = c.ways-f.ensures.forked other in
     finds_other Q c.args.w goes (F.forks W s Q) (c.find_way-x.ensures W s Q ∙ answer_none c.find_way-x.result c.if-x.false)

@@ -23,7 +23,6 @@ lay_own-requires-clause-room t c =
 
 pub lay_own-requires-clause-in_words : goal.lay_own-requires-clause-in_words
 lay_own-requires-clause-in_words t c =
-    let C = c.requires.can_place in
     c.read-r.ensures.1
 
 pub returns-then-has_own : goal.returns-then-has_own
@@ -60,15 +59,11 @@ wrap_laid_a-requires-clause-room t c =
 
 pub wrap_laid_a-requires-clause-n_bound : goal.wrap_laid_a-requires-clause-n_bound
 wrap_laid_a-requires-clause-n_bound t c =
-    let C = c.requires.can_place in
-    let is = is_read C.look c.ways-f.ensures.record_is (c.wide32.ensures.0 ∙ c.number_in.ensures) c.read-r.ensures.0 in
-    let other : has_own c.read-r.result.kind ≡ false = sym c.has_own.ensures ∙ c.if-has_own.false in c.reading_of.ensures.1
+    c.reading_of.ensures.1
 
 pub wrap_laid_a-requires-clause-in_words : goal.wrap_laid_a-requires-clause-in_words
 wrap_laid_a-requires-clause-in_words t c =
-    let C = c.requires.can_place in
-    let is = is_read C.look c.ways-f.ensures.record_is (c.wide32.ensures.0 ∙ c.number_in.ensures) c.read-r.ensures.0 in
-    let other : has_own c.read-r.result.kind ≡ false = sym c.has_own.ensures ∙ c.if-has_own.false in c.read-r.ensures.1
+    c.read-r.ensures.1
 
 pub returns-then-f : goal.returns-then-f
 returns-then-f t c =
@@ -103,9 +98,6 @@ wrap_laid_b-requires-clause-room t c =
 
 pub wrap_laid_b-requires-clause-in_words : goal.wrap_laid_b-requires-clause-in_words
 wrap_laid_b-requires-clause-in_words t c =
-    let C = c.requires.can_place in
-    let is = is_read C.look c.ways-f.ensures.record_is (c.wide32.ensures.0 ∙ c.number_in.ensures) c.read-r.ensures.0 in
-    let other : has_own c.read-r.result.kind ≡ false = sym c.has_own.ensures ∙ c.if-has_own.false in
     c.read-r.ensures.1
 
 pub returns : goal.returns

@@ -13,15 +13,12 @@ fork_values-requires-clause-can_fork c =
     let C = c.requires.can_look in
     let is = c.record_at-r.ensures.record in
     let d = c.wide32-d.ensures.0 ∙ c.number_in.ensures in
-    let p : picks c.record_at-r.result.kind ≡ true = eq-eqb c.record_at-r.result.kind 12 c.if-r-eq-CHOICE.true in
-    let n = c.wide32-n.ensures.0 ∙ c.number_in-then-r-eq-CHOICE.ensures ∙ span_is C is p in
     can_fork C is d
 
 pub fork_values-requires-clause-n_bound : goal.fork_values-requires-clause-n_bound
 fork_values-requires-clause-n_bound c =
     let C = c.requires.can_look in
     let is = c.record_at-r.ensures.record in
-    let d = c.wide32-d.ensures.0 ∙ c.number_in.ensures in
     let p : picks c.record_at-r.result.kind ≡ true = eq-eqb c.record_at-r.result.kind 12 c.if-r-eq-CHOICE.true in
     let n = c.wide32-n.ensures.0 ∙ c.number_in-then-r-eq-CHOICE.ensures ∙ span_is C is p in
     can_choose C is p n

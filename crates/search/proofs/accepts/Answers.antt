@@ -31,4 +31,4 @@ returns-clause-answer c =
 
 pub returns-clause-work : goal.returns-clause-work
 returns-clause-work c =
-    let O = c.requires.0 in c.clear.ensures.work ∙ ap (λ (n : ℕ). replicate n 0) (c.explore-o.auto.work ∙ c.stand.auto.work)
+    c.clear.ensures.work ∙ ap (λ (n : ℕ). replicate n 0) (c.explore-o.auto.work ∙ c.stand.auto.work)

@@ -21,7 +21,6 @@ returns-then-x-clause-answer c =
     let a = c.args in
     let r = c.next_round-round.result in
     let S = seen_first a.moves.now a.trace.now a.a r p.0 p.1 p.2 c.initial_of-state.ensures c.see-x.ensures c.if-x.true in
-    let T = told_anew {moves = a.moves.now} (asked a.found a.a r) p.3 c.next_round-round.ensures p.4 in
     S.0
 
 pub returns-then-x-clause-stands : goal.returns-then-x-clause-stands
@@ -30,7 +29,6 @@ returns-then-x-clause-stands c =
     let a = c.args in
     let r = c.next_round-round.result in
     let S = seen_first a.moves.now a.trace.now a.a r p.0 p.1 p.2 c.initial_of-state.ensures c.see-x.ensures c.if-x.true in
-    let T = told_anew {moves = a.moves.now} (asked a.found a.a r) p.3 c.next_round-round.ensures p.4 in
     S.1
 
 pub returns-then-x-clause-index : goal.returns-then-x-clause-index
@@ -38,7 +36,6 @@ returns-then-x-clause-index c =
     let p = c.requires in
     let a = c.args in
     let r = c.next_round-round.result in
-    let S = seen_first a.moves.now a.trace.now a.a r p.0 p.1 p.2 c.initial_of-state.ensures c.see-x.ensures c.if-x.true in
     let T = told_anew {moves = a.moves.now} (asked a.found a.a r) p.3 c.next_round-round.ensures p.4 in
     still_lasting T
 
@@ -84,9 +81,4 @@ returns-clause-stands c =
 
 pub returns-clause-index : goal.returns-clause-index
 returns-clause-index c =
-    let p = c.requires in
-    let a = c.args in
-    let R = tried_first a.moves.now a.trace.now a.a c.next_round-round.result p.0 p.1 p.2 c.initial_of-state.ensures c.see-x.ensures
-    c.if-x.false c.expand-o.ensures.answer
-    c.expand-o.ensures.tables in
     still_lasting c.remember.ensures

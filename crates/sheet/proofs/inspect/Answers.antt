@@ -25,37 +25,37 @@ pub returns-then-not-limits_ok : goal.returns-then-not-limits_ok
 returns-then-not-limits_ok c =
     let s = c.args.s.now in
     c.refused-then-not-limits_ok.ensures ∙ ap (inspected_in s (layout_of s)) (outside _ c.read_trailer-t.ensures c.if-n-lt-TRAILER.false c.if-t-ne-MAGIC.false
-    (sym c.limits_ok.ensures ∙ not-true _ (not_from_false _ c.if-not-limits_ok.true)))
+    (sym c.limits_ok.ensures ∙ c.if-not-limits_ok.true))
 
 pub distance_ok-requires : goal.distance_ok-requires
-distance_ok-requires c = within _ (sym c.limits_ok.ensures ∙ not-false _ (not_from_true _ c.if-not-limits_ok.false))
+distance_ok-requires c = within _ (sym c.limits_ok.ensures ∙ c.if-not-limits_ok.false)
 
 pub returns-then-not-distance_ok : goal.returns-then-not-distance_ok
 returns-then-not-distance_ok c =
     let s = c.args.s.now in
-    let limits = sym c.limits_ok.ensures ∙ not-false _ (not_from_true _ c.if-not-limits_ok.false) in
+    let limits = sym c.limits_ok.ensures ∙ c.if-not-limits_ok.false in
     c.refused-then-not-distance_ok.ensures ∙ ap (inspected_in s (layout_of s))
-    (misplaced _ c.read_trailer-t.ensures c.if-n-lt-TRAILER.false c.if-t-ne-MAGIC.false limits (sym c.distance_ok.ensures ∙ not-true _ (not_from_false _ c.if-not-distance_ok.true)))
+    (misplaced _ c.read_trailer-t.ensures c.if-n-lt-TRAILER.false c.if-t-ne-MAGIC.false limits (sym c.distance_ok.ensures ∙ c.if-not-distance_ok.true))
 
 pub lay_out-l-requires-clause-within_limits : goal.lay_out-l-requires-clause-within_limits
-lay_out-l-requires-clause-within_limits c = within _ (sym c.limits_ok.ensures ∙ not-false _ (not_from_true _ c.if-not-limits_ok.false))
+lay_out-l-requires-clause-within_limits c = within _ (sym c.limits_ok.ensures ∙ c.if-not-limits_ok.false)
 
 pub lay_out-l-requires-clause-distance_value : goal.lay_out-l-requires-clause-distance_value
-lay_out-l-requires-clause-distance_value c = placed _ _ (sym c.distance_ok.ensures ∙ not-false _ (not_from_true _ c.if-not-distance_ok.false))
+lay_out-l-requires-clause-distance_value c = placed _ _ (sym c.distance_ok.ensures ∙ c.if-not-distance_ok.false)
 
 pub returns-then-fault-ne0 : goal.returns-then-fault-ne0
 returns-then-fault-ne0 c =
     let s = c.args.s.now in
-    let limits = sym c.limits_ok.ensures ∙ not-false _ (not_from_true _ c.if-not-limits_ok.false) in
-    let distance = sym c.distance_ok.ensures ∙ not-false _ (not_from_true _ c.if-not-distance_ok.false) in
+    let limits = sym c.limits_ok.ensures ∙ c.if-not-limits_ok.false in
+    let distance = sym c.distance_ok.ensures ∙ c.if-not-distance_ok.false in
     let fault = some_fault s _ _ c.check_tables-fault.ensures c.if-fault-ne0.true ∙ ap (records_checked s) c.lay_out-l.ensures.answer in
     ap (inspected_in s (layout_of s)) (in_place _ c.read_trailer-t.ensures c.if-n-lt-TRAILER.false c.if-t-ne-MAGIC.false limits distance fault)
 
 pub returns : goal.returns
 returns c =
     let s = c.args.s.now in
-    let limits = sym c.limits_ok.ensures ∙ not-false _ (not_from_true _ c.if-not-limits_ok.false) in
-    let distance = sym c.distance_ok.ensures ∙ not-false _ (not_from_true _ c.if-not-distance_ok.false) in
+    let limits = sym c.limits_ok.ensures ∙ c.if-not-limits_ok.false in
+    let distance = sym c.distance_ok.ensures ∙ c.if-not-distance_ok.false in
     let none = no_fault s _ _ c.check_tables-fault.ensures c.if-fault-ne0.false ∙ ap (records_checked s) c.lay_out-l.ensures.answer in
     c.measure.ensures
     ∙ ap (inspected_in s c.lay_out-l.result) (in_place _ c.read_trailer-t.ensures c.if-n-lt-TRAILER.false c.if-t-ne-MAGIC.false limits distance none)

@@ -25,9 +25,6 @@ returns-in-Accepted-clause-answer c =
 
 pub returns-in-Accepted-clause-borrowed : goal.returns-in-Accepted-clause-borrowed
 returns-in-Accepted-clause-borrowed c =
-    let s = c.args.s.now in
-    let O = found_of s (sym c.in-Accepted.is ∙ c.inspect.ensures) in
-    let a = answered O in
     refl
 
 pub returns-in-Accepted-clause-number : goal.returns-in-Accepted-clause-number
@@ -52,8 +49,6 @@ returns-in-Refused-clause-answer c =
 
 pub returns-in-Refused-clause-borrowed : goal.returns-in-Refused-clause-borrowed
 returns-in-Refused-clause-borrowed c =
-    let s = c.args.s.now in
-    let r = refused_by s (sym c.in-Refused.is ∙ c.inspect.ensures) in
     refl
 
 pub returns-in-Refused-clause-number : goal.returns-in-Refused-clause-number

@@ -42,15 +42,11 @@ wrap_a-size-requires-clause-room t c =
 
 pub wrap_a-size-requires-clause-i_bound : goal.wrap_a-size-requires-clause-i_bound
 wrap_a-size-requires-clause-i_bound t c =
-    let P = (let fact : OfParts ((let fact : Sources = sources_of c.args.programs.now c.args.v c.args.truths.now c.args.counts.now in fact)) c.args.i c.record_at-r.result c.first_by-first.result =
-    of_parts ((let fact : IsRecord ((let fact : Sources = sources_of c.args.programs.now c.args.v c.args.truths.now c.args.counts.now in fact)) c.args.i c.record_at-r.result = is_record c.requires.can_lay c.record_at-r.ensures.record in fact)) c.has_own.ensures c.if-has_own.false c.first_by-first.ensures.0 in fact) in
     let can = c.requires.can_lay in many_few c.args.v.interrupts c.args.v.n _ c.requires.program_table.few can.inside
 
 pub wrap_a-size-requires-clause-in_words : goal.wrap_a-size-requires-clause-in_words
 wrap_a-size-requires-clause-in_words t c =
-    let P = (let fact : OfParts ((let fact : Sources = sources_of c.args.programs.now c.args.v c.args.truths.now c.args.counts.now in fact)) c.args.i c.record_at-r.result c.first_by-first.result =
-    of_parts ((let fact : IsRecord ((let fact : Sources = sources_of c.args.programs.now c.args.v c.args.truths.now c.args.counts.now in fact)) c.args.i c.record_at-r.result = is_record c.requires.can_lay c.record_at-r.ensures.record in fact)) c.has_own.ensures c.if-has_own.false c.first_by-first.ensures.0 in fact) in
-    let can = c.requires.can_lay in in_words c.record_at-r.ensures.fields
+    in_words c.record_at-r.ensures.fields
 
 pub returns-then-k-first : goal.returns-then-k-first
 returns-then-k-first t c W s C =
@@ -81,9 +77,7 @@ wrap_b-size-requires-clause-room t c =
 
 pub wrap_b-size-requires-clause-in_words : goal.wrap_b-size-requires-clause-in_words
 wrap_b-size-requires-clause-in_words t c =
-    let P = (let fact : OfParts ((let fact : Sources = sources_of c.args.programs.now c.args.v c.args.truths.now c.args.counts.now in fact)) c.args.i c.record_at-r.result c.first_by-first.result =
-    of_parts ((let fact : IsRecord ((let fact : Sources = sources_of c.args.programs.now c.args.v c.args.truths.now c.args.counts.now in fact)) c.args.i c.record_at-r.result = is_record c.requires.can_lay c.record_at-r.ensures.record in fact)) c.has_own.ensures c.if-has_own.false c.first_by-first.ensures.0 in fact) in
-    let can = c.requires.can_lay in in_words c.record_at-r.ensures.fields
+    in_words c.record_at-r.ensures.fields
 
 pub returns : goal.returns
 returns t c W s C =

@@ -90,7 +90,7 @@ returns-then-not-goes_right t c =
     split c.requires.can_step c.tag_at-tag.ensures c.if-tag-eq-GONE.false c.if-tag-eq-LEAF.false c.size_at-n.ensures in fact)) T ((let fact : Stepped W s ((let fact : Sources = sources_of c.args.programs.now c.args.v c.args.truths.now c.args.counts.now in fact)).records ((let fact : Split ((let fact : Sources = sources_of c.args.programs.now c.args.v c.args.truths.now c.args.counts.now in fact)) c.args.finals.now c.args.work.now c.args.from c.args.to c.tag_at-tag.result c.size_at-n.result c.requires.can_step.rest =
     split c.requires.can_step c.tag_at-tag.ensures c.if-tag-eq-GONE.false c.if-tag-eq-LEAF.false c.size_at-n.ensures in fact)).parts.l c.args.k (c.args.to + 3) c.args.work.now ((let fact : List ℕ = c.step_rest-t.new.work in fact)) c.step_rest-t.result = let X = (let fact : Split ((let fact : Sources = sources_of c.args.programs.now c.args.v c.args.truths.now c.args.counts.now in fact)) c.args.finals.now c.args.work.now c.args.from c.args.to c.tag_at-tag.result c.size_at-n.result c.requires.can_step.rest =
     split c.requires.can_step c.tag_at-tag.ensures c.if-tag-eq-GONE.false c.if-tag-eq-LEAF.false c.size_at-n.ensures in fact) in c.step_rest-t.ensures W s T X.parts.l X.parts.l_at in fact)) c.in-Passed.is
-    c.goes_right.ensures (not-true _ (not_from_false _ c.if-not-goes_right.true)) c.final_after-d.ensures)
+    c.goes_right.ensures c.if-not-goes_right.true c.final_after-d.ensures)
 
 pub overflow_mul-n : goal.overflow_mul-n
 overflow_mul-n t c = let X = (let fact : Split ((let fact : Sources = sources_of c.args.programs.now c.args.v c.args.truths.now c.args.counts.now in fact)) c.args.finals.now c.args.work.now c.args.from c.args.to c.tag_at-tag.result c.size_at-n.result c.requires.can_step.rest =
@@ -123,7 +123,7 @@ end_right-requires t c =
     split c.requires.can_step c.tag_at-tag.ensures c.if-tag-eq-GONE.false c.if-tag-eq-LEAF.false c.size_at-n.ensures in fact) in
     right_tried X X.tabled ((let fact : Stepped _ _ ((let fact : Sources = sources_of c.args.programs.now c.args.v c.args.truths.now c.args.counts.now in fact)).records ((let fact : Split ((let fact : Sources = sources_of c.args.programs.now c.args.v c.args.truths.now c.args.counts.now in fact)) c.args.finals.now c.args.work.now c.args.from c.args.to c.tag_at-tag.result c.size_at-n.result c.requires.can_step.rest =
     split c.requires.can_step c.tag_at-tag.ensures c.if-tag-eq-GONE.false c.if-tag-eq-LEAF.false c.size_at-n.ensures in fact)).parts.l c.args.k (c.args.to + 3) c.args.work.now ((let fact : List ℕ = c.step_rest-t.new.work in fact)) c.step_rest-t.result = let X = (let fact : Split ((let fact : Sources = sources_of c.args.programs.now c.args.v c.args.truths.now c.args.counts.now in fact)) c.args.finals.now c.args.work.now c.args.from c.args.to c.tag_at-tag.result c.size_at-n.result c.requires.can_step.rest =
-    split c.requires.can_step c.tag_at-tag.ensures c.if-tag-eq-GONE.false c.if-tag-eq-LEAF.false c.size_at-n.ensures in fact) in c.step_rest-t.ensures _ _ X.tabled X.parts.l X.parts.l_at in fact)) c.in-Passed.is c.goes_right.ensures (not-false _ (not_from_true _ c.if-not-goes_right.false)) c.past_words.ensures.0
+    split c.requires.can_step c.tag_at-tag.ensures c.if-tag-eq-GONE.false c.if-tag-eq-LEAF.false c.size_at-n.ensures in fact) in c.step_rest-t.ensures _ _ X.tabled X.parts.l X.parts.l_at in fact)) c.in-Passed.is c.goes_right.ensures c.if-not-goes_right.false c.past_words.ensures.0
     (c.step_rest-u.ensures _ _ X.tabled X.parts.r (right_at X ((let fact : Kept (c.args.to + 3) c.args.work.now ((let fact : List ℕ = c.step_rest-t.new.work in fact)) = ((let fact : Stepped _ _ ((let fact : Sources = sources_of c.args.programs.now c.args.v c.args.truths.now c.args.counts.now in fact)).records ((let fact : Split ((let fact : Sources = sources_of c.args.programs.now c.args.v c.args.truths.now c.args.counts.now in fact)) c.args.finals.now c.args.work.now c.args.from c.args.to c.tag_at-tag.result c.size_at-n.result c.requires.can_step.rest =
     split c.requires.can_step c.tag_at-tag.ensures c.if-tag-eq-GONE.false c.if-tag-eq-LEAF.false c.size_at-n.ensures in fact)).parts.l c.args.k (c.args.to + 3) c.args.work.now ((let fact : List ℕ = c.step_rest-t.new.work in fact)) c.step_rest-t.result = let X = (let fact : Split ((let fact : Sources = sources_of c.args.programs.now c.args.v c.args.truths.now c.args.counts.now in fact)) c.args.finals.now c.args.work.now c.args.from c.args.to c.tag_at-tag.result c.size_at-n.result c.requires.can_step.rest =
     split c.requires.can_step c.tag_at-tag.ensures c.if-tag-eq-GONE.false c.if-tag-eq-LEAF.false c.size_at-n.ensures in fact) in c.step_rest-t.ensures _ _ ((let fact : Split ((let fact : Sources = sources_of c.args.programs.now c.args.v c.args.truths.now c.args.counts.now in fact)) c.args.finals.now c.args.work.now c.args.from c.args.to c.tag_at-tag.result c.size_at-n.result c.requires.can_step.rest =
@@ -144,7 +144,7 @@ returns-else-not-goes_right t c =
     split c.requires.can_step c.tag_at-tag.ensures c.if-tag-eq-GONE.false c.if-tag-eq-LEAF.false c.size_at-n.ensures in fact) in
     right_tried X T ((let fact : Stepped W s ((let fact : Sources = sources_of c.args.programs.now c.args.v c.args.truths.now c.args.counts.now in fact)).records ((let fact : Split ((let fact : Sources = sources_of c.args.programs.now c.args.v c.args.truths.now c.args.counts.now in fact)) c.args.finals.now c.args.work.now c.args.from c.args.to c.tag_at-tag.result c.size_at-n.result c.requires.can_step.rest =
     split c.requires.can_step c.tag_at-tag.ensures c.if-tag-eq-GONE.false c.if-tag-eq-LEAF.false c.size_at-n.ensures in fact)).parts.l c.args.k (c.args.to + 3) c.args.work.now ((let fact : List ℕ = c.step_rest-t.new.work in fact)) c.step_rest-t.result = let X = (let fact : Split ((let fact : Sources = sources_of c.args.programs.now c.args.v c.args.truths.now c.args.counts.now in fact)) c.args.finals.now c.args.work.now c.args.from c.args.to c.tag_at-tag.result c.size_at-n.result c.requires.can_step.rest =
-    split c.requires.can_step c.tag_at-tag.ensures c.if-tag-eq-GONE.false c.if-tag-eq-LEAF.false c.size_at-n.ensures in fact) in c.step_rest-t.ensures W s T X.parts.l X.parts.l_at in fact)) c.in-Passed.is c.goes_right.ensures (not-false _ (not_from_true _ c.if-not-goes_right.false)) c.past_words.ensures.0
+    split c.requires.can_step c.tag_at-tag.ensures c.if-tag-eq-GONE.false c.if-tag-eq-LEAF.false c.size_at-n.ensures in fact) in c.step_rest-t.ensures W s T X.parts.l X.parts.l_at in fact)) c.in-Passed.is c.goes_right.ensures c.if-not-goes_right.false c.past_words.ensures.0
     (c.step_rest-u.ensures W s T X.parts.r (right_at X ((let fact : Kept (c.args.to + 3) c.args.work.now ((let fact : List ℕ = c.step_rest-t.new.work in fact)) = ((let fact : Stepped _ _ ((let fact : Sources = sources_of c.args.programs.now c.args.v c.args.truths.now c.args.counts.now in fact)).records ((let fact : Split ((let fact : Sources = sources_of c.args.programs.now c.args.v c.args.truths.now c.args.counts.now in fact)) c.args.finals.now c.args.work.now c.args.from c.args.to c.tag_at-tag.result c.size_at-n.result c.requires.can_step.rest =
     split c.requires.can_step c.tag_at-tag.ensures c.if-tag-eq-GONE.false c.if-tag-eq-LEAF.false c.size_at-n.ensures in fact)).parts.l c.args.k (c.args.to + 3) c.args.work.now ((let fact : List ℕ = c.step_rest-t.new.work in fact)) c.step_rest-t.result = let X = (let fact : Split ((let fact : Sources = sources_of c.args.programs.now c.args.v c.args.truths.now c.args.counts.now in fact)) c.args.finals.now c.args.work.now c.args.from c.args.to c.tag_at-tag.result c.size_at-n.result c.requires.can_step.rest =
     split c.requires.can_step c.tag_at-tag.ensures c.if-tag-eq-GONE.false c.if-tag-eq-LEAF.false c.size_at-n.ensures in fact) in c.step_rest-t.ensures _ _ ((let fact : Split ((let fact : Sources = sources_of c.args.programs.now c.args.v c.args.truths.now c.args.counts.now in fact)) c.args.finals.now c.args.work.now c.args.from c.args.to c.tag_at-tag.result c.size_at-n.result c.requires.can_step.rest =

@@ -8,7 +8,6 @@ use Rattle.search.proofs.guide.given_after.Goals as goal
 
 pub returns-then-entry-eq-TEST-clause-within : goal.returns-then-entry-eq-TEST-clause-within
 returns-then-entry-eq-TEST-clause-within c =
-    let a = c.args in
     c.requires
 
 pub returns-then-entry-eq-TEST-clause-rest : goal.returns-then-entry-eq-TEST-clause-rest
@@ -18,7 +17,6 @@ returns-then-entry-eq-TEST-clause-rest c =
 
 pub returns-then-g-clause-within : goal.returns-then-g-clause-within
 returns-then-g-clause-within c =
-    let a = c.args in
     c.requires
 
 pub returns-then-g-clause-rest : goal.returns-then-g-clause-rest
@@ -38,7 +36,6 @@ returns-then-used-moves-clause-rest c =
 
 pub returns-clause-within : goal.returns-clause-within
 returns-clause-within c =
-    let a = c.args in
     c.requires
 
 pub returns-clause-rest : goal.returns-clause-rest

@@ -1,0 +1,134 @@
+-- The stages in rising order; then what is reported of the verdict is planning's answer and trace, and work and index are cleared. Assumes nothing.
+use Prim.Native.Nat.{◌≤◌}
+use native.Mathlib.Omega.{arith}
+use mathlib.Core.Path.{sym, ◌∙◌, ap}
+use lib.ListN.{length}
+use lib.Seq.{length-take-le}
+use Rattle.sheet.specs.declared.Layout.{Layout}
+use Rattle.sheet.proofs.Found.{answered}
+use Rattle.demands.specs.Decoded.{bound_of}
+use Rattle.planner.proofs.Demands.{ten, eleven, plan_cleared}
+use Rattle.planner.proofs.Reported.{planning, cleared}
+use Rattle.planner.proofs.plan_found.Goals as goal
+
+pub returns-then-trace-d-clause-answer : goal.returns-then-trace-d-clause-answer
+returns-then-trace-d-clause-answer c =
+    let O = c.requires in
+    let e = ap (λ (l : Layout). l.d) O.layout_is in
+    let r = ten _ _ _ (answered O) c.args.work.now c.args.trace.now (omega (arith, e, c.if-trace-d.true)) c.args.index.now in
+    c.refused.ensures ∙ sym r.0
+
+pub returns-then-trace-d-clause-trace : goal.returns-then-trace-d-clause-trace
+returns-then-trace-d-clause-trace c =
+    let O = c.requires in
+    let e = ap (λ (l : Layout). l.d) O.layout_is in
+    let r = ten _ _ _ (answered O) c.args.work.now c.args.trace.now (omega (arith, e, c.if-trace-d.true)) c.args.index.now in
+    sym r.1
+
+pub returns-then-trace-d-clause-work : goal.returns-then-trace-d-clause-work
+returns-then-trace-d-clause-work c =
+    let O = c.requires in
+    let e = ap (λ (l : Layout). l.d) O.layout_is in
+    let r = ten _ _ _ (answered O) c.args.work.now c.args.trace.now (omega (arith, e, c.if-trace-d.true)) c.args.index.now in
+    sym r.2
+
+pub returns-then-trace-d-clause-index : goal.returns-then-trace-d-clause-index
+returns-then-trace-d-clause-index c =
+    let O = c.requires in
+    let e = ap (λ (l : Layout). l.d) O.layout_is in
+    let r = ten _ _ _ (answered O) c.args.work.now c.args.trace.now (omega (arith, e, c.if-trace-d.true)) c.args.index.now in
+    sym r.3
+
+pub returns-then-work-words-clause-answer : goal.returns-then-work-words-clause-answer
+returns-then-work-words-clause-answer c =
+    let O = c.requires in
+    let e = ap (λ (l : Layout). l.d) O.layout_is in
+    let r = eleven _ _ _ (answered O) c.args.work.now c.if-work-words.true c.args.trace.now c.args.index.now
+    (omega (arith, e, c.if-trace-d.false)) in
+    c.refused-then-work-words.ensures ∙ sym r.0
+
+pub returns-then-work-words-clause-trace : goal.returns-then-work-words-clause-trace
+returns-then-work-words-clause-trace c =
+    let O = c.requires in
+    let e = ap (λ (l : Layout). l.d) O.layout_is in
+    let r = eleven _ _ _ (answered O) c.args.work.now c.if-work-words.true c.args.trace.now c.args.index.now
+    (omega (arith, e, c.if-trace-d.false)) in
+    sym r.1
+
+pub returns-then-work-words-clause-work : goal.returns-then-work-words-clause-work
+returns-then-work-words-clause-work c =
+    let O = c.requires in
+    let e = ap (λ (l : Layout). l.d) O.layout_is in
+    let r = eleven _ _ _ (answered O) c.args.work.now c.if-work-words.true c.args.trace.now c.args.index.now
+    (omega (arith, e, c.if-trace-d.false)) in
+    sym r.2
+
+pub returns-then-work-words-clause-index : goal.returns-then-work-words-clause-index
+returns-then-work-words-clause-index c =
+    let O = c.requires in
+    let e = ap (λ (l : Layout). l.d) O.layout_is in
+    let r = eleven _ _ _ (answered O) c.args.work.now c.if-work-words.true c.args.trace.now c.args.index.now
+    (omega (arith, e, c.if-trace-d.false)) in
+    sym r.3
+
+pub slice_bounds-plan-end-2 : goal.slice_bounds-plan-end-2
+slice_bounds-plan-end-2 c =
+    sym (length-take-le c.args.found.words c.args.work.now c.if-work-words.false)
+
+pub plan-requires : goal.plan-requires
+plan-requires c =
+    let O = c.requires in
+    let e = ap (λ (l : Layout). l.d) O.layout_is in
+    (O, length-take-le c.args.found.words c.args.work.now c.if-work-words.false, omega (arith, e, c.if-trace-d.false))
+
+pub returns-clause-answer : goal.returns-clause-answer
+returns-clause-answer c =
+    let s = c.args.s.now in
+    let w = c.args.found.words in
+    let work = c.args.work.now in
+    let trace = c.args.trace.now in
+    let O = c.requires in
+    let p = answered O in
+    let e = ap (λ (l : Layout). l.d) O.layout_is in
+    let long : bound_of s ≤ length trace = omega (arith, e, c.if-trace-d.false) in
+    let r = planning s w _ p work trace c.if-work-words.false long c.plan.new.trace c.plan.result c.plan.ensures.answer in
+    c.answer_of.ensures ∙ r.0
+
+pub returns-clause-trace : goal.returns-clause-trace
+returns-clause-trace c =
+    let s = c.args.s.now in
+    let w = c.args.found.words in
+    let work = c.args.work.now in
+    let trace = c.args.trace.now in
+    let O = c.requires in
+    let p = answered O in
+    let e = ap (λ (l : Layout). l.d) O.layout_is in
+    let long : bound_of s ≤ length trace = omega (arith, e, c.if-trace-d.false) in
+    let r = planning s w _ p work trace c.if-work-words.false long c.plan.new.trace c.plan.result c.plan.ensures.answer in
+    r.1
+
+pub returns-clause-work : goal.returns-clause-work
+returns-clause-work c =
+    let s = c.args.s.now in
+    let w = c.args.found.words in
+    let work = c.args.work.now in
+    let trace = c.args.trace.now in
+    let O = c.requires in
+    let p = answered O in
+    let e = ap (λ (l : Layout). l.d) O.layout_is in
+    let long : bound_of s ≤ length trace = omega (arith, e, c.if-trace-d.false) in
+    let q = plan_cleared s w _ p work c.if-work-words.false trace long c.args.index.now in
+    cleared w work _ c.plan.ensures.work c.if-work-words.false ∙ sym q.0
+
+pub returns-clause-index : goal.returns-clause-index
+returns-clause-index c =
+    let s = c.args.s.now in
+    let w = c.args.found.words in
+    let work = c.args.work.now in
+    let trace = c.args.trace.now in
+    let O = c.requires in
+    let p = answered O in
+    let e = ap (λ (l : Layout). l.d) O.layout_is in
+    let long : bound_of s ≤ length trace = omega (arith, e, c.if-trace-d.false) in
+    let q = plan_cleared s w _ p work c.if-work-words.false trace long c.args.index.now in
+    c.plan.ensures.index ∙ sym q.1
