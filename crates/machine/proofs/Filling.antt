@@ -1,6 +1,6 @@
 -- The sets of a state, filled one kind after the other: truths, then where the marked actions are possible, then where records are final
 -- and enabled. Assumes nothing.
-use Prim.Native.Nat.{ℕ, zero, suc, ◌+◌, ◌-◌, ◌*◌, ◌≤◌, ◌<◌}
+use Prim.Native.Nat.{ℕ, zero, suc, ◌+◌, ◌-◌, ◌≤◌, ◌<◌}
 use mathlib.Core.Path.{◌≡◌, refl, sym, ◌∙◌, ap, subst}
 use mathlib.Core.Bool.{Bool, true, false, not}
 use mathlib.Core.List.{List}
@@ -19,7 +19,7 @@ use Rattle.golog.specs.World.{World, start, possible}
 use Rattle.golog.specs.Written.{entry_in}
 use Rattle.truths.specs.Held.{HoldsIn, AllHold}
 use Rattle.truths.specs.Evaluated as truths
-use Rattle.remaining.specs.Extended.{empty, virtual, extended}
+use Rattle.remaining.specs.Extended.{empty, virtual}
 use Rattle.remaining.proofs.Started.{table_below, table_above}
 use Rattle.possible.specs.Written.{Written}
 use Rattle.possible.specs.Possible.{Readable, NeverConflicts, PossibleSet}

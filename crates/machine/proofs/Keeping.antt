@@ -1,6 +1,6 @@
 -- What is told once stands in front of the sets, and those of the two depths stand apart: writing in one leaves the others. Assumes nothing.
-use Prim.Native.Nat.{ℕ, ◌+◌, ◌*◌, ◌%◌, ◌≤◌, ◌<◌}
-use mathlib.Core.Path.{◌≡◌, sym, ◌∙◌, ap, subst}
+use Prim.Native.Nat.{ℕ, ◌+◌, ◌%◌, ◌≤◌, ◌<◌}
+use mathlib.Core.Path.{◌≡◌, sym, ◌∙◌, subst}
 use mathlib.Core.List.{List}
 use mathlib.Core.Logic.{◌⊎◌, inl, inr, ⊎_elim}
 use native.Mathlib.Decide.{dec_lt}
@@ -11,7 +11,7 @@ use Rattle.leaves.specs.Endable.{final_bounds_of}
 use Rattle.leaves.specs.Distances.{distances_of}
 use Rattle.enabled.specs.Spans.{spans_of}
 use Rattle.positions.specs.Levels.{digits_of}
-use mathlib.Core.Bool.{Bool, true}
+use mathlib.Core.Bool.{true}
 use Rattle.machine.specs.declared.Shape.{Shape}
 use Rattle.machine.specs.Tables.{window, Only, PutAt, spans_on, digits_on, distances_on, marks_on, told_places, sets_places, sets_from, sets_at, places, records_of, many_of}
 use Rattle.machine.specs.Told.{Marks, Told, SetsKnown, StateTold}

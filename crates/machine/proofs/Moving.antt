@@ -1,6 +1,6 @@
 -- The code of a transition tells its move: 65536 a test, any other number that entry, which is performed by the truths of the state.
 -- Assumes nothing.
-use Prim.Native.Nat.{ℕ, ◌%◌}
+use Prim.Native.Nat.{ℕ}
 use mathlib.Core.Bool.{Bool, cond}
 use mathlib.Core.List.{List}
 use mathlib.Core.Option.{Option, none, some}

@@ -1,6 +1,6 @@
 -- What the rules give of an action: its range can be read, it asks formulas that there are, and so can be performed in an environment.
 -- Assumes nothing.
-use Prim.Native.Nat.{ℕ, ◌+◌, ◌*◌, ◌%◌, ◌≤◌, ◌<◌}
+use Prim.Native.Nat.{ℕ, ◌+◌, ◌*◌, ◌≤◌, ◌<◌}
 use mathlib.Core.List.{List}
 use native.Mathlib.Omega.{arith}
 use lib.ListN.{length}
@@ -9,7 +9,7 @@ use Rattle.state.specs.Ranges.{Names, ConditionsBelow}
 use Rattle.state.specs.Exclusion as exclusion
 use Rattle.possible.specs.Possible.{ReadableRange, Readable, AsksBelow, Performable}
 use Rattle.machine.specs.declared.Shape.{Shape}
-use Rattle.machine.specs.Ruled.{RuledActions, RuledOnce, RuledTables, IsEntry}
+use Rattle.machine.specs.Ruled.{RuledActions, RuledTables, IsEntry}
 
 module _ {effects actions : List ℕ} {v : Shape} (R : RuledActions effects actions v) {a : ℕ} (l : a < v.a) where
   abbrev first : ℕ

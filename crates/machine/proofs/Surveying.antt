@@ -1,19 +1,19 @@
 -- What is told once, and of a state, is what going by positions asks for: no record is final where it is not marked so, none is nearer to
 -- its end than its distance says, and the sets are those of the state. Assumes nothing.
 use Prim.Native.Nat.{ℕ, ◌+◌, ◌-◌, ◌≤◌, ◌<◌}
-use mathlib.Core.Path.{◌≡◌, refl, sym, ◌∙◌, ap, subst}
+use mathlib.Core.Path.{◌≡◌, refl, ◌∙◌, ap, subst}
 use mathlib.Core.Bool.{Bool, true, false, cond}
-use mathlib.Core.List.{List, Memᴰ}
+use mathlib.Core.List.{List}
 use native.Mathlib.Decide.{dec_lt}
 use native.Mathlib.Omega.{arith}
 use lib.Dec.{T}
-use lib.ListN.{length, get_or, replicate, length-append, length-replicate, get_or-eq_default}
+use lib.ListN.{get_or, get_or-eq_default}
 use Rattle.records.specs.declared.Program.{Program}
 use Rattle.records.specs.Records.{program_at}
 use Rattle.records.specs.Table.{up_to}
 use Rattle.records.specs.Placeholders.{environments, reading}
 use Rattle.records.proofs.Fills.{default_at, length_up, get_d_any}
-use Rattle.kinds.specs.Programs.{picks, links}
+use Rattle.kinds.specs.Programs.{picks}
 use Rattle.golog.specs.declared.State.{State}
 use Rattle.golog.specs.World.{World}
 use Rattle.golog.specs.Written.{span_of, sees, written_records}
@@ -26,7 +26,6 @@ use Rattle.sets.specs.Sets.{set_at}
 use Rattle.truths.specs.Held.{HoldsIn}
 use Rattle.possible.specs.Written.{Written}
 use Rattle.leaves.specs.Endable.{final_bound_at, final_bounds_of}
-use Rattle.leaves.specs.Distances.{distances_of}
 use Rattle.enabled.specs.Spans.{SpansKnown, spans_of}
 use Rattle.enabled.proofs.Listing as listing
 use Rattle.enabled.proofs.Told.{endable_read, distances_read}

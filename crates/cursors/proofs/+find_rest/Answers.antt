@@ -2,14 +2,11 @@
 use mathlib.Core.Path.{◌∙◌, ap}
 use mathlib.Core.Bool.{Bool, ◌&&◌}
 use native.Mathlib.Omega.{arith}
-use borrow.Author.Tests.{not-true, not-false}
 use Rattle.words.proofs.Standing.{gone_at, leaf_at}
-use Rattle.words.proofs.Reading.{size_at, holds_room, Construct, construct, Sized, sized}
+use Rattle.words.proofs.Reading.{holds_room, Construct, construct, Sized, sized}
 use Rattle.cursors.proofs.Ending.{final_is}
 use Rattle.cursors.proofs.Pointing.{passes, left_there, right_stays, right_there, neither_there, gone_points, leaf_points}
 use Rattle.cursors.proofs.Pointing.{point_stands, point_inside, point_look, point_left, point_right, point_end}
-use Rattle.std.proofs.lemmas.Bool.{not_from_true}
-use Rattle.std.proofs.lemmas.Bool.{not_from_false}
 use Rattle.cursors.proofs.+find_rest.Goals as goal
 
 pub tag_at-tag-requires : goal.tag_at-tag-requires

@@ -1,5 +1,4 @@
 -- Each turn puts the set of a marked action, which does not touch the sets that it is told by. Assumes nothing.
-use Prim.Native.Nat.{◌-◌}
 use native.Mathlib.Nat.{le_antisymm}
 use native.Mathlib.Omega.{arith}
 use Rattle.machine.proofs.Filling.{readable_same, actions_none, actions_skip, actions_more}
@@ -25,7 +24,7 @@ loop-a-preserved c =
     let F = c.loop-a.invariant.1 in (
       omega arith,
       elim c.if-mark-ne0.branch [
-        then-mark-ne0 w ↦ rw w.table-is (actions_more F w.set_of-set.ensures w.put_set.ensures)
+        | then-mark-ne0 w ↦ rw w.table-is (actions_more F w.set_of-set.ensures w.put_set.ensures)
         | else-mark-ne0 w ↦ rw w.table-is (actions_skip F w.if-mark-ne0.false)
       ],
     )

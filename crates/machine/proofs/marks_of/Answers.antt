@@ -1,12 +1,9 @@
 -- Of the actions that records perform it is told which may conflict; the loop writes the marks one after the other. Assumes nothing.
-use Prim.Native.Nat.{◌-◌}
-use mathlib.Core.Bool.{false}
 use mathlib.Core.Path.{refl}
 use native.Mathlib.Nat.{le_antisymm}
 use native.Mathlib.Omega.{arith}
 use borrow.Author.Rules.{rules}
 use Rattle.records.proofs.Laid.{laid_none, laid_more}
-use Rattle.machine.specs.Told.{mark_of}
 use Rattle.machine.proofs.Marking.{performed_readable, marks_known}
 use Rattle.machine.proofs.marks_of.Goals as goal
 
