@@ -8,7 +8,8 @@ use mathlib.Core.List.{List, [], ◌∷◌, Memᴰ}
 use Prim.Native.Nat.{ℕ, suc, ◌+◌, ◌≤◌}
 use native.Mathlib.Omega.{arith}
 use lib.Dec.{T, eqb}
-use lib.ListN.{get_or}
+use lib.ListN.{length, get_or}
+use borrow.Author.Tests.{ne_eqb}
 use Rattle.records.specs.declared.Program.{Program}
 use Rattle.records.proofs.Truth.{is_true}
 use Rattle.golog.specs.declared.State.{State}
@@ -28,9 +29,12 @@ use Rattle.leaves.proofs.Entries.{finals_at, counts_exact}
 use Rattle.ends.specs.Ends.{final_by_table, count_by_table, far_by_table, soon_by_table, InTable}
 use Rattle.ends.proofs.Tabled.{within_leaf, Closed, within_closed, final_over, none_over}
 
+some_length : (xs : List RestTransition) (x : RestTransition) → Memᴰ x xs → length xs ≡ 0 → ⊥
+some_length [] x k e = Memᴰ.not-nil k
+some_length (y ∷ xs) x k e = omega arith
+
 not_none : (xs : List RestTransition) (x : RestTransition) → Memᴰ x xs → is_none xs ≡ false
-not_none [] x k = absurd (Memᴰ.not-nil k)
-not_none (y ∷ xs) x k = refl
+not_none xs x k = none_length xs ∙ ne_eqb (length xs) 0 (some_length xs x k)
 
 -- what each member has, all have
 each : {P : RestTransition → Type 0} (xs : List RestTransition) → ((x : RestTransition) → Memᴰ x xs → P x) → Every P xs
