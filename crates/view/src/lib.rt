@@ -1,5 +1,5 @@
-// A view of a sheet: it looks at the caller's bytes and copies nothing. `open`, `find` and `viewed` are walked by hand; `opened_of`,
-// `count_from` and `find_in`, which do the work, and `look_up` above them are covered.
+// A view of a sheet: it looks at the caller's bytes and copies nothing. `opened_of`, `count_from` and `find_in` do the work of `open` and
+// `find`, and `look_up` stands above them.
 #![tactic(auto)]
 
 ghost use Rattle.std.specs.Prelude.{◌≡◌, min};
