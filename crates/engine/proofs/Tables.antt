@@ -7,7 +7,8 @@ use Rattle.sheet.specs.Layout.{layout_of}
 use Rattle.golog.specs.declared.State.{State}
 use Rattle.demands.specs.Decoded.{world_of}
 use Rattle.state.specs.Truths.{AreTruths}
-use Rattle.engine.specs.Tables.{window, Only, set_of, endable_in, truths_from, finals_from, truths_at, finals_at, skips_in, distances_in, may_conflict_in, number_places, surveys_at, counts_from, counts_at}
+use Rattle.engine.specs.Tables.{window, Only, set_of, endable_in, truths_from, finals_from, truths_at}
+use Rattle.engine.specs.Tables.{finals_at, skips_in, distances_in, may_conflict_in, number_places, surveys_at, counts_from, counts_at}
 use Rattle.engine.specs.Tables.{ListsMayConflict, Prepared, Surveyed, SameTables, Filled}
 use Rattle.engine.proofs.Windows.{window_long, earlier, window_before, window_behind}
 

@@ -1,5 +1,6 @@
 -- Windows of a list: writing in one leaves those beside it, and a window that is written anew is what was written. Assumes nothing.
-use Rattle.std.proofs.Common.{◌≡◌, ℕ, ◌+◌, ◌-◌, ◌<◌, ◌≤◌, List, ◌++◌, length, get_or, take, drop, set, sym, refl, ap, ◌∙◌, zero-add, arith, length-drop, length-take, length-take-le, get_or-drop, get_or-take, take-take, drop-drop, take_at, drop-set-lt, take-add, drop_at}
+use Rattle.std.proofs.Common.{◌≡◌, ℕ, ◌+◌, ◌-◌, ◌<◌, ◌≤◌, List, ◌++◌, length, get_or, take, drop, set, sym, refl}
+use Rattle.std.proofs.Common.{ap, ◌∙◌, zero-add, arith, length-drop, length-take, length-take-le, get_or-drop, get_or-take, take-take, drop-drop, take_at, drop-set-lt, take-add, drop_at}
 use native.Mathlib.Decide.{dec_lt}
 use borrow.Rule.Slice.PartMut.{put_mid, post_of, take_put, drop_put}
 use lib.ListN.{get_or-eq_default}

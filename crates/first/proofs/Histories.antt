@@ -1,5 +1,6 @@
 -- A history among its 64 places: what follows its first entries, and how it is laid and handed out entry by entry. Assumes nothing.
-use Rattle.std.proofs.Common.{◌≡◌, ℕ, suc, ◌+◌, ◌<◌, ◌≤◌, List, ◌++◌, length, get_or, take, drop, set, sym, ap, ◌∙◌, ap₂, zero-add, add-one, arith, drop_of_length-le, length-take-le, get_or-take, take_at}
+use Rattle.std.proofs.Common.{◌≡◌, ℕ, suc, ◌+◌, ◌<◌, ◌≤◌, List, ◌++◌, length, get_or, take, drop}
+use Rattle.std.proofs.Common.{set, sym, ap, ◌∙◌, ap₂, zero-add, add-one, arith, drop_of_length-le, length-take-le, get_or-take, take_at}
 use lib.Seq.{paste-suc}
 use Rattle.runs.specs.Guide.{rank}
 use Rattle.runs.proofs.Growing.{rank_inside}

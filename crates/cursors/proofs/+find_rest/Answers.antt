@@ -18,14 +18,13 @@ returns-then-tag-eq-GONE t c W s Q g h = gone_points W s _ _ _ (gone_at _ _ _ c.
 pub record_at-n-requires : goal.record_at-n-requires
 record_at-n-requires t c = holds_room (point_stands c.requires.can_point)
 
-pub find_leaf-requires-clause-program_table : goal.find_leaf-requires-clause-program_table
-find_leaf-requires-clause-program_table t c =
-    c.requires.program_table
-
-pub find_leaf-requires-clause-can_look : goal.find_leaf-requires-clause-can_look
-find_leaf-requires-clause-can_look t c =
+pub find_leaf-requires : goal.find_leaf-requires
+find_leaf-requires t c =
     let K = c.requires.can_point in
-    point_look K (leaf_at _ _ _ c.tag_at-tag.ensures K.rest K.at c.if-tag-eq-LEAF.true) c.record_at-n.ensures
+    record {
+      program_table = c.requires.program_table;
+      can_look = point_look K (leaf_at _ _ _ c.tag_at-tag.ensures K.rest K.at c.if-tag-eq-LEAF.true) c.record_at-n.ensures;
+    }
 
 pub returns-then-tag-eq-LEAF : goal.returns-then-tag-eq-LEAF
 returns-then-tag-eq-LEAF t c W s Q g h = leaf_points _ _ _ c.find_leaf.ensures Q (leaf_at _ _ _ c.tag_at-tag.ensures g h c.if-tag-eq-LEAF.true)
@@ -33,52 +32,64 @@ returns-then-tag-eq-LEAF t c W s Q g h = leaf_points _ _ _ c.find_leaf.ensures Q
 
 pub overflow_add-left : goal.overflow_add-left
 overflow_add-left t c =
-    let L = (let fact : Construct c.args.work.now c.args.at = construct (point_stands c.requires.can_point) c.tag_at-tag.ensures c.if-tag-eq-GONE.false c.if-tag-eq-LEAF.false in fact) in
+    let left_known : Construct c.args.work.now c.args.at =
+    construct (point_stands c.requires.can_point) c.tag_at-tag.ensures c.if-tag-eq-GONE.false c.if-tag-eq-LEAF.false in
+    let L = left_known in
     let h = L.left_room in omega arith
 
 pub size_at-requires : goal.size_at-requires
 size_at-requires t c =
-    let L = (let fact : Construct c.args.work.now c.args.at = construct (point_stands c.requires.can_point) c.tag_at-tag.ensures c.if-tag-eq-GONE.false c.if-tag-eq-LEAF.false in fact) in
+    let left_known : Construct c.args.work.now c.args.at =
+    construct (point_stands c.requires.can_point) c.tag_at-tag.ensures c.if-tag-eq-GONE.false c.if-tag-eq-LEAF.false in
+    let L = left_known in
     L.left_room
 
 pub overflow_mul-right : goal.overflow_mul-right
 overflow_mul-right t c =
-    let Z = (let fact : Sized c.args.work.now c.args.at c.tag_at-tag.result c.size_at.result =
-    sized (point_stands c.requires.can_point) c.tag_at-tag.ensures c.if-tag-eq-GONE.false c.if-tag-eq-LEAF.false c.size_at.ensures in fact) in
+    let sized_known : Sized c.args.work.now c.args.at c.tag_at-tag.result c.size_at.result =
+    sized (point_stands c.requires.can_point) c.tag_at-tag.ensures c.if-tag-eq-GONE.false c.if-tag-eq-LEAF.false c.size_at.ensures in
+    let Z = sized_known in
     let h = Z.right_room in omega arith
 
 pub overflow_add-right : goal.overflow_add-right
 overflow_add-right t c =
-    let Z = (let fact : Sized c.args.work.now c.args.at c.tag_at-tag.result c.size_at.result =
-    sized (point_stands c.requires.can_point) c.tag_at-tag.ensures c.if-tag-eq-GONE.false c.if-tag-eq-LEAF.false c.size_at.ensures in fact) in
+    let sized_known : Sized c.args.work.now c.args.at c.tag_at-tag.result c.size_at.result =
+    sized (point_stands c.requires.can_point) c.tag_at-tag.ensures c.if-tag-eq-GONE.false c.if-tag-eq-LEAF.false c.size_at.ensures in
+    let Z = sized_known in
     let h = Z.right_room in omega arith
 
 pub find_rest-x-requires : goal.find_rest-x-requires
 find_rest-x-requires t c =
-    let Z = (let fact : Sized c.args.work.now c.args.at c.tag_at-tag.result c.size_at.result =
-    sized (point_stands c.requires.can_point) c.tag_at-tag.ensures c.if-tag-eq-GONE.false c.if-tag-eq-LEAF.false c.size_at.ensures in fact) in
-    let L = (let fact : Construct c.args.work.now c.args.at = construct (point_stands c.requires.can_point) c.tag_at-tag.ensures c.if-tag-eq-GONE.false c.if-tag-eq-LEAF.false in fact) in
+    let sized_known : Sized c.args.work.now c.args.at c.tag_at-tag.result c.size_at.result =
+    sized (point_stands c.requires.can_point) c.tag_at-tag.ensures c.if-tag-eq-GONE.false c.if-tag-eq-LEAF.false c.size_at.ensures in
+    let left_known : Construct c.args.work.now c.args.at =
+    construct (point_stands c.requires.can_point) c.tag_at-tag.ensures c.if-tag-eq-GONE.false c.if-tag-eq-LEAF.false in
+    let Z = sized_known in
+    let L = left_known in
     let K = c.requires.can_point in
     (L.left_less c.decreases, (c.requires.program_table, point_left K (Z.parts_of K.rest K.at)))
 
 pub returns-then-x : goal.returns-then-x
 returns-then-x t c W s Q g h =
-    let Z = (let fact : Sized c.args.work.now c.args.at c.tag_at-tag.result c.size_at.result =
-    sized (point_stands c.requires.can_point) c.tag_at-tag.ensures c.if-tag-eq-GONE.false c.if-tag-eq-LEAF.false c.size_at.ensures in fact) in
+    let sized_known : Sized c.args.work.now c.args.at c.tag_at-tag.result c.size_at.result =
+    sized (point_stands c.requires.can_point) c.tag_at-tag.ensures c.if-tag-eq-GONE.false c.if-tag-eq-LEAF.false c.size_at.ensures in
+    let Z = sized_known in
     let D = Z.parts_of g h in
     left_there D (c.find_rest-x.ensures W s Q D.l D.l_at) c.if-x.true
 
 pub final_after-requires : goal.final_after-requires
 final_after-requires t c =
-    let Z = (let fact : Sized c.args.work.now c.args.at c.tag_at-tag.result c.size_at.result =
-    sized (point_stands c.requires.can_point) c.tag_at-tag.ensures c.if-tag-eq-GONE.false c.if-tag-eq-LEAF.false c.size_at.ensures in fact) in
+    let sized_known : Sized c.args.work.now c.args.at c.tag_at-tag.result c.size_at.result =
+    sized (point_stands c.requires.can_point) c.tag_at-tag.ensures c.if-tag-eq-GONE.false c.if-tag-eq-LEAF.false c.size_at.ensures in
+    let Z = sized_known in
     let K = c.requires.can_point in
     point_end (point_right K (Z.parts_of K.rest K.at))
 
 pub returns-then-not-goes_right : goal.returns-then-not-goes_right
 returns-then-not-goes_right t c W s Q g h =
-    let Z = (let fact : Sized c.args.work.now c.args.at c.tag_at-tag.result c.size_at.result =
-    sized (point_stands c.requires.can_point) c.tag_at-tag.ensures c.if-tag-eq-GONE.false c.if-tag-eq-LEAF.false c.size_at.ensures in fact) in
+    let sized_known : Sized c.args.work.now c.args.at c.tag_at-tag.result c.size_at.result =
+    sized (point_stands c.requires.can_point) c.tag_at-tag.ensures c.if-tag-eq-GONE.false c.if-tag-eq-LEAF.false c.size_at.ensures in
+    let Z = sized_known in
     let K = c.requires.can_point in
     let D = Z.parts_of g h in
     let E = Z.parts_of K.rest K.at in
@@ -89,23 +100,26 @@ returns-then-not-goes_right t c W s Q g h =
 
 pub find_rest-y-requires : goal.find_rest-y-requires
 find_rest-y-requires t c =
-    let Z = (let fact : Sized c.args.work.now c.args.at c.tag_at-tag.result c.size_at.result =
-    sized (point_stands c.requires.can_point) c.tag_at-tag.ensures c.if-tag-eq-GONE.false c.if-tag-eq-LEAF.false c.size_at.ensures in fact) in
+    let sized_known : Sized c.args.work.now c.args.at c.tag_at-tag.result c.size_at.result =
+    sized (point_stands c.requires.can_point) c.tag_at-tag.ensures c.if-tag-eq-GONE.false c.if-tag-eq-LEAF.false c.size_at.ensures in
+    let Z = sized_known in
     let K = c.requires.can_point in
     (Z.right_less c.decreases, (c.requires.program_table, point_right K (Z.parts_of K.rest K.at)))
 
 pub returns-then-y : goal.returns-then-y
 returns-then-y t c W s Q g h =
-    let Z = (let fact : Sized c.args.work.now c.args.at c.tag_at-tag.result c.size_at.result =
-    sized (point_stands c.requires.can_point) c.tag_at-tag.ensures c.if-tag-eq-GONE.false c.if-tag-eq-LEAF.false c.size_at.ensures in fact) in
+    let sized_known : Sized c.args.work.now c.args.at c.tag_at-tag.result c.size_at.result =
+    sized (point_stands c.requires.can_point) c.tag_at-tag.ensures c.if-tag-eq-GONE.false c.if-tag-eq-LEAF.false c.size_at.ensures in
+    let Z = sized_known in
     let D = Z.parts_of g h in
     right_there D (c.find_rest-x.ensures W s Q D.l D.l_at) c.if-x.false c.goes_right.ensures c.if-not-goes_right.false
     (c.find_rest-y.ensures W s Q D.r D.r_at) c.if-y.true
 
 pub returns : goal.returns
 returns t c W s Q g h =
-    let Z = (let fact : Sized c.args.work.now c.args.at c.tag_at-tag.result c.size_at.result =
-    sized (point_stands c.requires.can_point) c.tag_at-tag.ensures c.if-tag-eq-GONE.false c.if-tag-eq-LEAF.false c.size_at.ensures in fact) in
+    let sized_known : Sized c.args.work.now c.args.at c.tag_at-tag.result c.size_at.result =
+    sized (point_stands c.requires.can_point) c.tag_at-tag.ensures c.if-tag-eq-GONE.false c.if-tag-eq-LEAF.false c.size_at.ensures in
+    let Z = sized_known in
     let D = Z.parts_of g h in
     neither_there D (c.find_rest-x.ensures W s Q D.l D.l_at) c.if-x.false c.goes_right.ensures c.if-not-goes_right.false
     (c.find_rest-y.ensures W s Q D.r D.r_at) c.if-y.false

@@ -13,14 +13,14 @@ tag_at-tag-requires t c = holds_room (lay_stands c.requires.can_lay_rest)
 pub record_at-j-requires : goal.record_at-j-requires
 record_at-j-requires t c = holds_room (lay_stands c.requires.can_lay_rest)
 
-pub lay_record-requires-clause-program_table : goal.lay_record-requires-clause-program_table
-lay_record-requires-clause-program_table t c =
-    c.requires.program_table
-
-pub lay_record-requires-clause-can_place : goal.lay_record-requires-clause-can_place
-lay_record-requires-clause-can_place t c =
-    let K = c.requires.can_lay_rest in leaf_can K (omega (arith, c.ranges.k.fits)) (leaf_at _ _ _ c.tag_at-tag.ensures K.can.rest K.can.at c.if-tag-eq-LEAF.true)
-    c.record_at-j.ensures
+pub lay_record-requires : goal.lay_record-requires
+lay_record-requires t c =
+    let K = c.requires.can_lay_rest in
+    record {
+      program_table = c.requires.program_table;
+      can_place = leaf_can K (omega (arith, c.ranges.k.fits)) (leaf_at _ _ _ c.tag_at-tag.ensures K.can.rest K.can.at c.if-tag-eq-LEAF.true)
+          c.record_at-j.ensures;
+    }
 
 pub returns-then-tag-eq-LEAF : goal.returns-then-tag-eq-LEAF
 returns-then-tag-eq-LEAF t c =
@@ -36,16 +36,18 @@ size_at-n-requires t c = (lay_construct c.requires.can_lay_rest c.tag_at-tag.ens
 
 pub overflow_mul-right : goal.overflow_mul-right
 overflow_mul-right t c =
+    let parts_known : Parts c.requires.can_lay_rest.can.rest c.args.work.now c.args.from c.tag_at-tag.result c.size_at-n.result =
+    lay_parts c.requires.can_lay_rest c.tag_at-tag.ensures c.if-tag-eq-LEAF.false c.size_at-n.ensures in
     let K = c.requires.can_lay_rest in
-    let D = (let fact : Parts c.requires.can_lay_rest.can.rest c.args.work.now c.args.from c.tag_at-tag.result c.size_at-n.result =
-    lay_parts c.requires.can_lay_rest c.tag_at-tag.ensures c.if-tag-eq-LEAF.false c.size_at-n.ensures in fact) in
+    let D = parts_known in
     omega (arith, parts_below K D, K.room.inside, K.room.small)
 
 pub overflow_add-right : goal.overflow_add-right
 overflow_add-right t c =
+    let parts_known : Parts c.requires.can_lay_rest.can.rest c.args.work.now c.args.from c.tag_at-tag.result c.size_at-n.result =
+    lay_parts c.requires.can_lay_rest c.tag_at-tag.ensures c.if-tag-eq-LEAF.false c.size_at-n.ensures in
     let K = c.requires.can_lay_rest in
-    let D = (let fact : Parts c.requires.can_lay_rest.can.rest c.args.work.now c.args.from c.tag_at-tag.result c.size_at-n.result =
-    lay_parts c.requires.can_lay_rest c.tag_at-tag.ensures c.if-tag-eq-LEAF.false c.size_at-n.ensures in fact) in
+    let D = parts_known in
     omega (arith, parts_below K D, K.room.inside, K.room.small)
 
 pub overflow_add-at : goal.overflow_add-at
@@ -55,63 +57,72 @@ overflow_add-at t c =
 
 pub lay_rest-x-requires : goal.lay_rest-x-requires
 lay_rest-x-requires t c =
+    let parts_known : Parts c.requires.can_lay_rest.can.rest c.args.work.now c.args.from c.tag_at-tag.result c.size_at-n.result =
+    lay_parts c.requires.can_lay_rest c.tag_at-tag.ensures c.if-tag-eq-LEAF.false c.size_at-n.ensures in
     let K = c.requires.can_lay_rest in
-    let D = (let fact : Parts c.requires.can_lay_rest.can.rest c.args.work.now c.args.from c.tag_at-tag.result c.size_at-n.result =
-    lay_parts c.requires.can_lay_rest c.tag_at-tag.ensures c.if-tag-eq-LEAF.false c.size_at-n.ensures in fact) in
+    let D = parts_known in
     (lay_falls_left K D c.decreases, (c.requires.program_table, can_left K D (omega (arith, c.ranges.k.fits)) c.if-place-right.true))
 
 pub put_right-requires : goal.put_right-requires
 put_right-requires t c =
+    let parts_known : Parts c.requires.can_lay_rest.can.rest c.args.work.now c.args.from c.tag_at-tag.result c.size_at-n.result =
+    lay_parts c.requires.can_lay_rest c.tag_at-tag.ensures c.if-tag-eq-LEAF.false c.size_at-n.ensures in
     let K = c.requires.can_lay_rest in
-    let D = (let fact : Parts c.requires.can_lay_rest.can.rest c.args.work.now c.args.from c.tag_at-tag.result c.size_at-n.result =
-    lay_parts c.requires.can_lay_rest c.tag_at-tag.ensures c.if-tag-eq-LEAF.false c.size_at-n.ensures in fact) in
+    let D = parts_known in
     left_end K D (omega (arith, c.ranges.k.fits)) c.if-place-right.true c.lay_rest-x.ensures
 
 pub returns-then-place-right : goal.returns-then-place-right
 returns-then-place-right t c =
+    let parts_known : Parts c.requires.can_lay_rest.can.rest c.args.work.now c.args.from c.tag_at-tag.result c.size_at-n.result =
+    lay_parts c.requires.can_lay_rest c.tag_at-tag.ensures c.if-tag-eq-LEAF.false c.size_at-n.ensures in
     let K = c.requires.can_lay_rest in
-    let D = (let fact : Parts c.requires.can_lay_rest.can.rest c.args.work.now c.args.from c.tag_at-tag.result c.size_at-n.result =
-    lay_parts c.requires.can_lay_rest c.tag_at-tag.ensures c.if-tag-eq-LEAF.false c.size_at-n.ensures in fact) in
+    let D = parts_known in
     left_placed K D (omega (arith, c.ranges.k.fits)) c.if-place-right.true c.lay_rest-x.ensures c.put_right.ensures
 
 pub overflow_mul-n : goal.overflow_mul-n
 overflow_mul-n t c =
+    let parts_known : Parts c.requires.can_lay_rest.can.rest c.args.work.now c.args.from c.tag_at-tag.result c.size_at-n.result =
+    lay_parts c.requires.can_lay_rest c.tag_at-tag.ensures c.if-tag-eq-LEAF.false c.size_at-n.ensures in
     let K = c.requires.can_lay_rest in
-    let D = (let fact : Parts c.requires.can_lay_rest.can.rest c.args.work.now c.args.from c.tag_at-tag.result c.size_at-n.result =
-    lay_parts c.requires.can_lay_rest c.tag_at-tag.ensures c.if-tag-eq-LEAF.false c.size_at-n.ensures in fact) in
+    let D = parts_known in
     omega (arith, parts_below K D, K.room.inside, K.room.small)
 
 pub overflow_add-n : goal.overflow_add-n
 overflow_add-n t c =
+    let parts_known : Parts c.requires.can_lay_rest.can.rest c.args.work.now c.args.from c.tag_at-tag.result c.size_at-n.result =
+    lay_parts c.requires.can_lay_rest c.tag_at-tag.ensures c.if-tag-eq-LEAF.false c.size_at-n.ensures in
     let K = c.requires.can_lay_rest in
-    let D = (let fact : Parts c.requires.can_lay_rest.can.rest c.args.work.now c.args.from c.tag_at-tag.result c.size_at-n.result =
-    lay_parts c.requires.can_lay_rest c.tag_at-tag.ensures c.if-tag-eq-LEAF.false c.size_at-n.ensures in fact) in
+    let D = parts_known in
     omega (arith, parts_below K D, K.room.inside, K.room.small)
 
 pub overflow_add-at-2 : goal.overflow_add-at-2
 overflow_add-at-2 t c =
+    let parts_known : Parts c.requires.can_lay_rest.can.rest c.args.work.now c.args.from c.tag_at-tag.result c.size_at-n.result =
+    lay_parts c.requires.can_lay_rest c.tag_at-tag.ensures c.if-tag-eq-LEAF.false c.size_at-n.ensures in
     let K = c.requires.can_lay_rest in
-    let D = (let fact : Parts c.requires.can_lay_rest.can.rest c.args.work.now c.args.from c.tag_at-tag.result c.size_at-n.result =
-    lay_parts c.requires.can_lay_rest c.tag_at-tag.ensures c.if-tag-eq-LEAF.false c.size_at-n.ensures in fact) in
+    let D = parts_known in
     omega (arith, parts_below K D, K.room.inside, K.room.small, c.past_words.ensures.1)
 
 pub lay_rest-x-requires-2 : goal.lay_rest-x-requires-2
 lay_rest-x-requires-2 t c =
+    let parts_known : Parts c.requires.can_lay_rest.can.rest c.args.work.now c.args.from c.tag_at-tag.result c.size_at-n.result =
+    lay_parts c.requires.can_lay_rest c.tag_at-tag.ensures c.if-tag-eq-LEAF.false c.size_at-n.ensures in
     let K = c.requires.can_lay_rest in
-    let D = (let fact : Parts c.requires.can_lay_rest.can.rest c.args.work.now c.args.from c.tag_at-tag.result c.size_at-n.result =
-    lay_parts c.requires.can_lay_rest c.tag_at-tag.ensures c.if-tag-eq-LEAF.false c.size_at-n.ensures in fact) in
+    let D = parts_known in
     (lay_falls_right K D c.decreases, (c.requires.program_table, can_right K D (omega (arith, c.if-place-right.false)) c.past_words.ensures.1))
 
 pub put_left-requires : goal.put_left-requires
 put_left-requires t c =
+    let parts_known : Parts c.requires.can_lay_rest.can.rest c.args.work.now c.args.from c.tag_at-tag.result c.size_at-n.result =
+    lay_parts c.requires.can_lay_rest c.tag_at-tag.ensures c.if-tag-eq-LEAF.false c.size_at-n.ensures in
     let K = c.requires.can_lay_rest in
-    let D = (let fact : Parts c.requires.can_lay_rest.can.rest c.args.work.now c.args.from c.tag_at-tag.result c.size_at-n.result =
-    lay_parts c.requires.can_lay_rest c.tag_at-tag.ensures c.if-tag-eq-LEAF.false c.size_at-n.ensures in fact) in
+    let D = parts_known in
     right_end K D (omega (arith, c.if-place-right.false)) c.past_words.ensures.0 c.lay_rest-x-2.ensures
 
 pub returns : goal.returns
 returns t c =
+    let parts_known : Parts c.requires.can_lay_rest.can.rest c.args.work.now c.args.from c.tag_at-tag.result c.size_at-n.result =
+    lay_parts c.requires.can_lay_rest c.tag_at-tag.ensures c.if-tag-eq-LEAF.false c.size_at-n.ensures in
     let K = c.requires.can_lay_rest in
-    let D = (let fact : Parts c.requires.can_lay_rest.can.rest c.args.work.now c.args.from c.tag_at-tag.result c.size_at-n.result =
-    lay_parts c.requires.can_lay_rest c.tag_at-tag.ensures c.if-tag-eq-LEAF.false c.size_at-n.ensures in fact) in
+    let D = parts_known in
     right_placed K D (omega (arith, c.if-place-right.false)) c.past_words.ensures.0 c.lay_rest-x-2.ensures c.put_left.ensures

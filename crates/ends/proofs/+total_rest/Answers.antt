@@ -24,48 +24,68 @@ returns-then-tag-eq-LEAF t c g h =
     (c.wide32-far.ensures.0 ∙ c.number_in-then-tag-eq-LEAF.ensures) c.wide32-far.ensures.1 c.flag_in.ensures c.soon_of.ensures
 
 pub overflow_add-at : goal.overflow_add-at
-overflow_add-at t c = let h = ((let fact : Construct c.args.work.now c.args.at = construct c.requires.stands c.tag_at-tag.ensures c.if-tag-eq-GONE.false c.if-tag-eq-LEAF.false in fact)).left_room in omega arith
+overflow_add-at t c =
+    let left_known : Construct c.args.work.now c.args.at =
+    construct c.requires.stands c.tag_at-tag.ensures c.if-tag-eq-GONE.false c.if-tag-eq-LEAF.false in
+    let h = left_known.left_room in omega arith
 
 pub size_at-left-requires : goal.size_at-left-requires
-size_at-left-requires t c = ((let fact : Construct c.args.work.now c.args.at = construct c.requires.stands c.tag_at-tag.ensures c.if-tag-eq-GONE.false c.if-tag-eq-LEAF.false in fact)).left_room
+size_at-left-requires t c =
+    let left_known : Construct c.args.work.now c.args.at =
+    construct c.requires.stands c.tag_at-tag.ensures c.if-tag-eq-GONE.false c.if-tag-eq-LEAF.false in
+    left_known.left_room
 
 pub overflow_add-at-2 : goal.overflow_add-at-2
-overflow_add-at-2 t c = let h = ((let fact : Construct c.args.work.now c.args.at = construct c.requires.stands c.tag_at-tag.ensures c.if-tag-eq-GONE.false c.if-tag-eq-LEAF.false in fact)).left_room in omega arith
+overflow_add-at-2 t c =
+    let left_known : Construct c.args.work.now c.args.at =
+    construct c.requires.stands c.tag_at-tag.ensures c.if-tag-eq-GONE.false c.if-tag-eq-LEAF.false in
+    let h = left_known.left_room in omega arith
 
 pub total_rest-l-requires : goal.total_rest-l-requires
 total_rest-l-requires t c =
-    let L = (let fact : Construct c.args.work.now c.args.at = construct c.requires.stands c.tag_at-tag.ensures c.if-tag-eq-GONE.false c.if-tag-eq-LEAF.false in fact) in
+    let left_known : Construct c.args.work.now c.args.at =
+    construct c.requires.stands c.tag_at-tag.ensures c.if-tag-eq-GONE.false c.if-tag-eq-LEAF.false in
+    let L = left_known in
     (L.left_less c.decreases, (L.left, c.requires.work_len_bound))
 
 pub overflow_add-at-3 : goal.overflow_add-at-3
-overflow_add-at-3 t c = let h = ((let fact : Sized c.args.work.now c.args.at c.tag_at-tag.result c.size_at-left.result =
-    sized c.requires.stands c.tag_at-tag.ensures c.if-tag-eq-GONE.false c.if-tag-eq-LEAF.false c.size_at-left.ensures in fact)).right_room in omega arith
+overflow_add-at-3 t c =
+    let right_known : Sized c.args.work.now c.args.at c.tag_at-tag.result c.size_at-left.result =
+    sized c.requires.stands c.tag_at-tag.ensures c.if-tag-eq-GONE.false c.if-tag-eq-LEAF.false c.size_at-left.ensures in
+    let h = right_known.right_room in omega arith
 
 pub overflow_mul-left : goal.overflow_mul-left
-overflow_mul-left t c = let h = ((let fact : Sized c.args.work.now c.args.at c.tag_at-tag.result c.size_at-left.result =
-    sized c.requires.stands c.tag_at-tag.ensures c.if-tag-eq-GONE.false c.if-tag-eq-LEAF.false c.size_at-left.ensures in fact)).right_room in omega arith
+overflow_mul-left t c =
+    let right_known : Sized c.args.work.now c.args.at c.tag_at-tag.result c.size_at-left.result =
+    sized c.requires.stands c.tag_at-tag.ensures c.if-tag-eq-GONE.false c.if-tag-eq-LEAF.false c.size_at-left.ensures in
+    let h = right_known.right_room in omega arith
 
 pub overflow_add-at-4 : goal.overflow_add-at-4
-overflow_add-at-4 t c = let h = ((let fact : Sized c.args.work.now c.args.at c.tag_at-tag.result c.size_at-left.result =
-    sized c.requires.stands c.tag_at-tag.ensures c.if-tag-eq-GONE.false c.if-tag-eq-LEAF.false c.size_at-left.ensures in fact)).right_room in omega arith
+overflow_add-at-4 t c =
+    let right_known : Sized c.args.work.now c.args.at c.tag_at-tag.result c.size_at-left.result =
+    sized c.requires.stands c.tag_at-tag.ensures c.if-tag-eq-GONE.false c.if-tag-eq-LEAF.false c.size_at-left.ensures in
+    let h = right_known.right_room in omega arith
 
 pub total_rest-r-requires : goal.total_rest-r-requires
 total_rest-r-requires t c =
-    let R = (let fact : Sized c.args.work.now c.args.at c.tag_at-tag.result c.size_at-left.result =
-    sized c.requires.stands c.tag_at-tag.ensures c.if-tag-eq-GONE.false c.if-tag-eq-LEAF.false c.size_at-left.ensures in fact) in
+    let right_known : Sized c.args.work.now c.args.at c.tag_at-tag.result c.size_at-left.result =
+    sized c.requires.stands c.tag_at-tag.ensures c.if-tag-eq-GONE.false c.if-tag-eq-LEAF.false c.size_at-left.ensures in
+    let R = right_known in
     (R.right_less c.decreases, (R.right, c.requires.work_len_bound))
 
 pub join_totals-requires : goal.join_totals-requires
 join_totals-requires t c =
+    let right_known : Sized c.args.work.now c.args.at c.tag_at-tag.result c.size_at-left.result =
+    sized c.requires.stands c.tag_at-tag.ensures c.if-tag-eq-GONE.false c.if-tag-eq-LEAF.false c.size_at-left.ensures in
     let H = c.requires.stands in
-    let P = ((let fact : Sized c.args.work.now c.args.at c.tag_at-tag.result c.size_at-left.result =
-    sized c.requires.stands c.tag_at-tag.ensures c.if-tag-eq-GONE.false c.if-tag-eq-LEAF.false c.size_at-left.ensures in fact)).parts_of H.rest H.at in
+    let P = right_known.parts_of H.rest H.at in
     totals_few _ _ _ P.is (c.total_rest-l.ensures P.l P.l_at) (c.total_rest-r.ensures P.r P.r_at)
     (omega (arith, at_room H.rest _ _ H.at, c.requires.work_len_bound))
 
 pub returns : goal.returns
 returns t c g h =
-    let P = ((let fact : Sized c.args.work.now c.args.at c.tag_at-tag.result c.size_at-left.result =
-    sized c.requires.stands c.tag_at-tag.ensures c.if-tag-eq-GONE.false c.if-tag-eq-LEAF.false c.size_at-left.ensures in fact)).parts_of g h in
+    let right_known : Sized c.args.work.now c.args.at c.tag_at-tag.result c.size_at-left.result =
+    sized c.requires.stands c.tag_at-tag.ensures c.if-tag-eq-GONE.false c.if-tag-eq-LEAF.false c.size_at-left.ensures in
+    let P = right_known.parts_of g h in
     subst (Totalled _ _ _ g) (sym c.join_totals.ensures)
     (total_node _ _ _ P.is (c.total_rest-l.ensures P.l P.l_at) (c.total_rest-r.ensures P.r P.r_at))

@@ -31,7 +31,8 @@ returns-clause-answer c =
     let J = c.judge.ensures.tables in
     let flags = c.judge.new.flags in
     let n = c.judge.auto.flags in
-    let e = window_at (x + 512) (finals_from d) (x + 512 + 260) 260 flags (omega (arith, c.flags_from-from.ensures.0)) (omega arith) in λ left p F. c.final_rest.ensures F.rest (subst (λ (o : ℕ). At F.rest c.args.work.now (o + header)) (sym (frame_by O d)) F.words_are)
+    let e = window_at (x + 512) (finals_from d) (x + 512 + 260) 260 flags (omega (arith, c.flags_from-from.ensures.0)) (omega arith) in
+    λ left p F. c.final_rest.ensures F.rest (subst (λ (o : ℕ). At F.rest c.args.work.now (o + header)) (sym (frame_by O d)) F.words_are)
     ∙ ap (λ (l : List Bool). final_by_table l F.rest) e
     ∙ final_told O.accepted F c.args.st J.finals_are
 

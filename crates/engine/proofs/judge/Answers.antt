@@ -23,22 +23,18 @@ slice_bounds-fill_truths-start c = let o = in_order (in_sheet c.requires.0) in o
 pub slice_bounds-fill_truths-end : goal.slice_bounds-fill_truths-end
 slice_bounds-fill_truths-end c = let o = in_order (in_sheet c.requires.0) in omega arith
 
-pub fill_truths-requires-clause-n_in_bounds : goal.fill_truths-requires-clause-n_in_bounds
-fill_truths-requires-clause-n_in_bounds c =
+pub fill_truths-requires : goal.fill_truths-requires
+fill_truths-requires c =
     let O = c.requires.0 in
     let s = c.args.s.now in
     let f = in_sheet O in
     let x = c.flags_from-from.result in
     let T = window_at x (truths_from c.args.d) (x + 512) 512 c.args.flags.now c.flags_from-from.ensures.0 (omega arith) in
     let low = subst (λ (l : Layout). LowerFormulas (formulas_in s l) l.q) (sym O.layout_is) (lower_formulas s O.accepted) in
-    (formulas_long s _ f, omega (arith, f.q, ap length T, truths_long c.requires.1 c.args.d))
-
-pub fill_truths-requires-clause-lower_formulas : goal.fill_truths-requires-clause-lower_formulas
-fill_truths-requires-clause-lower_formulas c =
-    let O = c.requires.0 in
-    let s = c.args.s.now in
-    let low = subst (λ (l : Layout). LowerFormulas (formulas_in s l) l.q) (sym O.layout_is) (lower_formulas s O.accepted) in
-    (low, formulas_plain O)
+    record {
+      n_in_bounds = (formulas_long s _ f, omega (arith, f.q, ap length T, truths_long c.requires.1 c.args.d));
+      lower_formulas = (low, formulas_plain O);
+    }
 
 pub slice_bounds-mark_finals-count : goal.slice_bounds-mark_finals-count
 slice_bounds-mark_finals-count c = (in_order (in_sheet c.requires.0)).programs
@@ -53,8 +49,8 @@ pub slice_bounds-mark_finals-end-2 : goal.slice_bounds-mark_finals-end-2
 slice_bounds-mark_finals-end-2 c =
     sym (length-take-le 261 c.args.numbers.now (omega (arith, c.requires.1.numbers_long)))
 
-pub mark_finals-requires-clause-program_table : goal.mark_finals-requires-clause-program_table
-mark_finals-requires-clause-program_table c =
+pub mark_finals-requires : goal.mark_finals-requires
+mark_finals-requires c =
     let O = c.requires.0 in
     let P = c.requires.1 in
     let r = programs_long _ _ (in_sheet O) in
@@ -66,29 +62,14 @@ mark_finals-requires-clause-program_table c =
     let first = only_put x (x + 512) 512 flags said (omega arith) (omega arith) long in
     let finals = c.settle.ensures.finals ∙ endable_kept (omega (arith, c.flags_from-from.ensures.0)) first in
     let n = c.settle.auto.flags ∙ same_len_mid x (x + 512 - x) flags said c.fill_truths.auto.truths in
-    (r, omega (arith, n))
+    record {
+      program_table = (r, omega (arith, n));
+      all_lower = (runs_lower O, runs_plain O);
+      skips = skips_by O P _ _ finals refl;
+    }
 
-pub mark_finals-requires-clause-all_lower : goal.mark_finals-requires-clause-all_lower
-mark_finals-requires-clause-all_lower c =
-    let O = c.requires.0 in
-    (runs_lower O, runs_plain O)
-
-pub mark_finals-requires-clause-skips : goal.mark_finals-requires-clause-skips
-mark_finals-requires-clause-skips c =
-    let O = c.requires.0 in
-    let P = c.requires.1 in
-    let r = programs_long _ _ (in_sheet O) in
-    let flags = c.args.flags.now in
-    let x = c.flags_from-from.result in
-    let fits : x + 772 ≤ length flags = omega (arith, c.flags_from-from.ensures.1, P.flags_long) in
-    let said = c.fill_truths.new.truths in
-    let long : length said ≡ 512 = c.fill_truths.auto.truths ∙ window_at_long x (x + 512) 512 flags (omega arith) (omega arith) in
-    let first = only_put x (x + 512) 512 flags said (omega arith) (omega arith) long in
-    let finals = c.settle.ensures.finals ∙ endable_kept (omega (arith, c.flags_from-from.ensures.0)) first in
-    skips_by O P _ _ finals refl
-
-pub returns-clause-tables : goal.returns-clause-tables
-returns-clause-tables c =
+pub returns : goal.returns
+returns c =
     let O = c.requires.0 in
     let P = c.requires.1 in
     let d = c.args.d in
@@ -115,35 +96,13 @@ returns-clause-tables c =
     let truths : (l : List Bool) → window x 512 l ≡ truths_at d l = λ l. ap (λ (o : ℕ). window o 512 l) ex in
     let same = window_before M.written n₃ x 512 (omega arith) (omega (arith, n₁, n₂)) ∙ window_before S.written n₂ x 512 (omega arith) (omega (arith, n₁)) in
     let told = sym (truths flags₃) ∙ same ∙ window_put x (x + 512) 512 flags said (omega arith) (omega arith) long ∙ c.fill_truths.ensures in
-    let before : endable_in flags₁ ≡ endable_in flags = endable_kept (omega arith) K₁ in judged O P st d flags₃ (n₃ ∙ n₂ ∙ n₁) K
-    (truths_told O st _ told)
-    (subst₂ (λ (t f : List Bool). FinalsKnown (runs c.args.s.now c.args.found.layout c.args.found.interrupts)
-    (many c.args.found.layout c.args.found.interrupts) t st.running f)
-    (truths flags₃) (finals flags₃) M.finals)
-    (λ i l. ap (λ (y : List Bool). get_or y i true) (sym (finals flags₃)) ∙ M.behind i l ∙ ap (λ (y : List Bool). get_or y i true) (S.finals ∙ before))
-
-pub returns-clause-written : goal.returns-clause-written
-returns-clause-written c =
-    let O = c.requires.0 in
-    let P = c.requires.1 in
-    let d = c.args.d in
-    let st = c.args.st in
-    let flags = c.args.flags.now in
-    let x = c.flags_from-from.result in
-    let ex = c.flags_from-from.ensures.0 in
-    let fits : x + 772 ≤ length flags = omega (arith, c.flags_from-from.ensures.1, P.flags_long) in
-    let said = c.fill_truths.new.truths in
-    let long : length said ≡ 512 = c.fill_truths.auto.truths ∙ window_at_long x (x + 512) 512 flags (omega arith) (omega arith) in
-    let flags₁ = put_mid x (x + 512 - x) flags said in
-    let flags₂ = c.settle.new.flags in
-    let flags₃ = c.mark_finals.new.flags in
-    let n₁ = same_len_mid x (x + 512 - x) flags said c.fill_truths.auto.truths in
-    let n₂ = c.settle.auto.flags in
-    let n₃ = c.mark_finals.auto.flags in
-    let K₁ = only_put x (x + 512) 512 flags said (omega arith) (omega arith) long in
-    let S = c.settle.ensures in
-    let M = c.mark_finals.ensures in
-    let K : Only (truths_from d) 772 flags flags₃ =
-    subst (λ (o : ℕ). Only o 772 flags flags₃) ex
-    (only_then (only_in (omega arith) (omega arith) K₁) (only_then (only_in (omega arith) (omega arith) S.written) (only_in (omega arith) (omega arith) M.written))) in
-    K
+    let before : endable_in flags₁ ≡ endable_in flags = endable_kept (omega arith) K₁ in
+    record {
+      tables = judged O P st d flags₃ (n₃ ∙ n₂ ∙ n₁) K
+          (truths_told O st _ told)
+          (subst₂ (λ (t f : List Bool). FinalsKnown (runs c.args.s.now c.args.found.layout c.args.found.interrupts)
+          (many c.args.found.layout c.args.found.interrupts) t st.running f)
+          (truths flags₃) (finals flags₃) M.finals)
+          (λ i l. ap (λ (y : List Bool). get_or y i true) (sym (finals flags₃)) ∙ M.behind i l ∙ ap (λ (y : List Bool). get_or y i true) (S.finals ∙ before));
+      written = K;
+    }

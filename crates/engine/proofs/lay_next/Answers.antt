@@ -32,25 +32,24 @@ overflow_add-at-2 c =
     let F = c.requires.2.frame in
     omega (arith, frame_by c.requires.0 c.args.d, next_inside F, F.roomy.small, c.requires.0.frame_is)
 
-pub step_rest-requires-clause-program_table : goal.step_rest-requires-clause-program_table
-step_rest-requires-clause-program_table c =
-    let O = c.requires.0 in
-    programs_long _ _ (in_sheet O)
-
-pub step_rest-requires-clause-can_step : goal.step_rest-requires-clause-can_step
-step_rest-requires-clause-can_step c =
+pub step_rest-requires : goal.step_rest-requires
+step_rest-requires c =
     let O = c.requires.0 in
     let d = c.args.d in
     let x = c.flags_from-from.result in
     let y = c.counts_from-first.result in
     let ex = c.flags_from-from.ensures.0 in
     let flags = c.args.flags.now in
-    let numbers = c.args.numbers.now in asked O c.requires.1 _ _ _ _ _
-    (window_at x (truths_from d) (x + 512) 512 flags ex (omega arith))
-    (window_at (x + 512) (finals_from d) (x + 512 + 260) 260 flags (omega (arith, ex)) (omega arith))
-    (window_at y (counts_from d) (y + 260) 260 numbers c.counts_from-first.ensures.0 (omega arith))
-    (omega (arith, frame_by O d))
-    (omega (arith, frame_by O d, O.frame_is)) c.requires.2
+    let numbers = c.args.numbers.now in
+    record {
+      program_table = programs_long _ _ (in_sheet O);
+      can_step = asked O c.requires.1 _ _ _ _ _
+          (window_at x (truths_from d) (x + 512) 512 flags ex (omega arith))
+          (window_at (x + 512) (finals_from d) (x + 512 + 260) 260 flags (omega (arith, ex)) (omega arith))
+          (window_at y (counts_from d) (y + 260) 260 numbers c.counts_from-first.ensures.0 (omega arith))
+          (omega (arith, frame_by O d))
+          (omega (arith, frame_by O d, O.frame_is)) c.requires.2;
+    }
 
 pub returns : goal.returns
 returns c =

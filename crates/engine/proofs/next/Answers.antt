@@ -25,16 +25,15 @@ returns-in_default c =
     let P = c.requires in
     absurd (none_left P.0.accepted c.lay_next-turn.ensures P.2 _ _ c.in_default.is c.if-k.false)
 
-pub state_after-state-requires-clause-of : goal.state_after-state-requires-clause-of
-state_after-state-requires-clause-of c =
+pub state_after-state-requires : goal.state_after-state-requires
+state_after-state-requires c =
     let P = c.requires in
     let x = c.flags_from-from.result in
-    let T = window_at x (truths_from c.args.d) (x + 512) 512 c.args.flags.now c.flags_from-from.ensures.0 (omega arith) in (P.0, subst (AreTruths (world_of c.args.s.now) c.args.st (layout_of c.args.s.now).q) (sym T) P.1.truths_are)
-
-pub state_after-state-requires-clause-known : goal.state_after-state-requires-clause-known
-state_after-state-requires-clause-known c =
-    let P = c.requires in
-    made_known P.0.accepted c.lay_next-turn.ensures P.2 c.in-Made.is
+    let T = window_at x (truths_from c.args.d) (x + 512) 512 c.args.flags.now c.flags_from-from.ensures.0 (omega arith) in
+    record {
+      of = (P.0, subst (AreTruths (world_of c.args.s.now) c.args.st (layout_of c.args.s.now).q) (sym T) P.1.truths_are);
+      known = made_known P.0.accepted c.lay_next-turn.ensures P.2 c.in-Made.is;
+    }
 
 pub returns : goal.returns
 returns c =

@@ -17,17 +17,15 @@ put_node-requires c =
     let long = work_long c.args.s.now c.args.work.now (c.requires.1 ∙ c.requires.0.words_are) in
     search rules
 
-pub returns-clause-frame : goal.returns-clause-frame
-returns-clause-frame c =
+pub returns : goal.returns
+returns c =
     let O = c.requires.0 in
     let N = c.put_node.ensures in
     let w = c.put_node.new.work in
     let long = work_long c.args.s.now c.args.work.now (c.requires.1 ∙ c.requires.0.words_are) in
     let i = c.top_of.ensures.0 ∙ ap₂ (λ (b : Bool) (l : Layout). top b l.p) O.interrupts_are O.layout_is in
     let a = put_leaf 64 c.top_of.result c.args.work.now w N (omega arith) in
-    first_frame O.accepted (N.len ∙ c.requires.1 ∙ O.words_are) (subst (λ (k : ℕ). At (leaf k) w 64) i a)
-
-pub returns-clause-places : goal.returns-clause-places
-returns-clause-places c =
-    let N = c.put_node.ensures in
-    N.len
+    record {
+      frame = first_frame O.accepted (N.len ∙ c.requires.1 ∙ O.words_are) (subst (λ (k : ℕ). At (leaf k) w 64) i a);
+      places = N.len;
+    }

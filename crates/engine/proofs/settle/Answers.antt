@@ -29,14 +29,12 @@ loop-i-preserved c =
 pub shape_of-flags : goal.shape_of-flags
 shape_of-flags c = c.loop-i.invariant.1
 
-pub returns-clause-written : goal.returns-clause-written
-returns-clause-written c =
-    let I = c.loop-i.invariant in
-    I.2
-
-pub returns-clause-finals : goal.returns-clause-finals
-returns-clause-finals c =
+pub returns : goal.returns
+returns c =
     let I = c.loop-i.invariant in
     let to = c.args.to in
     let n = length-take-le 260 c.args.flags.now (omega arith) in
-    same_all I.3 (window_long to 260 c.loop-i.flags (omega (arith, I.1)) ∙ sym n) (omega (arith, n))
+    record {
+      written = I.2;
+      finals = same_all I.3 (window_long to 260 c.loop-i.flags (omega (arith, I.1)) ∙ sym n) (omega (arith, n));
+    }

@@ -25,26 +25,17 @@ total-totals-requires c =
       F.roomy.small,
     )
 
-pub returns-clause-answer : goal.returns-clause-answer
-returns-clause-answer c =
-    let O = c.requires.of.0 in
-    let d = c.args.d in
-    let long = c.tally.ensures.tables.prepared.numbers_long in
-    let S = counted c.count_survey.ensures.written c.count_survey.auto.numbers long c.tally.ensures.tables in
-    λ left p F. tells O.accepted F c.args.st S
-    (c.total-totals.ensures F.rest (subst (λ (o : ℕ). At F.rest c.args.work.now (o + header)) (sym (frame_by O d)) F.words_are))
-
-pub returns-clause-tables : goal.returns-clause-tables
-returns-clause-tables c =
-    let long = c.tally.ensures.tables.prepared.numbers_long in
-    let S = counted c.count_survey.ensures.written c.count_survey.auto.numbers long c.tally.ensures.tables in
-    S
-
-pub returns-clause-written : goal.returns-clause-written
-returns-clause-written c =
+pub returns : goal.returns
+returns c =
     let O = c.requires.of.0 in
     let P = c.requires.of.1 in
     let d = c.args.d in
     let long = c.tally.ensures.tables.prepared.numbers_long in
     let S = counted c.count_survey.ensures.written c.count_survey.auto.numbers long c.tally.ensures.tables in
-    let T = filled d P.flags_long P.numbers_long c.judge.ensures.written c.judge.auto.flags c.tally.ensures.written c.tally.auto.numbers in filled_then T (counted_filled c.count_survey.ensures.written c.count_survey.auto.numbers long d d) d d (omega arith) (omega arith) (omega arith) (omega arith)
+    let T = filled d P.flags_long P.numbers_long c.judge.ensures.written c.judge.auto.flags c.tally.ensures.written c.tally.auto.numbers in
+    record {
+      answer = λ left p F. tells O.accepted F c.args.st S
+          (c.total-totals.ensures F.rest (subst (λ (o : ℕ). At F.rest c.args.work.now (o + header)) (sym (frame_by O d)) F.words_are));
+      tables = S;
+      written = filled_then T (counted_filled c.count_survey.ensures.written c.count_survey.auto.numbers long d d) d d (omega arith) (omega arith) (omega arith) (omega arith);
+    }

@@ -34,8 +34,8 @@ slice_bounds-tallies-start-3 c = let o = in_order (in_sheet c.requires.0) in ome
 pub slice_bounds-tallies-end-3 : goal.slice_bounds-tallies-end-3
 slice_bounds-tallies-end-3 c = let o = in_order (in_sheet c.requires.0) in omega arith
 
-pub tallies-requires-clause-program_table : goal.tallies-requires-clause-program_table
-tallies-requires-clause-program_table c =
+pub tallies-requires : goal.tallies-requires
+tallies-requires c =
     let O = c.requires.0 in
     let J = c.requires.1 in
     let d = c.args.d in
@@ -50,27 +50,14 @@ tallies-requires-clause-program_table c =
     let T = window_at x (truths_from d) (x + 512) 512 flags e (omega arith) in
     let F = window_at (x + 512) (finals_from d) (x + 512 + 260) 260 flags (omega (arith, e)) (omega arith) in
     let N = window_at y (counts_from d) (y + 260) 260 numbers c.counts_from-first.ensures.0 (omega arith) in
-    let r = programs_long _ _ (in_sheet O) in (r, ap length N ∙ counts_long J.prepared d)
+    let r = programs_long _ _ (in_sheet O) in
+    record {
+      program_table = (r, ap length N ∙ counts_long J.prepared d);
+      tallyable = subst₂ (λ (t f : List Bool). Tallyable (runs s l b) (many l b) (actions_in s l) t c.args.st.running f) (sym T) (sym F) (tallyable O J);
+    }
 
-pub tallies-requires-clause-tallyable : goal.tallies-requires-clause-tallyable
-tallies-requires-clause-tallyable c =
-    let O = c.requires.0 in
-    let J = c.requires.1 in
-    let d = c.args.d in
-    let s = c.args.s.now in
-    let l = c.args.found.layout in
-    let b = c.args.found.interrupts in
-    let flags = c.args.flags.now in
-    let numbers = c.args.numbers.now in
-    let x = c.flags_from-from.result in
-    let y = c.counts_from-first.result in
-    let e = c.flags_from-from.ensures.0 in
-    let T = window_at x (truths_from d) (x + 512) 512 flags e (omega arith) in
-    let F = window_at (x + 512) (finals_from d) (x + 512 + 260) 260 flags (omega (arith, e)) (omega arith) in
-    subst₂ (λ (t f : List Bool). Tallyable (runs s l b) (many l b) (actions_in s l) t c.args.st.running f) (sym T) (sym F) (tallyable O J)
-
-pub returns-clause-tables : goal.returns-clause-tables
-returns-clause-tables c =
+pub returns : goal.returns
+returns c =
     let O = c.requires.0 in
     let J = c.requires.1 in
     let d = c.args.d in
@@ -92,28 +79,9 @@ returns-clause-tables c =
     let K : Only (counts_from d) 260 numbers new = subst (λ (o : ℕ). Only o 260 numbers new) ey (only_put y (y + 260) 260 numbers counts (omega arith) fits long) in
     let e : counts_at d new ≡ counts = subst (λ (o : ℕ). window o 260 new ≡ counts) ey (window_put y (y + 260) 260 numbers counts (omega arith) fits long) in
     let conflicted = c.conflicted_at-conflicted.result in
-    let told = subst₂ (λ (t : List Bool) (k : List ℕ). Tallied (runs s l b) (many l b) (actions_in s l) t conflicted st.running k counts) T N c.tallies.ensures.counts in surveyed O J new conflicted (same_len_mid y (y + 260 - y) numbers counts c.tallies.auto.counts) K c.conflicted_at-conflicted.ensures
-    (subst (λ (k : List ℕ). Tallied (runs s l b) (many l b) (actions_in s l) (truths_at d flags) conflicted st.running (counts_at d numbers) k) (sym e) told)
-
-pub returns-clause-written : goal.returns-clause-written
-returns-clause-written c =
-    let O = c.requires.0 in
-    let J = c.requires.1 in
-    let d = c.args.d in
-    let st = c.args.st in
-    let s = c.args.s.now in
-    let l = c.args.found.layout in
-    let b = c.args.found.interrupts in
-    let flags = c.args.flags.now in
-    let numbers = c.args.numbers.now in
-    let x = c.flags_from-from.result in
-    let y = c.counts_from-first.result in
-    let T = window_at x (truths_from d) (x + 512) 512 flags c.flags_from-from.ensures.0 (omega arith) in
-    let ey = c.counts_from-first.ensures.0 in
-    let N = window_at y (counts_from d) (y + 260) 260 numbers ey (omega arith) in
-    let counts = c.tallies.new.counts in
-    let long = c.tallies.ensures.places in
-    let fits : y + 260 ≤ length numbers = omega (arith, c.counts_from-first.ensures.1, J.prepared.numbers_long) in
-    let new = put_mid y (y + 260 - y) numbers counts in
-    let K : Only (counts_from d) 260 numbers new = subst (λ (o : ℕ). Only o 260 numbers new) ey (only_put y (y + 260) 260 numbers counts (omega arith) fits long) in
-    K
+    let told = subst₂ (λ (t : List Bool) (k : List ℕ). Tallied (runs s l b) (many l b) (actions_in s l) t conflicted st.running k counts) T N c.tallies.ensures.counts in
+    record {
+      tables = surveyed O J new conflicted (same_len_mid y (y + 260 - y) numbers counts c.tallies.auto.counts) K c.conflicted_at-conflicted.ensures
+          (subst (λ (k : List ℕ). Tallied (runs s l b) (many l b) (actions_in s l) (truths_at d flags) conflicted st.running (counts_at d numbers) k) (sym e) told);
+      written = K;
+    }

@@ -34,12 +34,13 @@ explore-o-requires c =
 
 pub lower-requires : goal.lower-requires
 lower-requires c =
+    let asked : Reported 0 0 c.loop-low.best c.explore-o.new.trace c.explore-o.result (verdict_from c.args.s.now c.next_bound-t.result (first_of c.args.s.now, unguided)) =
+    any_asked c.args.s.now _ c.next_bound-t.result false c.any_run-a.ensures c.explore-o.ensures.answer in
     let B = c.loop-low.invariant.1 in
     let t = c.next_bound-t.result in
     let few = c.next_bound-t.ensures.1 in
     let stops = sym c.is_more.ensures ∙ c.if-not-is_more.true in
-    let out = tried_out B.tried t (omega (arith, few, B.bound)) ((let fact : Reported 0 0 c.loop-low.best c.explore-o.new.trace c.explore-o.result (verdict_from c.args.s.now c.next_bound-t.result (first_of c.args.s.now, unguided)) =
-    any_asked c.args.s.now _ c.next_bound-t.result false c.any_run-a.ensures c.explore-o.ensures.answer in fact)) (omega (arith, few, B.room)) stops in
+    let out = tried_out B.tried t (omega (arith, few, B.bound)) asked (omega (arith, few, B.room)) stops in
     (c.explore-o.ensures.stands, omega (arith, c.explore-o.auto.trace, B.bound, B.room), out, c.explore-o.ensures.index)
 
 pub shape_of-work-then-not-is_more : goal.shape_of-work-then-not-is_more
@@ -78,12 +79,13 @@ loop-low-smaller c =
 
 pub loop-low-preserved : goal.loop-low-preserved
 loop-low-preserved c =
+    let asked : Reported 0 0 c.loop-low.best c.explore-o.new.trace c.explore-o.result (verdict_from c.args.s.now c.next_bound-t.result (first_of c.args.s.now, unguided)) =
+    any_asked c.args.s.now _ c.next_bound-t.result false c.any_run-a.ensures c.explore-o.ensures.answer in
     let B = c.loop-low.invariant.1 in
     let t = c.next_bound-t.result in
     let few = c.next_bound-t.ensures.1 in
     let goes = sym c.is_more.ensures ∙ c.if-not-is_more.false in
-    let on = tried_on B.tried t (omega (arith, few, B.bound)) ((let fact : Reported 0 0 c.loop-low.best c.explore-o.new.trace c.explore-o.result (verdict_from c.args.s.now c.next_bound-t.result (first_of c.args.s.now, unguided)) =
-    any_asked c.args.s.now _ c.next_bound-t.result false c.any_run-a.ensures c.explore-o.ensures.answer in fact)) goes in
+    let on = tried_on B.tried t (omega (arith, few, B.bound)) asked goes in
     let k = c.explore-o.auto in (
       kept_on c.loop-low.invariant.0 k.work k.flags k.numbers k.index (c.explore-o.ensures.stands, c.explore-o.ensures.index),
       record {
@@ -110,16 +112,12 @@ shape_of-numbers c = c.loop-low.invariant.0.numbers_long
 pub shape_of-index : goal.shape_of-index
 shape_of-index c = c.loop-low.invariant.0.index_long
 
-pub returns-clause-answer : goal.returns-clause-answer
-returns-clause-answer c =
+pub returns : goal.returns
+returns c =
     let B = c.loop-low.invariant.1 in
     let e : c.loop-low.low ≡ suc (bound_of c.args.s.now) = omega (arith, B.bound, B.inside, c.loop-low-test.false) in
-    all_tried c.loop-low.best (subst (Tried c.args.s.now) e B.tried)
-
-pub returns-clause-stands : goal.returns-clause-stands
-returns-clause-stands c =
-    c.loop-low.invariant.0.standing
-
-pub returns-clause-index : goal.returns-clause-index
-returns-clause-index c =
-    c.loop-low.invariant.0.lasting
+    record {
+      answer = all_tried c.loop-low.best (subst (Tried c.args.s.now) e B.tried);
+      stands = c.loop-low.invariant.0.standing;
+      index = c.loop-low.invariant.0.lasting;
+    }

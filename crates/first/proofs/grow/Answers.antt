@@ -17,8 +17,12 @@ loop-settled-smaller c =
 pub loop-settled-preserved : goal.loop-settled-preserved
 loop-settled-preserved c =
     let v = c.loop-settled.invariant in
-    let k = c.narrow-best.auto in
-    (kept_on v.0 k.work k.flags k.numbers k.index (c.narrow-best.ensures.stands, c.narrow-best.ensures.index), v.1, c.narrow-best.ensures.answer, omega (arith, v.2.within.few, c.loop-settled-test.true))
+    let k = c.narrow-best.auto in (
+      kept_on v.0 k.work k.flags k.numbers k.index (c.narrow-best.ensures.stands, c.narrow-best.ensures.index),
+      v.1,
+      c.narrow-best.ensures.answer,
+      omega (arith, v.2.within.few, c.loop-settled-test.true),
+    )
 
 pub shape_of-work : goal.shape_of-work
 shape_of-work c = c.loop-settled.invariant.0.work_long
@@ -32,17 +36,11 @@ shape_of-numbers c = c.loop-settled.invariant.0.numbers_long
 pub shape_of-index : goal.shape_of-index
 shape_of-index c = c.loop-settled.invariant.0.index_long
 
-pub returns-clause-answer : goal.returns-clause-answer
-returns-clause-answer c =
+pub returns : goal.returns
+returns c =
     let v = c.loop-settled.invariant in
-    (v.2.within, settled_first v.1 v.2 c.loop-settled-test.false)
-
-pub returns-clause-stands : goal.returns-clause-stands
-returns-clause-stands c =
-    let v = c.loop-settled.invariant in
-    v.0.standing
-
-pub returns-clause-index : goal.returns-clause-index
-returns-clause-index c =
-    let v = c.loop-settled.invariant in
-    v.0.lasting
+    record {
+      answer = (v.2.within, settled_first v.1 v.2 c.loop-settled-test.false);
+      stands = v.0.standing;
+      index = v.0.lasting;
+    }

@@ -83,17 +83,11 @@ shape_of-numbers c = c.loop-tried.invariant.0.numbers_long
 pub shape_of-index : goal.shape_of-index
 shape_of-index c = c.loop-tried.invariant.0.index_long
 
-pub returns-clause-answer : goal.returns-clause-answer
-returns-clause-answer c =
+pub returns : goal.returns
+returns c =
     let v = c.loop-tried.invariant in
-    lowest v.1.so_far (omega (arith, c.transition_count.ensures, c.loop-tried-test.false))
-
-pub returns-clause-stands : goal.returns-clause-stands
-returns-clause-stands c =
-    let v = c.loop-tried.invariant in
-    v.0.standing
-
-pub returns-clause-index : goal.returns-clause-index
-returns-clause-index c =
-    let v = c.loop-tried.invariant in
-    v.0.lasting
+    record {
+      answer = lowest v.1.so_far (omega (arith, c.transition_count.ensures, c.loop-tried-test.false));
+      stands = v.0.standing;
+      index = v.0.lasting;
+    }

@@ -25,28 +25,42 @@ ask-a-requires c =
     (v.0.standing, v.1.bounded, v.2.narrowing.within, narrowing_inside v.2.narrowing, v.0.lasting)
 
 pub rank_at-requires-in-loop-low : goal.rank_at-requires-in-loop-low
-rank_at-requires-in-loop-low c = ((let fact : Narrowing c.args.s.now c.args.t c.args.i c.if-not-a.low c.ask-a.result.history × (rank_of c.ask-a.result.history c.args.i - c.if-not-a.low < rank_of c.loop-low.best c.args.i - c.loop-low.low) =
+rank_at-requires-in-loop-low c =
+    let nearer : Narrowing c.args.s.now c.args.t c.args.i c.if-not-a.low c.ask-a.result.history
+    × (rank_of c.ask-a.result.history c.args.i - c.if-not-a.low < rank_of c.loop-low.best c.args.i - c.loop-low.low) =
     let H = c.loop-low.invariant.2 in
-    narrowing_on H.narrowing record { low = c.loop-low.low; high = c.loop-low.high } c.if-not-a.low c.loop-low.invariant.1 refl (H.past (omega (arith, c.rank_at.ensures.0, c.loop-low-test.true)))
-    H.at_most c.ask-a.ensures.answer (elim c.if-not-a.branch [
+    narrowing_on H.narrowing record { low = c.loop-low.low; high = c.loop-low.high } c.if-not-a.low c.loop-low.invariant.1 refl
+    (H.past (omega (arith, c.rank_at.ensures.0, c.loop-low-test.true))) H.at_most c.ask-a.ensures.answer (elim c.if-not-a.branch [
       | then-not-a w ↦ inr (not-true _ w.if-not-a.true, w.low-is)
       | else-not-a w ↦ inl (not-false _ w.if-not-a.false, w.low-is)
-    ]) in fact)).0.within
+    ]) in
+    nearer.0.within
 
 pub middle-high-requires : goal.middle-high-requires
 middle-high-requires c = c.rank_at-in-loop-low.ensures.1
 
 pub loop-low-smaller : goal.loop-low-smaller
-loop-low-smaller c = ((let fact : Narrowing c.args.s.now c.args.t c.args.i c.if-not-a.low c.ask-a.result.history × (rank_of c.ask-a.result.history c.args.i - c.if-not-a.low < rank_of c.loop-low.best c.args.i - c.loop-low.low) =
+loop-low-smaller c =
+    let nearer : Narrowing c.args.s.now c.args.t c.args.i c.if-not-a.low c.ask-a.result.history
+    × (rank_of c.ask-a.result.history c.args.i - c.if-not-a.low < rank_of c.loop-low.best c.args.i - c.loop-low.low) =
     let H = c.loop-low.invariant.2 in
-    narrowing_on H.narrowing record { low = c.loop-low.low; high = c.loop-low.high } c.if-not-a.low c.loop-low.invariant.1 refl (H.past (omega (arith, c.rank_at.ensures.0, c.loop-low-test.true)))
-    H.at_most c.ask-a.ensures.answer (elim c.if-not-a.branch [
+    narrowing_on H.narrowing record { low = c.loop-low.low; high = c.loop-low.high } c.if-not-a.low c.loop-low.invariant.1 refl
+    (H.past (omega (arith, c.rank_at.ensures.0, c.loop-low-test.true))) H.at_most c.ask-a.ensures.answer (elim c.if-not-a.branch [
       | then-not-a w ↦ inr (not-true _ w.if-not-a.true, w.low-is)
       | else-not-a w ↦ inl (not-false _ w.if-not-a.false, w.low-is)
-    ]) in fact)).1
+    ]) in
+    nearer.1
 
 pub loop-low-preserved : goal.loop-low-preserved
 loop-low-preserved c =
+    let nearer : Narrowing c.args.s.now c.args.t c.args.i c.if-not-a.low c.ask-a.result.history
+    × (rank_of c.ask-a.result.history c.args.i - c.if-not-a.low < rank_of c.loop-low.best c.args.i - c.loop-low.low) =
+    let H = c.loop-low.invariant.2 in
+    narrowing_on H.narrowing record { low = c.loop-low.low; high = c.loop-low.high } c.if-not-a.low c.loop-low.invariant.1 refl
+    (H.past (omega (arith, c.rank_at.ensures.0, c.loop-low-test.true))) H.at_most c.ask-a.ensures.answer (elim c.if-not-a.branch [
+      | then-not-a w ↦ inr (not-true _ w.if-not-a.true, w.low-is)
+      | else-not-a w ↦ inl (not-false _ w.if-not-a.false, w.low-is)
+    ]) in
     let v = c.loop-low.invariant in
     let e = c.rank_at-in-loop-low.ensures.0 in
     let m = c.middle-high.ensures in
@@ -54,13 +68,7 @@ loop-low-preserved c =
       kept_on v.0 k.work k.flags k.numbers k.index (c.ask-a.ensures.stands, c.ask-a.ensures.index),
       v.1,
       record {
-        narrowing = ((let fact : Narrowing c.args.s.now c.args.t c.args.i c.if-not-a.low c.ask-a.result.history × (rank_of c.ask-a.result.history c.args.i - c.if-not-a.low < rank_of c.loop-low.best c.args.i - c.loop-low.low) =
-            let H = c.loop-low.invariant.2 in
-            narrowing_on H.narrowing record { low = c.loop-low.low; high = c.loop-low.high } c.if-not-a.low c.loop-low.invariant.1 refl (H.past (omega (arith, c.rank_at.ensures.0, c.loop-low-test.true)))
-            H.at_most c.ask-a.ensures.answer (elim c.if-not-a.branch [
-              | then-not-a w ↦ inr (not-true _ w.if-not-a.true, w.low-is)
-              | else-not-a w ↦ inl (not-false _ w.if-not-a.false, w.low-is)
-            ]) in fact)).0;
+        narrowing = nearer.0;
         at_most = omega (arith, e, m.0);
         past = λ k. m.1 (omega (arith, e, k));
       },

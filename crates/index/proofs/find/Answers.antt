@@ -1,9 +1,11 @@
 -- The head of a bucket leads to entries, and the entry that is found has the key; what its second word leaves by 2 ^ 25 is its value. Assumes
 -- nothing.
 use Prim.Native.Nat.{◌+◌, ◌≤◌, ◌<◌}
-use Rattle.index.specs.Content.{Located}
+use Rattle.index.specs.Content.{Entry, Says, Located}
 use Rattle.index.proofs.Content.{heads_few, head_inside, head_linked, located_inside, tells}
 use lib.ListN.{length}
+use mathlib.Core.List.{List}
+use mathlib.Core.Path.{◌≡◌}
 use native.Mathlib.Omega.{arith}
 use Rattle.index.proofs.find.Goals as goal
 
@@ -25,26 +27,31 @@ look-at-requires c =
     (es, S, head_linked _ es S _ _ _ c.heads-n.ensures c.bucket-head.ensures c.wide.ensures.0)
 
 pub overflow_add-result : goal.overflow_add-result
-overflow_add-result c = omega (
-  arith,
-  (let fact : (1 < c.look-at.result) × (c.look-at.result + 2 ≤ length c.args.index.now) = let (es, S) = c.requires in located_inside _ es S _ _ ((let fact : Located es c.args.key.now c.look-at.result =
-      c.look-at.ensures es S (head_linked _ es S _ _ _ c.heads-n.ensures c.bucket-head.ensures c.wide.ensures.0) in fact)) c.if-at-eq0.false in fact),
-)
+overflow_add-result c =
+    let found : (es : List Entry) → Says c.args.index.now es → Located es c.args.key.now c.look-at.result =
+    λ es S. c.look-at.ensures es S (head_linked _ es S _ _ _ c.heads-n.ensures c.bucket-head.ensures c.wide.ensures.0) in
+    let inside : (c.look-at.result ≡ 0 → ⊥) → (1 < c.look-at.result) × (c.look-at.result + 2 ≤ length c.args.index.now) =
+    λ h. let (es, S) = c.requires in located_inside _ es S _ _ (found es S) h in
+    omega (arith, inside c.if-at-eq0.false)
 
 pub offset_bounds-index-at : goal.offset_bounds-index-at
-offset_bounds-index-at c = omega (
-  arith,
-  (let fact : (1 < c.look-at.result) × (c.look-at.result + 2 ≤ length c.args.index.now) = let (es, S) = c.requires in located_inside _ es S _ _ ((let fact : Located es c.args.key.now c.look-at.result =
-      c.look-at.ensures es S (head_linked _ es S _ _ _ c.heads-n.ensures c.bucket-head.ensures c.wide.ensures.0) in fact)) c.if-at-eq0.false in fact),
-)
+offset_bounds-index-at c =
+    let found : (es : List Entry) → Says c.args.index.now es → Located es c.args.key.now c.look-at.result =
+    λ es S. c.look-at.ensures es S (head_linked _ es S _ _ _ c.heads-n.ensures c.bucket-head.ensures c.wide.ensures.0) in
+    let inside : (c.look-at.result ≡ 0 → ⊥) → (1 < c.look-at.result) × (c.look-at.result + 2 ≤ length c.args.index.now) =
+    λ h. let (es, S) = c.requires in located_inside _ es S _ _ (found es S) h in
+    omega (arith, inside c.if-at-eq0.false)
 
 pub bounds-index-at : goal.bounds-index-at
-bounds-index-at c = omega (
-  arith,
-  (let fact : (1 < c.look-at.result) × (c.look-at.result + 2 ≤ length c.args.index.now) = let (es, S) = c.requires in located_inside _ es S _ _ ((let fact : Located es c.args.key.now c.look-at.result =
-      c.look-at.ensures es S (head_linked _ es S _ _ _ c.heads-n.ensures c.bucket-head.ensures c.wide.ensures.0) in fact)) c.if-at-eq0.false in fact),
-)
+bounds-index-at c =
+    let found : (es : List Entry) → Says c.args.index.now es → Located es c.args.key.now c.look-at.result =
+    λ es S. c.look-at.ensures es S (head_linked _ es S _ _ _ c.heads-n.ensures c.bucket-head.ensures c.wide.ensures.0) in
+    let inside : (c.look-at.result ≡ 0 → ⊥) → (1 < c.look-at.result) × (c.look-at.result + 2 ≤ length c.args.index.now) =
+    λ h. let (es, S) = c.requires in located_inside _ es S _ _ (found es S) h in
+    omega (arith, inside c.if-at-eq0.false)
 
 pub returns : goal.returns
-returns c = λ es S. tells _ es S _ _ ((let fact : Located es c.args.key.now c.look-at.result =
-    c.look-at.ensures es S (head_linked _ es S _ _ _ c.heads-n.ensures c.bucket-head.ensures c.wide.ensures.0) in fact)) c.if-at-eq0.false
+returns c =
+    let found : (es : List Entry) → Says c.args.index.now es → Located es c.args.key.now c.look-at.result =
+    λ es S. c.look-at.ensures es S (head_linked _ es S _ _ _ c.heads-n.ensures c.bucket-head.ensures c.wide.ensures.0) in
+    λ es S. tells _ es S _ _ (found es S) c.if-at-eq0.false

@@ -1,9 +1,11 @@
 -- Nothing is noted, the value in a key's entry is written anew, or an entry is added. Assumes nothing.
 use Prim.Native.Nat.{◌+◌, ◌≤◌, ◌<◌}
-use Rattle.index.specs.Content.{Located}
+use Rattle.index.specs.Content.{Entry, Says, Located}
 use Rattle.index.proofs.Changed.{notes_nothing, notes_anew}
 use Rattle.index.proofs.Content.{heads_few, head_inside, head_linked, located_entry, located_inside}
 use lib.ListN.{length}
+use mathlib.Core.List.{List}
+use mathlib.Core.Path.{◌≡◌}
 use native.Mathlib.Omega.{arith}
 use Rattle.index.proofs.note.Goals as goal
 
@@ -32,28 +34,33 @@ look-at-requires c =
     (es, S, head_linked _ es S _ _ _ c.heads-n.ensures c.bucket-head.ensures c.wide.ensures.0)
 
 pub overflow_add-index : goal.overflow_add-index
-overflow_add-index c = omega (
-  arith,
-  (let fact : (1 < c.look-at.result) × (c.look-at.result + 2 ≤ length c.args.index.now) = let (es, S) = c.requires.0 in located_inside _ es S _ _ ((let fact : Located es c.args.key.now c.look-at.result =
-      c.look-at.ensures es S (head_linked _ es S _ _ _ c.heads-n.ensures c.bucket-head.ensures c.wide.ensures.0) in fact)) c.if-at-eq0.false in fact),
-)
+overflow_add-index c =
+    let found : (es : List Entry) → Says c.args.index.now es → Located es c.args.key.now c.look-at.result =
+    λ es S. c.look-at.ensures es S (head_linked _ es S _ _ _ c.heads-n.ensures c.bucket-head.ensures c.wide.ensures.0) in
+    let inside : (c.look-at.result ≡ 0 → ⊥) → (1 < c.look-at.result) × (c.look-at.result + 2 ≤ length c.args.index.now) =
+    λ h. let (es, S) = c.requires.0 in located_inside _ es S _ _ (found es S) h in
+    omega (arith, inside c.if-at-eq0.false)
 
 pub offset_bounds-index-at : goal.offset_bounds-index-at
-offset_bounds-index-at c = omega (
-  arith,
-  (let fact : (1 < c.look-at.result) × (c.look-at.result + 2 ≤ length c.args.index.now) = let (es, S) = c.requires.0 in located_inside _ es S _ _ ((let fact : Located es c.args.key.now c.look-at.result =
-      c.look-at.ensures es S (head_linked _ es S _ _ _ c.heads-n.ensures c.bucket-head.ensures c.wide.ensures.0) in fact)) c.if-at-eq0.false in fact),
-)
+offset_bounds-index-at c =
+    let found : (es : List Entry) → Says c.args.index.now es → Located es c.args.key.now c.look-at.result =
+    λ es S. c.look-at.ensures es S (head_linked _ es S _ _ _ c.heads-n.ensures c.bucket-head.ensures c.wide.ensures.0) in
+    let inside : (c.look-at.result ≡ 0 → ⊥) → (1 < c.look-at.result) × (c.look-at.result + 2 ≤ length c.args.index.now) =
+    λ h. let (es, S) = c.requires.0 in located_inside _ es S _ _ (found es S) h in
+    omega (arith, inside c.if-at-eq0.false)
 
 pub bounds-index-at : goal.bounds-index-at
-bounds-index-at c = omega (
-  arith,
-  (let fact : (1 < c.look-at.result) × (c.look-at.result + 2 ≤ length c.args.index.now) = let (es, S) = c.requires.0 in located_inside _ es S _ _ ((let fact : Located es c.args.key.now c.look-at.result =
-      c.look-at.ensures es S (head_linked _ es S _ _ _ c.heads-n.ensures c.bucket-head.ensures c.wide.ensures.0) in fact)) c.if-at-eq0.false in fact),
-)
+bounds-index-at c =
+    let found : (es : List Entry) → Says c.args.index.now es → Located es c.args.key.now c.look-at.result =
+    λ es S. c.look-at.ensures es S (head_linked _ es S _ _ _ c.heads-n.ensures c.bucket-head.ensures c.wide.ensures.0) in
+    let inside : (c.look-at.result ≡ 0 → ⊥) → (1 < c.look-at.result) × (c.look-at.result + 2 ≤ length c.args.index.now) =
+    λ h. let (es, S) = c.requires.0 in located_inside _ es S _ _ (found es S) h in
+    omega (arith, inside c.if-at-eq0.false)
 
 pub returns-else-at-eq0 : goal.returns-else-at-eq0
 returns-else-at-eq0 c =
-    notes_anew _ _ _ _ _ c.header.ensures c.requires.1 ((let fact : (1 < c.look-at.result) × (c.look-at.result + 2 ≤ length c.args.index.now) = let (es, S) = c.requires.0 in located_inside _ es S _ _ ((let fact : Located es c.args.key.now c.look-at.result =
-    c.look-at.ensures es S (head_linked _ es S _ _ _ c.heads-n.ensures c.bucket-head.ensures c.wide.ensures.0) in fact)) c.if-at-eq0.false in fact)).0 (λ es S. located_entry _ es S _ _ ((let fact : Located es c.args.key.now c.look-at.result =
-    c.look-at.ensures es S (head_linked _ es S _ _ _ c.heads-n.ensures c.bucket-head.ensures c.wide.ensures.0) in fact)) c.if-at-eq0.false)
+    let found : (es : List Entry) → Says c.args.index.now es → Located es c.args.key.now c.look-at.result =
+    λ es S. c.look-at.ensures es S (head_linked _ es S _ _ _ c.heads-n.ensures c.bucket-head.ensures c.wide.ensures.0) in
+    let inside : (c.look-at.result ≡ 0 → ⊥) → (1 < c.look-at.result) × (c.look-at.result + 2 ≤ length c.args.index.now) =
+    λ h. let (es, S) = c.requires.0 in located_inside _ es S _ _ (found es S) h in
+    notes_anew _ _ _ _ _ c.header.ensures c.requires.1 (inside c.if-at-eq0.false).0 (λ es S. located_entry _ es S _ _ (found es S) c.if-at-eq0.false)

@@ -12,60 +12,26 @@ use Rattle.machine.proofs.Keeping.{told_kept}
 use Rattle.machine.proofs.Surveying.{spans_known}
 use Rattle.machine.proofs.fill.Goals as goal
 
-pub fill_sets-requires-clause-ruled_tables : goal.fill_sets-requires-clause-ruled_tables
-fill_sets-requires-clause-ruled_tables c =
+pub fill_sets-requires : goal.fill_sets-requires
+fill_sets-requires c =
     let R = c.requires.ruled_tables in
     let T = c.requires.told_2 in
     let numbers = c.args.numbers.now in
     let programs = c.args.programs.now in
     let v = c.args.v in
     let x = c.sets_from-from.result in
-    let m = c.marks_in-marks.ensures in (R, window_at_long x (x + 8768) 8768 numbers (omega arith) (omega (arith, c.sets_from-from.ensures.1, T.long)))
-
-pub fill_sets-requires-clause-spans_known : goal.fill_sets-requires-clause-spans_known
-fill_sets-requires-clause-spans_known c =
-    let R = c.requires.ruled_tables in
-    let T = c.requires.told_2 in
-    let programs = c.args.programs.now in
-    let v = c.args.v in
-    subst (SpansKnown (records_of programs v) (many_of v)) (sym (c.spans_in-spans.ensures ∙ T.spans_are)) (spans_known R.once)
-
-pub fill_sets-requires-clause-marks_len : goal.fill_sets-requires-clause-marks_len
-fill_sets-requires-clause-marks_len c =
-    let R = c.requires.ruled_tables in
-    let T = c.requires.told_2 in
-    let numbers = c.args.numbers.now in
-    let programs = c.args.programs.now in
-    let v = c.args.v in
-    let x = c.sets_from-from.result in
-    let m = c.marks_in-marks.ensures in (
-      ap length m ∙ window_long 780 64 numbers (omega (arith, T.long)),
-      subst (Marks c.args.formulas.now c.args.effects.now c.args.actions.now programs v.p) (sym m) T.marks_are,
-    )
-
-pub returns-clause-told : goal.returns-clause-told
-returns-clause-told c =
-    let R = c.requires.ruled_tables in
-    let T = c.requires.told_2 in
-    let numbers = c.args.numbers.now in
-    let d = c.args.d in
-    let x = c.sets_from-from.result in
-    let ex = c.sets_from-from.ensures.0 in
-    let fits : x + 8768 ≤ length numbers = omega (arith, c.sets_from-from.ensures.1, T.long) in
-    let table = c.fill_sets.new.table in
-    let long : length table ≡ 8768 = c.fill_sets.auto.table ∙ window_at_long x (x + 8768) 8768 numbers (omega arith) fits in
-    let numbers' = put_mid x (x + 8768 - x) numbers table in
-    let len = same_len_mid x (x + 8768 - x) numbers table c.fill_sets.auto.table in
-    let K : Only (sets_from d) 8768 numbers numbers' =
-    subst (λ (o : ℕ). Only o 8768 numbers numbers') ex (only_put x (x + 8768) 8768 numbers table (omega arith) fits long) in
-    let same : sets_at d numbers' ≡ table = sym (ap (λ (o : ℕ). window o 8768 numbers') ex) ∙ window_put x (x + 8768) 8768 numbers table (omega arith) fits long in record {
-      told = told_kept K len (omega arith) T;
-      sets_known = subst (SetsKnown c.args.fluents.now c.args.formulas.now c.args.effects.now c.args.actions.now
-          c.args.programs.now c.args.v c.args.s) (sym same) c.fill_sets.ensures;
+    let m = c.marks_in-marks.ensures in
+    record {
+      ruled_tables = (R, window_at_long x (x + 8768) 8768 numbers (omega arith) (omega (arith, c.sets_from-from.ensures.1, T.long)));
+      spans_known = subst (SpansKnown (records_of programs v) (many_of v)) (sym (c.spans_in-spans.ensures ∙ T.spans_are)) (spans_known R.once);
+      marks_len = (
+        ap length m ∙ window_long 780 64 numbers (omega (arith, T.long)),
+        subst (Marks c.args.formulas.now c.args.effects.now c.args.actions.now programs v.p) (sym m) T.marks_are,
+      );
     }
 
-pub returns-clause-written : goal.returns-clause-written
-returns-clause-written c =
+pub returns : goal.returns
+returns c =
     let R = c.requires.ruled_tables in
     let T = c.requires.told_2 in
     let numbers = c.args.numbers.now in
@@ -79,4 +45,12 @@ returns-clause-written c =
     let len = same_len_mid x (x + 8768 - x) numbers table c.fill_sets.auto.table in
     let K : Only (sets_from d) 8768 numbers numbers' =
     subst (λ (o : ℕ). Only o 8768 numbers numbers') ex (only_put x (x + 8768) 8768 numbers table (omega arith) fits long) in
-    K
+    let same : sets_at d numbers' ≡ table = sym (ap (λ (o : ℕ). window o 8768 numbers') ex) ∙ window_put x (x + 8768) 8768 numbers table (omega arith) fits long in
+    record {
+      told = record {
+        told = told_kept K len (omega arith) T;
+        sets_known = subst (SetsKnown c.args.fluents.now c.args.formulas.now c.args.effects.now c.args.actions.now
+            c.args.programs.now c.args.v c.args.s) (sym same) c.fill_sets.ensures;
+      };
+      written = K;
+    }

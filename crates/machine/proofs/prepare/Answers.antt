@@ -21,14 +21,22 @@ put_numbers-requires-4 c =
     let n : length c.marks_of-marks.result ≡ 64 = search rules in
     omega (arith, n, c.put_numbers.ensures.len, c.put_numbers-2.ensures.len, c.put_numbers-3.ensures.len, c.requires.1)
 
-pub returns-clause-told : goal.returns-clause-told
-returns-clause-told c =
+pub returns : goal.returns
+returns c =
+    let spans_long : length c.spans-spans.result ≡ 260 =
+    search rules in
+    let digits_long : length c.digits-digits.result ≡ 260 =
+    search rules in
+    let distances_long : length c.distances-distances.result ≡ 260 =
+    search rules in
+    let marks_of_long : length c.marks_of-marks.result ≡ 64 =
+    search rules in
     let programs = c.args.programs.now in
     let v = c.args.v in
-    let al = (let fact : length c.spans-spans.result ≡ 260 = search rules in fact) in
-    let bl = (let fact : length c.digits-digits.result ≡ 260 = search rules in fact) in
-    let cl = (let fact : length c.distances-distances.result ≡ 260 = search rules in fact) in
-    let dl = (let fact : length c.marks_of-marks.result ≡ 64 = search rules in fact) in
+    let al = spans_long in
+    let bl = digits_long in
+    let cl = distances_long in
+    let dl = marks_of_long in
     let long = c.requires.1 in
     let A = c.put_numbers.ensures in
     let B = c.put_numbers-2.ensures in
@@ -36,19 +44,7 @@ returns-clause-told c =
     let D = c.put_numbers-4.ensures in
     let digits = c.digits-digits.ensures
     ∙ ap₂ (λ (x : List Bool) (y : List ℕ). digits_of (records_of programs v) (many_of v) x y) c.bounds-endable.ensures c.spans-spans.ensures in
-    put_told long A B C D al bl cl dl c.spans-spans.ensures digits c.distances-distances.ensures c.marks_of-marks.ensures
-
-pub returns-clause-written : goal.returns-clause-written
-returns-clause-written c =
-    let programs = c.args.programs.now in
-    let v = c.args.v in
-    let al = (let fact : length c.spans-spans.result ≡ 260 = search rules in fact) in
-    let bl = (let fact : length c.digits-digits.result ≡ 260 = search rules in fact) in
-    let cl = (let fact : length c.distances-distances.result ≡ 260 = search rules in fact) in
-    let dl = (let fact : length c.marks_of-marks.result ≡ 64 = search rules in fact) in
-    let long = c.requires.1 in
-    let A = c.put_numbers.ensures in
-    let B = c.put_numbers-2.ensures in
-    let C = c.put_numbers-3.ensures in
-    let D = c.put_numbers-4.ensures in
-    put_only long A B C D al bl cl dl
+    record {
+      told = put_told long A B C D al bl cl dl c.spans-spans.ensures digits c.distances-distances.ensures c.marks_of-marks.ensures;
+      written = put_only long A B C D al bl cl dl;
+    }

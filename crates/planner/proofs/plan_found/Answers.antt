@@ -11,65 +11,30 @@ use Rattle.planner.proofs.Demands.{ten, eleven, plan_cleared}
 use Rattle.planner.proofs.Reported.{planning, cleared}
 use Rattle.planner.proofs.plan_found.Goals as goal
 
-pub returns-then-trace-d-clause-answer : goal.returns-then-trace-d-clause-answer
-returns-then-trace-d-clause-answer c =
+pub returns-then-trace-d : goal.returns-then-trace-d
+returns-then-trace-d c =
     let O = c.requires in
     let e = ap (λ (l : Layout). l.d) O.layout_is in
     let r = ten _ _ _ (answered O) c.args.work.now c.args.trace.now (omega (arith, e, c.if-trace-d.true)) c.args.index.now in
-    c.refused.ensures ∙ sym r.0
+    record {
+      answer = c.refused.ensures ∙ sym r.0;
+      trace = sym r.1;
+      work = sym r.2;
+      index = sym r.3;
+    }
 
-pub returns-then-trace-d-clause-trace : goal.returns-then-trace-d-clause-trace
-returns-then-trace-d-clause-trace c =
-    let O = c.requires in
-    let e = ap (λ (l : Layout). l.d) O.layout_is in
-    let r = ten _ _ _ (answered O) c.args.work.now c.args.trace.now (omega (arith, e, c.if-trace-d.true)) c.args.index.now in
-    sym r.1
-
-pub returns-then-trace-d-clause-work : goal.returns-then-trace-d-clause-work
-returns-then-trace-d-clause-work c =
-    let O = c.requires in
-    let e = ap (λ (l : Layout). l.d) O.layout_is in
-    let r = ten _ _ _ (answered O) c.args.work.now c.args.trace.now (omega (arith, e, c.if-trace-d.true)) c.args.index.now in
-    sym r.2
-
-pub returns-then-trace-d-clause-index : goal.returns-then-trace-d-clause-index
-returns-then-trace-d-clause-index c =
-    let O = c.requires in
-    let e = ap (λ (l : Layout). l.d) O.layout_is in
-    let r = ten _ _ _ (answered O) c.args.work.now c.args.trace.now (omega (arith, e, c.if-trace-d.true)) c.args.index.now in
-    sym r.3
-
-pub returns-then-work-words-clause-answer : goal.returns-then-work-words-clause-answer
-returns-then-work-words-clause-answer c =
+pub returns-then-work-words : goal.returns-then-work-words
+returns-then-work-words c =
     let O = c.requires in
     let e = ap (λ (l : Layout). l.d) O.layout_is in
     let r = eleven _ _ _ (answered O) c.args.work.now c.if-work-words.true c.args.trace.now c.args.index.now
     (omega (arith, e, c.if-trace-d.false)) in
-    c.refused-then-work-words.ensures ∙ sym r.0
-
-pub returns-then-work-words-clause-trace : goal.returns-then-work-words-clause-trace
-returns-then-work-words-clause-trace c =
-    let O = c.requires in
-    let e = ap (λ (l : Layout). l.d) O.layout_is in
-    let r = eleven _ _ _ (answered O) c.args.work.now c.if-work-words.true c.args.trace.now c.args.index.now
-    (omega (arith, e, c.if-trace-d.false)) in
-    sym r.1
-
-pub returns-then-work-words-clause-work : goal.returns-then-work-words-clause-work
-returns-then-work-words-clause-work c =
-    let O = c.requires in
-    let e = ap (λ (l : Layout). l.d) O.layout_is in
-    let r = eleven _ _ _ (answered O) c.args.work.now c.if-work-words.true c.args.trace.now c.args.index.now
-    (omega (arith, e, c.if-trace-d.false)) in
-    sym r.2
-
-pub returns-then-work-words-clause-index : goal.returns-then-work-words-clause-index
-returns-then-work-words-clause-index c =
-    let O = c.requires in
-    let e = ap (λ (l : Layout). l.d) O.layout_is in
-    let r = eleven _ _ _ (answered O) c.args.work.now c.if-work-words.true c.args.trace.now c.args.index.now
-    (omega (arith, e, c.if-trace-d.false)) in
-    sym r.3
+    record {
+      answer = c.refused-then-work-words.ensures ∙ sym r.0;
+      trace = sym r.1;
+      work = sym r.2;
+      index = sym r.3;
+    }
 
 pub slice_bounds-plan-end-2 : goal.slice_bounds-plan-end-2
 slice_bounds-plan-end-2 c =
@@ -81,8 +46,8 @@ plan-requires c =
     let e = ap (λ (l : Layout). l.d) O.layout_is in
     (O, length-take-le c.args.found.words c.args.work.now c.if-work-words.false, omega (arith, e, c.if-trace-d.false))
 
-pub returns-clause-answer : goal.returns-clause-answer
-returns-clause-answer c =
+pub returns : goal.returns
+returns c =
     let s = c.args.s.now in
     let w = c.args.found.words in
     let work = c.args.work.now in
@@ -92,43 +57,10 @@ returns-clause-answer c =
     let e = ap (λ (l : Layout). l.d) O.layout_is in
     let long : bound_of s ≤ length trace = omega (arith, e, c.if-trace-d.false) in
     let r = planning s w _ p work trace c.if-work-words.false long c.plan.new.trace c.plan.result c.plan.ensures.answer in
-    c.answer_of.ensures ∙ r.0
-
-pub returns-clause-trace : goal.returns-clause-trace
-returns-clause-trace c =
-    let s = c.args.s.now in
-    let w = c.args.found.words in
-    let work = c.args.work.now in
-    let trace = c.args.trace.now in
-    let O = c.requires in
-    let p = answered O in
-    let e = ap (λ (l : Layout). l.d) O.layout_is in
-    let long : bound_of s ≤ length trace = omega (arith, e, c.if-trace-d.false) in
-    let r = planning s w _ p work trace c.if-work-words.false long c.plan.new.trace c.plan.result c.plan.ensures.answer in
-    r.1
-
-pub returns-clause-work : goal.returns-clause-work
-returns-clause-work c =
-    let s = c.args.s.now in
-    let w = c.args.found.words in
-    let work = c.args.work.now in
-    let trace = c.args.trace.now in
-    let O = c.requires in
-    let p = answered O in
-    let e = ap (λ (l : Layout). l.d) O.layout_is in
-    let long : bound_of s ≤ length trace = omega (arith, e, c.if-trace-d.false) in
     let q = plan_cleared s w _ p work c.if-work-words.false trace long c.args.index.now in
-    cleared w work _ c.plan.ensures.work c.if-work-words.false ∙ sym q.0
-
-pub returns-clause-index : goal.returns-clause-index
-returns-clause-index c =
-    let s = c.args.s.now in
-    let w = c.args.found.words in
-    let work = c.args.work.now in
-    let trace = c.args.trace.now in
-    let O = c.requires in
-    let p = answered O in
-    let e = ap (λ (l : Layout). l.d) O.layout_is in
-    let long : bound_of s ≤ length trace = omega (arith, e, c.if-trace-d.false) in
-    let q = plan_cleared s w _ p work c.if-work-words.false trace long c.args.index.now in
-    c.plan.ensures.index ∙ sym q.1
+    record {
+      answer = c.answer_of.ensures ∙ r.0;
+      trace = r.1;
+      work = cleared w work _ c.plan.ensures.work c.if-work-words.false ∙ sym q.0;
+      index = c.plan.ensures.index ∙ sym q.1;
+    }

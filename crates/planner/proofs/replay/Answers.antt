@@ -9,18 +9,14 @@ pub replay_found-requires : goal.replay_found-requires
 replay_found-requires c =
     found_of _ (sym c.in-Accepted.is ∙ c.inspect.ensures)
 
-pub returns-in-Refused-clause-answer : goal.returns-in-Refused-clause-answer
-returns-in-Refused-clause-answer c =
+pub returns-in-Refused : goal.returns-in-Refused
+returns-in-Refused c =
     let s = c.args.s.now in
     let h = c.args.history.now in
     let work = c.args.work.now in
     let q = refused_by s (sym c.in-Refused.is ∙ c.inspect.ensures) in
-    sym (sheet_refused_reply s _ q h (length work))
-
-pub returns-in-Refused-clause-work : goal.returns-in-Refused-clause-work
-returns-in-Refused-clause-work c =
-    let s = c.args.s.now in
-    let work = c.args.work.now in
-    let q = refused_by s (sym c.in-Refused.is ∙ c.inspect.ensures) in
     let u = sheet_untouched s _ q work work work in
-    sym u.3
+    record {
+      answer = sym (sheet_refused_reply s _ q h (length work));
+      work = sym u.3;
+    }

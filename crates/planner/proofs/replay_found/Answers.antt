@@ -12,35 +12,29 @@ use Rattle.planner.proofs.Demands.{eleven_reply, replay_cleared}
 use Rattle.planner.proofs.Reported.{replaying, longer, cleared}
 use Rattle.planner.proofs.replay_found.Goals as goal
 
-pub returns-then-work-required-clause-answer : goal.returns-then-work-required-clause-answer
-returns-then-work-required-clause-answer c =
+pub returns-then-work-required : goal.returns-then-work-required
+returns-then-work-required c =
     let r = eleven_reply _ _ _ (answered c.requires) c.args.work.now c.if-work-required.true c.args.history.now in
-    sym r.0
-
-pub returns-then-work-required-clause-work : goal.returns-then-work-required-clause-work
-returns-then-work-required-clause-work c =
-    let r = eleven_reply _ _ _ (answered c.requires) c.args.work.now c.if-work-required.true c.args.history.now in
-    sym r.1
+    record {
+      answer = sym r.0;
+      work = sym r.1;
+    }
 
 pub slice_bounds-clear-end-then-d-history : goal.slice_bounds-clear-end-then-d-history
 slice_bounds-clear-end-then-d-history c =
     sym (length-take-le c.args.found.words c.args.work.now c.if-work-required.false)
 
-pub returns-then-d-history-clause-answer : goal.returns-then-d-history-clause-answer
-returns-then-d-history-clause-answer c =
+pub returns-then-d-history : goal.returns-then-d-history
+returns-then-d-history c =
     let s = c.args.s.now in
     let w = c.args.found.words in
     let work = c.args.work.now in
     let O = c.requires in
-    let e = ap (λ (l : Layout). l.d) O.layout_is in longer s w _ (answered O) work c.if-work-required.false c.args.history.now (omega (arith, e, c.if-d-history.true))
-
-pub returns-then-d-history-clause-work : goal.returns-then-d-history-clause-work
-returns-then-d-history-clause-work c =
-    let s = c.args.s.now in
-    let w = c.args.found.words in
-    let work = c.args.work.now in
-    let O = c.requires in
-    cleared w work _ c.clear.ensures.work c.if-work-required.false ∙ sym (replay_cleared s w _ (answered O) work c.if-work-required.false)
+    let e = ap (λ (l : Layout). l.d) O.layout_is in
+    record {
+      answer = longer s w _ (answered O) work c.if-work-required.false c.args.history.now (omega (arith, e, c.if-d-history.true));
+      work = cleared w work _ c.clear.ensures.work c.if-work-required.false ∙ sym (replay_cleared s w _ (answered O) work c.if-work-required.false);
+    }
 
 pub slice_bounds-accepts-end-2 : goal.slice_bounds-accepts-end-2
 slice_bounds-accepts-end-2 c =
@@ -53,19 +47,14 @@ accepts-requires c =
     let few : length c.args.history.now ≤ 64 = omega (arith, e, (laid _ O.accepted).d, c.if-d-history.false) in
     (O, length-take-le c.args.found.words c.args.work.now c.if-work-required.false, few)
 
-pub returns-clause-answer : goal.returns-clause-answer
-returns-clause-answer c =
+pub returns : goal.returns
+returns c =
     let s = c.args.s.now in
     let w = c.args.found.words in
     let work = c.args.work.now in
     let p = answered c.requires in
     let r = replaying s w _ p work c.if-work-required.false c.args.history.now c.accepts.result c.accepts.ensures.answer in
-    c.reply_of.ensures ∙ r
-
-pub returns-clause-work : goal.returns-clause-work
-returns-clause-work c =
-    let s = c.args.s.now in
-    let w = c.args.found.words in
-    let work = c.args.work.now in
-    let p = answered c.requires in
-    cleared w work _ c.accepts.ensures.work c.if-work-required.false ∙ sym (replay_cleared s w _ p work c.if-work-required.false)
+    record {
+      answer = c.reply_of.ensures ∙ r;
+      work = cleared w work _ c.accepts.ensures.work c.if-work-required.false ∙ sym (replay_cleared s w _ p work c.if-work-required.false);
+    }

@@ -36,4 +36,6 @@ unfolding uses_b
 returns-in-9 c = rw c.in-9.is (ap not c.enabled_in.ensures)
 
 pub returns-in_default : goal.returns-in_default
-returns-in_default c = no_second _ _ _ c.args.r.kind c.in_default.in_default-own.rest.0.0.0.0.1 c.in_default.in_default-own.rest.0.0.0.1 c.in_default.in_default-own.rest.0.0.1 c.in_default.in_default-own.rest.0.1 c.in_default.in_default-own.rest.1
+returns-in_default c =
+    let others = c.in_default.in_default-own.rest in
+    no_second _ _ _ c.args.r.kind others.0.0.0.0.1 others.0.0.0.1 others.0.0.1 others.0.1 others.1

@@ -24,8 +24,9 @@ bounds-noted-x c =
 pub returns-then-differs : goal.returns-then-differs
 returns-then-differs c =
     let v = c.loop-i.invariant in
-    sym (noted_other _ _ _ v.3 ((let fact : resolved_effect c.args.e c.effect_at-r.result ≡ effect_at (resolved_table c.args.e c.args.effects.now) c.loop-i.i =
-    ap (resolved_effect c.args.e) c.effect_at-r.ensures.record ∙ sym (resolved_at _ _ _ (omega (arith, c.requires.0.long, c.loop-i.invariant.2))) in fact)) c.has_in.ensures v.0 c.if-has_in.true refl (ap (λ (x : ℕ). x + 1) c.resolved.ensures.0) _
+    let is : resolved_effect c.args.e c.effect_at-r.result ≡ effect_at (resolved_table c.args.e c.args.effects.now) c.loop-i.i =
+    ap (resolved_effect c.args.e) c.effect_at-r.ensures.record ∙ sym (resolved_at _ _ _ (omega (arith, c.requires.0.long, v.2))) in
+    sym (noted_other _ _ _ v.3 is c.has_in.ensures v.0 c.if-has_in.true refl (ap (λ (x : ℕ). x + 1) c.resolved.ensures.0) _
     (omega (arith, v.2))
     (sym c.differs.ensures ∙ c.if-differs.true))
 

@@ -19,43 +19,56 @@ has_in-requires c =
     (rw c.effect_at-d.ensures.record (c.requires.0.conditions _ c.loop-i.invariant.0 c.loop-i-test.true), c.requires.2)
 
 pub bounds-given-x : goal.bounds-given-x
-bounds-given-x c = omega (arith, c.requires.1, (let fact : c.effect_at-d.result.fluent < c.args.n = fluent_below _ _ _ _ _ c.requires.0.names c.loop-i.invariant.0 c.loop-i-test.true c.effect_at-d.ensures.record in fact))
+bounds-given-x c =
+    let below : c.effect_at-d.result.fluent < c.args.n =
+    fluent_below _ _ _ _ _ c.requires.0.names c.loop-i.invariant.0 c.loop-i-test.true c.effect_at-d.ensures.record in
+    omega (arith, c.requires.1, below)
 
 pub bounds-new-x : goal.bounds-new-x
 bounds-new-x c =
-    omega (arith, c.requires.1, (let fact : c.effect_at-d.result.fluent < c.args.n = fluent_below _ _ _ _ _ c.requires.0.names c.loop-i.invariant.0 c.loop-i-test.true c.effect_at-d.ensures.record in fact))
+    let below : c.effect_at-d.result.fluent < c.args.n =
+    fluent_below _ _ _ _ _ c.requires.0.names c.loop-i.invariant.0 c.loop-i-test.true c.effect_at-d.ensures.record in
+    omega (arith, c.requires.1, below)
 
 pub bounds-given-x-then-has_in-given : goal.bounds-given-x-then-has_in-given
 bounds-given-x-then-has_in-given c =
-    omega (arith, c.requires.1, (let fact : c.effect_at-d.result.fluent < c.args.n = fluent_below _ _ _ _ _ c.requires.0.names c.loop-i.invariant.0 c.loop-i-test.true c.effect_at-d.ensures.record in fact))
+    let below : c.effect_at-d.result.fluent < c.args.n =
+    fluent_below _ _ _ _ _ c.requires.0.names c.loop-i.invariant.0 c.loop-i-test.true c.effect_at-d.ensures.record in
+    omega (arith, c.requires.1, below)
 
 pub overflow_sub-left : goal.overflow_sub-left
 overflow_sub-left c =
+    let below : c.effect_at-d.result.fluent < c.args.n =
+    fluent_below _ _ _ _ _ c.requires.0.names c.loop-i.invariant.0 c.loop-i-test.true c.effect_at-d.ensures.record in
     giving_some _ _ _ _ _ _ c.loop-i.invariant.3 (omega arith) ((let fact : resolved_effect c.args.e c.effect_at-d.result ≡ effect_at (resolved_table c.args.e c.args.effects.now) c.loop-i.i =
     ap (resolved_effect c.args.e) c.effect_at-d.ensures.record ∙ sym (resolved_at _ _ _ (omega (arith, c.requires.0.long, c.loop-i-test.true))) in fact)) c.has_in.ensures c.if-has_in-given.true
-    ((let fact : c.effect_at-d.result.fluent < c.args.n = fluent_below _ _ _ _ _ c.requires.0.names c.loop-i.invariant.0 c.loop-i-test.true c.effect_at-d.ensures.record in fact)) c.requires.1
+    below c.requires.1
 
 pub returns-then-left-eq0 : goal.returns-then-left-eq0
 returns-then-left-eq0 c =
+    let below : c.effect_at-d.result.fluent < c.args.n =
+    fluent_below _ _ _ _ _ c.requires.0.names c.loop-i.invariant.0 c.loop-i-test.true c.effect_at-d.ensures.record in
     let v = c.loop-i.invariant in
     let pre = c.requires in
     let more = giving_more _ _ _ _ _ _ v.3 (omega arith) ((let fact : resolved_effect c.args.e c.effect_at-d.result ≡ effect_at (resolved_table c.args.e c.args.effects.now) c.loop-i.i =
     ap (resolved_effect c.args.e) c.effect_at-d.ensures.record ∙ sym (resolved_at _ _ _ (omega (arith, c.requires.0.long, c.loop-i-test.true))) in fact)) c.has_in.ensures c.if-has_in-given.true
-    ((let fact : c.effect_at-d.result.fluent < c.args.n = fluent_below _ _ _ _ _ c.requires.0.names c.loop-i.invariant.0 c.loop-i-test.true c.effect_at-d.ensures.record in fact)) pre.1 v.2 in
+    below pre.1 v.2 in
     rw c.resolved.ensures.0 (giving_done _ _ _ _ _ _ more _ refl (omega arith) c.if-left-eq0.true
     (λ j f l. resolved_names _ _ _ _ _ pre.0.long pre.0.names j f (omega arith)))
 
 pub loop-i-preserved : goal.loop-i-preserved
 loop-i-preserved c =
+    let below : c.effect_at-d.result.fluent < c.args.n =
+    fluent_below _ _ _ _ _ c.requires.0.names c.loop-i.invariant.0 c.loop-i-test.true c.effect_at-d.ensures.record in
     let v = c.loop-i.invariant in
-    let e = (let fact : resolved_effect c.args.e c.effect_at-d.result ≡ effect_at (resolved_table c.args.e c.args.effects.now) c.loop-i.i =
-    ap (resolved_effect c.args.e) c.effect_at-d.ensures.record ∙ sym (resolved_at _ _ _ (omega (arith, c.requires.0.long, c.loop-i-test.true))) in fact) in
+    let e : resolved_effect c.args.e c.effect_at-d.result ≡ effect_at (resolved_table c.args.e c.args.effects.now) c.loop-i.i =
+    ap (resolved_effect c.args.e) c.effect_at-d.ensures.record ∙ sym (resolved_at _ _ _ (omega (arith, c.requires.0.long, c.loop-i-test.true))) in
     let f = c.has_in.ensures in (
       omega arith,
       omega arith,
       v.2,
       elim c.if-has_in-given.branch [
-        | then-has_in-given+else-left-eq0 w ↦ rw (w.given-is, w.new-is, w.left-is, w.resolved.ensures.0) (giving_more _ _ _ _ _ _ v.3 (omega arith) e f w.if-has_in-given.true ((let fact : c.effect_at-d.result.fluent < c.args.n = fluent_below _ _ _ _ _ c.requires.0.names c.loop-i.invariant.0 c.loop-i-test.true c.effect_at-d.ensures.record in fact)) c.requires.1 v.2)
+        | then-has_in-given+else-left-eq0 w ↦ rw (w.given-is, w.new-is, w.left-is, w.resolved.ensures.0) (giving_more _ _ _ _ _ _ v.3 (omega arith) e f w.if-has_in-given.true below c.requires.1 v.2)
         | else-has_in-given w ↦ rw (w.given-is, w.new-is, w.left-is) (giving_passed _ _ _ _ _ _ v.3 (omega arith) e f w.if-has_in-given.false)
       ],
     )

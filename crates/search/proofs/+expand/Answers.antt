@@ -122,8 +122,8 @@ shape_of-index-then-note t c =
       | else-not-a w ↦ ap length w.index-is ∙ c.loop-t.invariant.4
     ]
 
-pub returns-then-note-clause-answer : goal.returns-then-note-clause-answer
-returns-then-note-clause-answer t c =
+pub returns-then-note : goal.returns-then-note
+returns-then-note t c =
     let T = turned c.loop-t.invariant.5.1 c.refresh.ensures.tables c.refresh.ensures.written c.next-x.ensures
     (sym (c.is_spent.ensures _ _ _ c.loop-t.invariant.5.1.listed) ∙ c.loop-t-test.true) in
     let Y = c.follow-v.ensures in
@@ -136,30 +136,14 @@ returns-then-note-clause-answer t c =
       | else-not-a w ↦ as_left w.work-is w.trace-is w.flags-is w.numbers-is w.stale-is w.o-is (seen c.loop-t.trace Y C c.see-a.ensures (not-false _ w.if-not-a.false))
     ] in
     let D = passed T (sym c.lets_pass.ensures ∙ c.if-lets_pass.true) Y searched c.note.ensures.trace in
-    D.plan (sym c.note.ensures.answer ∙ c.if-note.true)
-
-pub returns-then-note-clause-tables : goal.returns-then-note-clause-tables
-returns-then-note-clause-tables t c =
-    let T = turned c.loop-t.invariant.5.1 c.refresh.ensures.tables c.refresh.ensures.written c.next-x.ensures
-    (sym (c.is_spent.ensures _ _ _ c.loop-t.invariant.5.1.listed) ∙ c.loop-t-test.true) in
-    let Y = c.follow-v.ensures in
-    let C = child (going T) T.first c.loop-t.cut Y in
-    let searched : Searched c.args.s.now c.next-x.new.work c.if-not-a.work c.args.moves.now c.loop-t.trace c.if-not-a.trace c.args.t c.args.q c.follow-v.result c.loop-t.cut
-    (leads (going T) T.first c.loop-t.cut) c.refresh.new.flags c.if-not-a.flags c.refresh.new.numbers c.if-not-a.numbers c.if-not-a.o c.if-not-a.stale =
-    elim c.if-not-a.branch [
-      | then-not-a w ↦ as_left w.work-is w.trace-is w.flags-is w.numbers-is w.stale-is w.o-is
-          (went c.loop-t.trace Y C c.see-a.ensures (not-true _ w.if-not-a.true) c.loop-t.invariant.5.0.some_left w.expand-o.ensures.answer w.expand-o.ensures.tables refl)
-      | else-not-a w ↦ as_left w.work-is w.trace-is w.flags-is w.numbers-is w.stale-is w.o-is (seen c.loop-t.trace Y C c.see-a.ensures (not-false _ w.if-not-a.false))
-    ] in
-    let D = passed T (sym c.lets_pass.ensures ∙ c.if-lets_pass.true) Y searched c.note.ensures.trace in
-    D.preserves
-
-pub returns-then-note-clause-index : goal.returns-then-note-clause-index
-returns-then-note-clause-index t c =
-    elim c.if-not-a.branch [
-      | then-not-a w ↦ subst (Told c.args.s.now c.args.moves.now c.args.t) (sym w.index-is) w.remember.ensures
-      | else-not-a w ↦ subst (Told c.args.s.now c.args.moves.now c.args.t) (sym w.index-is) c.loop-t.invariant.6
-    ]
+    record {
+      answer = D.plan (sym c.note.ensures.answer ∙ c.if-note.true);
+      tables = D.preserves;
+      index = elim c.if-not-a.branch [
+        | then-not-a w ↦ subst (Told c.args.s.now c.args.moves.now c.args.t) (sym w.index-is) w.remember.ensures
+        | else-not-a w ↦ subst (Told c.args.s.now c.args.moves.now c.args.t) (sym w.index-is) c.loop-t.invariant.6
+      ];
+    }
 
 pub loop-t-smaller-then-lets_pass : goal.loop-t-smaller-then-lets_pass
 loop-t-smaller-then-lets_pass t c =

@@ -15,29 +15,18 @@ see-x-requires c =
       told_anew (asked a.found a.a r) p.3 c.next_round-round.ensures p.4,
     )
 
-pub returns-then-x-clause-answer : goal.returns-then-x-clause-answer
-returns-then-x-clause-answer c =
+pub returns-then-x : goal.returns-then-x
+returns-then-x c =
     let p = c.requires in
     let a = c.args in
     let r = c.next_round-round.result in
     let S = seen_first a.moves.now a.trace.now a.a r p.0 p.1 p.2 c.initial_of-state.ensures c.see-x.ensures c.if-x.true in
-    S.0
-
-pub returns-then-x-clause-stands : goal.returns-then-x-clause-stands
-returns-then-x-clause-stands c =
-    let p = c.requires in
-    let a = c.args in
-    let r = c.next_round-round.result in
-    let S = seen_first a.moves.now a.trace.now a.a r p.0 p.1 p.2 c.initial_of-state.ensures c.see-x.ensures c.if-x.true in
-    S.1
-
-pub returns-then-x-clause-index : goal.returns-then-x-clause-index
-returns-then-x-clause-index c =
-    let p = c.requires in
-    let a = c.args in
-    let r = c.next_round-round.result in
     let T = told_anew {moves = a.moves.now} (asked a.found a.a r) p.3 c.next_round-round.ensures p.4 in
-    still_lasting T
+    record {
+      answer = S.0;
+      stands = S.1;
+      index = still_lasting T;
+    }
 
 pub expand-o-requires : goal.expand-o-requires
 expand-o-requires c =
@@ -61,24 +50,15 @@ pub shape_of-index : goal.shape_of-index
 shape_of-index c =
     c.remember.auto.index ∙ c.expand-o.auto.index ∙ c.next_round-round.auto.index
 
-pub returns-clause-answer : goal.returns-clause-answer
-returns-clause-answer c =
+pub returns : goal.returns
+returns c =
     let p = c.requires in
     let a = c.args in
     let R = tried_first a.moves.now a.trace.now a.a c.next_round-round.result p.0 p.1 p.2 c.initial_of-state.ensures c.see-x.ensures
     c.if-x.false c.expand-o.ensures.answer
     c.expand-o.ensures.tables in
-    R.0
-
-pub returns-clause-stands : goal.returns-clause-stands
-returns-clause-stands c =
-    let p = c.requires in
-    let a = c.args in
-    let R = tried_first a.moves.now a.trace.now a.a c.next_round-round.result p.0 p.1 p.2 c.initial_of-state.ensures c.see-x.ensures
-    c.if-x.false c.expand-o.ensures.answer
-    c.expand-o.ensures.tables in
-    R.1
-
-pub returns-clause-index : goal.returns-clause-index
-returns-clause-index c =
-    still_lasting c.remember.ensures
+    record {
+      answer = R.0;
+      stands = R.1;
+      index = still_lasting c.remember.ensures;
+    }

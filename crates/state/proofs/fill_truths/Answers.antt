@@ -21,8 +21,11 @@ bounds-truths-i c = omega (arith, refill_full _ _ c.loop-i.invariant.1 (omega ar
 
 pub loop-i-preserved : goal.loop-i-preserved
 loop-i-preserved c =
-    let b = c.loop-i.invariant.1 in
-    (omega arith, refill_more _ _ b (omega arith) (c.truth_at-r.ensures ∙ truth_same _ _ _ _ _ (c.requires.lower_formulas.1 _ (omega arith)) (c.requires.lower_formulas.0 _ (omega arith)) (refill_at _ _ b false)))
+    let b = c.loop-i.invariant.1 in (
+      omega arith,
+      refill_more _ _ b (omega arith)
+          (c.truth_at-r.ensures ∙ truth_same _ _ _ _ _ (c.requires.lower_formulas.1 _ (omega arith)) (c.requires.lower_formulas.0 _ (omega arith)) (refill_at _ _ b false)),
+    )
 
 pub shape_of-truths : goal.shape_of-truths
 shape_of-truths c = refill_full _ _ c.loop-i.invariant.1 (omega arith)

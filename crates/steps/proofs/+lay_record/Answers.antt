@@ -16,8 +16,12 @@ entry_of-requires t c = in_words c.record_at-r.ensures.fields
 
 pub returns-then-has_own : goal.returns-then-has_own
 returns-then-has_own t c W s C =
+    let sources : Sources =
+    sources_of c.args.programs.now c.args.v c.args.truths.now c.args.counts.now in
+    let record_known : IsRecord sources c.args.i c.record_at-r.result =
+    is_record c.requires.can_lay c.record_at-r.ensures.record in
     let can = c.requires.can_lay in
-    own_lays C ((let fact : IsRecord ((let fact : Sources = sources_of c.args.programs.now c.args.v c.args.truths.now c.args.counts.now in fact)) c.args.i c.record_at-r.result = is_record c.requires.can_lay c.record_at-r.ensures.record in fact)) can.least (sym c.has_own.ensures ∙ c.if-has_own.true) can.room c.put_node.ensures c.entry_of.ensures
+    own_lays C record_known can.least (sym c.has_own.ensures ∙ c.if-has_own.true) can.room c.put_node.ensures c.entry_of.ensures
 
 pub overflow_add-at : goal.overflow_add-at
 overflow_add-at t c =
@@ -26,32 +30,44 @@ overflow_add-at t c =
 
 pub lay_record-x-requires : goal.lay_record-x-requires
 lay_record-x-requires t c =
-    let P = (let fact : OfParts ((let fact : Sources = sources_of c.args.programs.now c.args.v c.args.truths.now c.args.counts.now in fact)) c.args.i c.record_at-r.result c.first_by-first.result =
-    of_parts ((let fact : IsRecord ((let fact : Sources = sources_of c.args.programs.now c.args.v c.args.truths.now c.args.counts.now in fact)) c.args.i c.record_at-r.result = is_record c.requires.can_lay c.record_at-r.ensures.record in fact)) c.has_own.ensures c.if-has_own.false c.first_by-first.ensures.0 in fact) in
+    let sources : Sources =
+    sources_of c.args.programs.now c.args.v c.args.truths.now c.args.counts.now in
+    let record_known : IsRecord sources c.args.i c.record_at-r.result =
+    is_record c.requires.can_lay c.record_at-r.ensures.record in
+    let parts_known : OfParts sources c.args.i c.record_at-r.result c.first_by-first.result =
+    of_parts record_known c.has_own.ensures c.if-has_own.false c.first_by-first.ensures.0 in
+    let P = parts_known in
     let can = c.requires.can_lay in
     let below = c.if-k-first.true in (
       omega (arith, a_falls can.counted P.of P below, c.decreases),
       (c.requires.program_table, a_can can.counted P.of P below can.room c.past_words.ensures.1),
     )
 
-pub wrap_a-size-requires-clause-room : goal.wrap_a-size-requires-clause-room
-wrap_a-size-requires-clause-room t c =
-    let P = (let fact : OfParts ((let fact : Sources = sources_of c.args.programs.now c.args.v c.args.truths.now c.args.counts.now in fact)) c.args.i c.record_at-r.result c.first_by-first.result =
-    of_parts ((let fact : IsRecord ((let fact : Sources = sources_of c.args.programs.now c.args.v c.args.truths.now c.args.counts.now in fact)) c.args.i c.record_at-r.result = is_record c.requires.can_lay c.record_at-r.ensures.record in fact)) c.has_own.ensures c.if-has_own.false c.first_by-first.ensures.0 in fact) in
-    let can = c.requires.can_lay in a_room can.counted P.of P c.if-k-first.true can.room (c.lay_record-x.ensures _ _ can.counted)
-
-pub wrap_a-size-requires-clause-i_bound : goal.wrap_a-size-requires-clause-i_bound
-wrap_a-size-requires-clause-i_bound t c =
-    let can = c.requires.can_lay in many_few c.args.v.interrupts c.args.v.n _ c.requires.program_table.few can.inside
-
-pub wrap_a-size-requires-clause-in_words : goal.wrap_a-size-requires-clause-in_words
-wrap_a-size-requires-clause-in_words t c =
-    in_words c.record_at-r.ensures.fields
+pub wrap_a-size-requires : goal.wrap_a-size-requires
+wrap_a-size-requires t c =
+    let sources : Sources =
+    sources_of c.args.programs.now c.args.v c.args.truths.now c.args.counts.now in
+    let record_known : IsRecord sources c.args.i c.record_at-r.result =
+    is_record c.requires.can_lay c.record_at-r.ensures.record in
+    let parts_known : OfParts sources c.args.i c.record_at-r.result c.first_by-first.result =
+    of_parts record_known c.has_own.ensures c.if-has_own.false c.first_by-first.ensures.0 in
+    let P = parts_known in
+    let can = c.requires.can_lay in
+    record {
+      room = a_room can.counted P.of P c.if-k-first.true can.room (c.lay_record-x.ensures _ _ can.counted);
+      i_bound = many_few c.args.v.interrupts c.args.v.n _ c.requires.program_table.few can.inside;
+      in_words = in_words c.record_at-r.ensures.fields;
+    }
 
 pub returns-then-k-first : goal.returns-then-k-first
 returns-then-k-first t c W s C =
-    let P = (let fact : OfParts ((let fact : Sources = sources_of c.args.programs.now c.args.v c.args.truths.now c.args.counts.now in fact)) c.args.i c.record_at-r.result c.first_by-first.result =
-    of_parts ((let fact : IsRecord ((let fact : Sources = sources_of c.args.programs.now c.args.v c.args.truths.now c.args.counts.now in fact)) c.args.i c.record_at-r.result = is_record c.requires.can_lay c.record_at-r.ensures.record in fact)) c.has_own.ensures c.if-has_own.false c.first_by-first.ensures.0 in fact) in
+    let sources : Sources =
+    sources_of c.args.programs.now c.args.v c.args.truths.now c.args.counts.now in
+    let record_known : IsRecord sources c.args.i c.record_at-r.result =
+    is_record c.requires.can_lay c.record_at-r.ensures.record in
+    let parts_known : OfParts sources c.args.i c.record_at-r.result c.first_by-first.result =
+    of_parts record_known c.has_own.ensures c.if-has_own.false c.first_by-first.ensures.0 in
+    let P = parts_known in
     a_lays C P.of P c.if-k-first.true c.tag_a.ensures c.past_words.ensures.0 (c.lay_record-x.ensures W s C) c.wrap_a-size.ensures
 
 pub overflow_add-at-2 : goal.overflow_add-at-2
@@ -61,27 +77,42 @@ overflow_add-at-2 t c =
 
 pub lay_record-x-requires-2 : goal.lay_record-x-requires-2
 lay_record-x-requires-2 t c =
-    let P = (let fact : OfParts ((let fact : Sources = sources_of c.args.programs.now c.args.v c.args.truths.now c.args.counts.now in fact)) c.args.i c.record_at-r.result c.first_by-first.result =
-    of_parts ((let fact : IsRecord ((let fact : Sources = sources_of c.args.programs.now c.args.v c.args.truths.now c.args.counts.now in fact)) c.args.i c.record_at-r.result = is_record c.requires.can_lay c.record_at-r.ensures.record in fact)) c.has_own.ensures c.if-has_own.false c.first_by-first.ensures.0 in fact) in
+    let sources : Sources =
+    sources_of c.args.programs.now c.args.v c.args.truths.now c.args.counts.now in
+    let record_known : IsRecord sources c.args.i c.record_at-r.result =
+    is_record c.requires.can_lay c.record_at-r.ensures.record in
+    let parts_known : OfParts sources c.args.i c.record_at-r.result c.first_by-first.result =
+    of_parts record_known c.has_own.ensures c.if-has_own.false c.first_by-first.ensures.0 in
+    let P = parts_known in
     let can = c.requires.can_lay in
     let above = c.if-k-first.false in (
       omega (arith, b_falls can.counted P.of P can.least above, c.decreases),
       (c.requires.program_table, b_can can.counted P.of P can.least above can.room c.past_words-2.ensures.1),
     )
 
-pub wrap_b-size-requires-clause-room : goal.wrap_b-size-requires-clause-room
-wrap_b-size-requires-clause-room t c =
-    let P = (let fact : OfParts ((let fact : Sources = sources_of c.args.programs.now c.args.v c.args.truths.now c.args.counts.now in fact)) c.args.i c.record_at-r.result c.first_by-first.result =
-    of_parts ((let fact : IsRecord ((let fact : Sources = sources_of c.args.programs.now c.args.v c.args.truths.now c.args.counts.now in fact)) c.args.i c.record_at-r.result = is_record c.requires.can_lay c.record_at-r.ensures.record in fact)) c.has_own.ensures c.if-has_own.false c.first_by-first.ensures.0 in fact) in
-    let can = c.requires.can_lay in b_room can.counted P.of P can.least c.if-k-first.false can.room (c.lay_record-x-2.ensures _ _ can.counted)
-
-pub wrap_b-size-requires-clause-in_words : goal.wrap_b-size-requires-clause-in_words
-wrap_b-size-requires-clause-in_words t c =
-    in_words c.record_at-r.ensures.fields
+pub wrap_b-size-requires : goal.wrap_b-size-requires
+wrap_b-size-requires t c =
+    let sources : Sources =
+    sources_of c.args.programs.now c.args.v c.args.truths.now c.args.counts.now in
+    let record_known : IsRecord sources c.args.i c.record_at-r.result =
+    is_record c.requires.can_lay c.record_at-r.ensures.record in
+    let parts_known : OfParts sources c.args.i c.record_at-r.result c.first_by-first.result =
+    of_parts record_known c.has_own.ensures c.if-has_own.false c.first_by-first.ensures.0 in
+    let P = parts_known in
+    let can = c.requires.can_lay in
+    record {
+      room = b_room can.counted P.of P can.least c.if-k-first.false can.room (c.lay_record-x-2.ensures _ _ can.counted);
+      in_words = in_words c.record_at-r.ensures.fields;
+    }
 
 pub returns : goal.returns
 returns t c W s C =
-    let P = (let fact : OfParts ((let fact : Sources = sources_of c.args.programs.now c.args.v c.args.truths.now c.args.counts.now in fact)) c.args.i c.record_at-r.result c.first_by-first.result =
-    of_parts ((let fact : IsRecord ((let fact : Sources = sources_of c.args.programs.now c.args.v c.args.truths.now c.args.counts.now in fact)) c.args.i c.record_at-r.result = is_record c.requires.can_lay c.record_at-r.ensures.record in fact)) c.has_own.ensures c.if-has_own.false c.first_by-first.ensures.0 in fact) in
+    let sources : Sources =
+    sources_of c.args.programs.now c.args.v c.args.truths.now c.args.counts.now in
+    let record_known : IsRecord sources c.args.i c.record_at-r.result =
+    is_record c.requires.can_lay c.record_at-r.ensures.record in
+    let parts_known : OfParts sources c.args.i c.record_at-r.result c.first_by-first.result =
+    of_parts record_known c.has_own.ensures c.if-has_own.false c.first_by-first.ensures.0 in
+    let P = parts_known in
     b_lays C P.of P c.requires.can_lay.least c.if-k-first.false c.tag_b.ensures c.past_words-2.ensures.0
     (c.lay_record-x-2.ensures W s C) c.wrap_b-size.ensures

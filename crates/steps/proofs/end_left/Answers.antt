@@ -9,10 +9,16 @@ pub size_at-m-requires : goal.size_at-m-requires
 size_at-m-requires c = holds_room (right_stands c.requires)
 
 pub put_copy_right-requires : goal.put_copy_right-requires
-put_copy_right-requires c = (let fact : CanPutCopy c.args.from c.args.to c.args.tag c.args.n c.size_at-m.result c.args.work.now = copy_can c.requires c.size_at-m.ensures in fact)
+put_copy_right-requires c =
+    let can_known : CanPutCopy c.args.from c.args.to c.args.tag c.args.n c.size_at-m.result c.args.work.now =
+    copy_can c.requires c.size_at-m.ensures in
+    can_known
 
 pub overflow_add-result-2 : goal.overflow_add-result-2
-overflow_add-result-2 c = let can = (let fact : CanPutCopy c.args.from c.args.to c.args.tag c.args.n c.size_at-m.result c.args.work.now = copy_can c.requires c.size_at-m.ensures in fact) in omega (arith, can.room.inside, can.room.small)
+overflow_add-result-2 c =
+    let can_known : CanPutCopy c.args.from c.args.to c.args.tag c.args.n c.size_at-m.result c.args.work.now =
+    copy_can c.requires c.size_at-m.ensures in
+    let can = can_known in omega (arith, can.room.inside, can.room.small)
 
 pub returns : goal.returns
 returns c =

@@ -8,10 +8,16 @@ pub returns-then-tag-eq-SEQUENCE : goal.returns-then-tag-eq-SEQUENCE
 returns-then-tag-eq-SEQUENCE c = ends_alone _ _ _ _ _ _ c.in-Made.is c.if-tag-eq-SEQUENCE.true
 
 pub put_copy_left-requires : goal.put_copy_left-requires
-put_copy_left-requires c = (let fact : CanPutCopy c.args.from c.args.to c.args.tag c.in-Made.size c.args.n c.args.work.now = beside_can c.requires c.in-Made.is in fact)
+put_copy_left-requires c =
+    let can_known : CanPutCopy c.args.from c.args.to c.args.tag c.in-Made.size c.args.n c.args.work.now =
+    beside_can c.requires c.in-Made.is in
+    can_known
 
 pub overflow_add-result-in-Made : goal.overflow_add-result-in-Made
-overflow_add-result-in-Made c = let can = (let fact : CanPutCopy c.args.from c.args.to c.args.tag c.in-Made.size c.args.n c.args.work.now = beside_can c.requires c.in-Made.is in fact) in omega (arith, can.room.inside, can.room.small)
+overflow_add-result-in-Made c =
+    let can_known : CanPutCopy c.args.from c.args.to c.args.tag c.in-Made.size c.args.n c.args.work.now =
+    beside_can c.requires c.in-Made.is in
+    let can = can_known in omega (arith, can.room.inside, can.room.small)
 
 pub returns-in-Made : goal.returns-in-Made
 returns-in-Made c =

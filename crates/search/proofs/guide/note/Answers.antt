@@ -11,37 +11,31 @@ use Rattle.search.specs.Moves.{noted}
 use Rattle.search.proofs.Rows.{noted_none}
 use Rattle.search.proofs.guide.note.Goals as goal
 
-pub returns-then-not-is_found-clause-answer : goal.returns-then-not-is_found-clause-answer
-returns-then-not-is_found-clause-answer c =
-    let e = sym c.is_found.ensures ∙ c.if-not-is_found.true in
-    sym e
-
-pub returns-then-not-is_found-clause-trace : goal.returns-then-not-is_found-clause-trace
-returns-then-not-is_found-clause-trace c =
+pub returns-then-not-is_found : goal.returns-then-not-is_found
+returns-then-not-is_found c =
     let a = c.args in
     let e = sym c.is_found.ensures ∙ c.if-not-is_found.true in
-    sym (noted_none (move_of a.entry) a.n a.answer a.trace.now e)
+    record {
+      answer = sym e;
+      trace = sym (noted_none (move_of a.entry) a.n a.answer a.trace.now e);
+    }
 
-pub returns-then-entry-lt-TEST-clause-answer : goal.returns-then-entry-lt-TEST-clause-answer
-returns-then-entry-lt-TEST-clause-answer c =
-    let e = sym c.is_found.ensures ∙ c.if-not-is_found.false in
-    sym e
-
-pub returns-then-entry-lt-TEST-clause-trace : goal.returns-then-entry-lt-TEST-clause-trace
-returns-then-entry-lt-TEST-clause-trace c =
+pub returns-then-entry-lt-TEST : goal.returns-then-entry-lt-TEST
+returns-then-entry-lt-TEST c =
     let a = c.args in
     let trace = a.trace.now in
     let e = sym c.is_found.ensures ∙ c.if-not-is_found.false in
     let z = is_move a.entry (λ x. omega (arith, x)) in
-    sym (ap (λ (m : Option ℕ). noted m a.n a.answer trace) z ∙ ap (λ (b : Bool). cond b (set trace a.n a.entry) trace) e)
+    record {
+      answer = sym e;
+      trace = sym (ap (λ (m : Option ℕ). noted m a.n a.answer trace) z ∙ ap (λ (b : Bool). cond b (set trace a.n a.entry) trace) e);
+    }
 
-pub returns-else-entry-lt-TEST-clause-answer : goal.returns-else-entry-lt-TEST-clause-answer
-returns-else-entry-lt-TEST-clause-answer c =
-    let e = sym c.is_found.ensures ∙ c.if-not-is_found.false in
-    sym e
-
-pub returns-else-entry-lt-TEST-clause-trace : goal.returns-else-entry-lt-TEST-clause-trace
-returns-else-entry-lt-TEST-clause-trace c =
+pub returns-else-entry-lt-TEST : goal.returns-else-entry-lt-TEST
+returns-else-entry-lt-TEST c =
     let a = c.args in
     let e = sym c.is_found.ensures ∙ c.if-not-is_found.false in
-    sym (ap (λ (m : Option ℕ). noted m a.n a.answer a.trace.now) (is_test a.entry (omega arith)))
+    record {
+      answer = sym e;
+      trace = sym (ap (λ (m : Option ℕ). noted m a.n a.answer a.trace.now) (is_test a.entry (omega arith)));
+    }

@@ -19,59 +19,78 @@ asked_at-asked-requires c =
     rw c.effect_at-e.ensures.record (c.requires.long _ c.loop-i.invariant.0 (omega (arith, c.loop-i.invariant.2)))
 
 pub overflow_add-at : goal.overflow_add-at
-overflow_add-at c = let (l, m) = (let fact : (c.effect_at-e.result.fluent < 32) × (c.asked_at-asked.result.value < 16) =
+overflow_add-at c =
+    let inside : (c.effect_at-e.result.fluent < 32) × (c.asked_at-asked.result.value < 16) =
     let n = c.requires.names _ c.loop-i.invariant.0 (omega (arith, c.loop-i.invariant.2)) in
-    (rw c.effect_at-e.ensures.record n, c.asked_at-asked.ensures.small) in fact) in omega arith
+    (rw c.effect_at-e.ensures.record n, c.asked_at-asked.ensures.small) in
+    let (l, m) = inside in omega arith
 
 pub offset_bounds-fluents-x : goal.offset_bounds-fluents-x
-offset_bounds-fluents-x c = let (l, m) = (let fact : (c.effect_at-e.result.fluent < 32) × (c.asked_at-asked.result.value < 16) =
+offset_bounds-fluents-x c =
+    let inside : (c.effect_at-e.result.fluent < 32) × (c.asked_at-asked.result.value < 16) =
     let n = c.requires.names _ c.loop-i.invariant.0 (omega (arith, c.loop-i.invariant.2)) in
-    (rw c.effect_at-e.ensures.record n, c.asked_at-asked.ensures.small) in fact) in omega arith
+    (rw c.effect_at-e.ensures.record n, c.asked_at-asked.ensures.small) in
+    let (l, m) = inside in omega arith
 
 pub bounds-fluents-x : goal.bounds-fluents-x
-bounds-fluents-x c = let (l, m) = (let fact : (c.effect_at-e.result.fluent < 32) × (c.asked_at-asked.result.value < 16) =
+bounds-fluents-x c =
+    let inside : (c.effect_at-e.result.fluent < 32) × (c.asked_at-asked.result.value < 16) =
     let n = c.requires.names _ c.loop-i.invariant.0 (omega (arith, c.loop-i.invariant.2)) in
-    (rw c.effect_at-e.ensures.record n, c.asked_at-asked.ensures.small) in fact) in omega arith
+    (rw c.effect_at-e.ensures.record n, c.asked_at-asked.ensures.small) in
+    let (l, m) = inside in omega arith
 
 pub offset_bounds-noted-at : goal.offset_bounds-noted-at
-offset_bounds-noted-at c = let (l, m) = (let fact : (c.effect_at-e.result.fluent < 32) × (c.asked_at-asked.result.value < 16) =
+offset_bounds-noted-at c =
+    let inside : (c.effect_at-e.result.fluent < 32) × (c.asked_at-asked.result.value < 16) =
     let n = c.requires.names _ c.loop-i.invariant.0 (omega (arith, c.loop-i.invariant.2)) in
-    (rw c.effect_at-e.ensures.record n, c.asked_at-asked.ensures.small) in fact) in omega arith
+    (rw c.effect_at-e.ensures.record n, c.asked_at-asked.ensures.small) in
+    let (l, m) = inside in omega arith
 
 pub bounds-noted-at : goal.bounds-noted-at
-bounds-noted-at c = let (l, m) = (let fact : (c.effect_at-e.result.fluent < 32) × (c.asked_at-asked.result.value < 16) =
+bounds-noted-at c =
+    let inside : (c.effect_at-e.result.fluent < 32) × (c.asked_at-asked.result.value < 16) =
     let n = c.requires.names _ c.loop-i.invariant.0 (omega (arith, c.loop-i.invariant.2)) in
-    (rw c.effect_at-e.ensures.record n, c.asked_at-asked.ensures.small) in fact) in omega arith
+    (rw c.effect_at-e.ensures.record n, c.asked_at-asked.ensures.small) in
+    let (l, m) = inside in omega arith
 
 pub returns-then-differs : goal.returns-then-differs
 returns-then-differs c = λ e. absurd (false≢true e)
 
 pub offset_bounds-fluents-x-in-loop-i : goal.offset_bounds-fluents-x-in-loop-i
-offset_bounds-fluents-x-in-loop-i c = let (l, m) = (let fact : (c.effect_at-e.result.fluent < 32) × (c.asked_at-asked.result.value < 16) =
+offset_bounds-fluents-x-in-loop-i c =
+    let inside : (c.effect_at-e.result.fluent < 32) × (c.asked_at-asked.result.value < 16) =
     let n = c.requires.names _ c.loop-i.invariant.0 (omega (arith, c.loop-i.invariant.2)) in
-    (rw c.effect_at-e.ensures.record n, c.asked_at-asked.ensures.small) in fact) in omega arith
+    (rw c.effect_at-e.ensures.record n, c.asked_at-asked.ensures.small) in
+    let (l, m) = inside in omega arith
 
 pub bounds-fluents-x-in-loop-i : goal.bounds-fluents-x-in-loop-i
-bounds-fluents-x-in-loop-i c = let (l, m) = (let fact : (c.effect_at-e.result.fluent < 32) × (c.asked_at-asked.result.value < 16) =
+bounds-fluents-x-in-loop-i c =
+    let inside : (c.effect_at-e.result.fluent < 32) × (c.asked_at-asked.result.value < 16) =
     let n = c.requires.names _ c.loop-i.invariant.0 (omega (arith, c.loop-i.invariant.2)) in
-    (rw c.effect_at-e.ensures.record n, c.asked_at-asked.ensures.small) in fact) in omega arith
+    (rw c.effect_at-e.ensures.record n, c.asked_at-asked.ensures.small) in
+    let (l, m) = inside in omega arith
 
 pub offset_bounds-noted-at-in-loop-i : goal.offset_bounds-noted-at-in-loop-i
-offset_bounds-noted-at-in-loop-i c = let (l, m) = (let fact : (c.effect_at-e.result.fluent < 32) × (c.asked_at-asked.result.value < 16) =
+offset_bounds-noted-at-in-loop-i c =
+    let inside : (c.effect_at-e.result.fluent < 32) × (c.asked_at-asked.result.value < 16) =
     let n = c.requires.names _ c.loop-i.invariant.0 (omega (arith, c.loop-i.invariant.2)) in
-    (rw c.effect_at-e.ensures.record n, c.asked_at-asked.ensures.small) in fact) in omega arith
+    (rw c.effect_at-e.ensures.record n, c.asked_at-asked.ensures.small) in
+    let (l, m) = inside in omega arith
 
 pub bounds-noted-at-in-loop-i : goal.bounds-noted-at-in-loop-i
-bounds-noted-at-in-loop-i c = let (l, m) = (let fact : (c.effect_at-e.result.fluent < 32) × (c.asked_at-asked.result.value < 16) =
+bounds-noted-at-in-loop-i c =
+    let inside : (c.effect_at-e.result.fluent < 32) × (c.asked_at-asked.result.value < 16) =
     let n = c.requires.names _ c.loop-i.invariant.0 (omega (arith, c.loop-i.invariant.2)) in
-    (rw c.effect_at-e.ensures.record n, c.asked_at-asked.ensures.small) in fact) in omega arith
+    (rw c.effect_at-e.ensures.record n, c.asked_at-asked.ensures.small) in
+    let (l, m) = inside in omega arith
 
 pub loop-i-preserved : goal.loop-i-preserved
 loop-i-preserved c =
-    let v = c.loop-i.invariant in
-    let (l, m) = (let fact : (c.effect_at-e.result.fluent < 32) × (c.asked_at-asked.result.value < 16) =
+    let inside : (c.effect_at-e.result.fluent < 32) × (c.asked_at-asked.result.value < 16) =
     let n = c.requires.names _ c.loop-i.invariant.0 (omega (arith, c.loop-i.invariant.2)) in
-    (rw c.effect_at-e.ensures.record n, c.asked_at-asked.ensures.small) in fact) in
+    (rw c.effect_at-e.ensures.record n, c.asked_at-asked.ensures.small) in
+    let v = c.loop-i.invariant in
+    let (l, m) = inside in
     let asked = c.asked_at-asked.ensures.asked in
     let (one, other) = or_neither c.differs.result c.differs-in-loop-i.result c.if-differs.false in (
       omega arith,
