@@ -149,7 +149,14 @@ pub fn program_at(t: &[u8], i: usize) -> Program
     Program { kind, a, b, c }
 }
 
-// What stands in a table at place i, and the default past its end: one reader for each type of its entries.
+// What stands in a table at place i, and the default past its end.
+pub fn value_in<V: Copy>(table: &[V], i: usize, default: V) -> V
+    ensures { result ≡ get_or table.now i default }
+{
+    table.get(i).copied().unwrap_or(default)
+}
+
+// The same, one reader for each type of its entries.
 pub fn flag_in(table: &[bool], i: usize, default: bool) -> bool
     ensures { result ≡ get_or table.now i default }
 {
