@@ -35,19 +35,15 @@ fn report_on(rt: &impl Print, c: cases::Case, s: &[u8]) -> io::Result<()> {
 }
 
 fn lines(rt: &impl Print, base: &[u8], text: &[u8]) -> io::Result<()> {
-    let mut at = 0;
-    while at < text.len() {
-        let end = scan::find(text, at, b'\n');
-        line(rt, base, &text[at..end])?;
-        at = end + 1;
+    for t in text.split_inclusive(|c| *c == b'\n') {
+        line(rt, base, t.strip_suffix(b"\n").unwrap_or(t))?;
     }
     Ok(())
 }
 
 fn report_all(rt: &impl Print, text: &[u8]) -> io::Result<()> {
-    let start = 0;
-    let first = scan::find(text, start, b'\n');
-    lines(rt, &text[start..first], text)
+    let first = text.split(|c| *c == b'\n').next().unwrap_or(text);
+    lines(rt, first, text)
 }
 
 fn main(rt: HostRuntime) -> io::Result<()> {

@@ -33,40 +33,28 @@ pub fn field(s: &mut [u8], at: usize, v: u32, one: bool) -> usize {
 }
 
 // n bytes: v, v + step, and so on.
-pub fn bytes(s: &mut [u8], at: usize, n: usize, v: u8, step: u8) -> usize {
+pub fn bytes(s: &mut [u8], at: usize, n: usize, v: u8, step: u8) {
     let mut next = at;
     let mut x = v;
-    let mut i = 0;
-    while i < n {
+    for _ in 0..n {
         next = byte(s, next, x);
         x = x.wrapping_add(step);
-        i += 1;
     }
-    next
 }
 
 // n fluents of size 1.
-pub fn fluents(s: &mut [u8], at: usize, n: u16) -> usize {
+pub fn fluents(s: &mut [u8], at: usize, n: u16) {
     let mut next = at;
-    let mut i = 0;
-    while i < n {
+    for _ in 0..n {
         next = pair(s, next, 1, 0);
-        i += 1;
     }
-    next
-}
-
-fn read(s: &[u8], i: usize) -> u8 {
-    if i < s.len() { s[i] } else { 0 }
 }
 
 // A copy of the bytes from `from` on, below `end`.
 pub fn copy(s: &mut [u8], at: usize, from: usize, end: usize) {
     let mut next = at;
-    let mut i = from;
-    while i < end {
-        let x = read(s, i);
+    for i in from..end {
+        let x = s.get(i).copied().unwrap_or(0);
         next = byte(s, next, x);
-        i += 1;
     }
 }

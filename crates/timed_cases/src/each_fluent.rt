@@ -12,10 +12,7 @@ use records::{Action, Effect};
 fn changes_value(e: Effect, truths: &[bool], x: usize) -> bool
     ensures { result ≡ changes (said_by truths.now) e x }
 {
-    if e.fluent != x {
-        return false;
-    }
-    records::flag_in(truths, e.condition, false)
+    e.fluent == x && records::value_in(truths, e.condition, false)
 }
 
 // The new value of fluent x under an action's effects: the first one that changes it gives it.
@@ -25,14 +22,12 @@ fn new_value(effects: &[u8], first: usize, count: usize, truths: &[bool], x: usi
 {
     let end = first + count;
     let mut value = old;
-    let mut i = first;
-    'effects: while i < end {
+    'effects: for i in first..end {
         let e = records::effect_at(effects, i);
         if changes_value(e, truths, x) {
             value = e.value as u8;
             break 'effects;
         }
-        i += 1;
     }
     value
 }
@@ -49,10 +44,8 @@ pub fn new_values(
     ensures { result ≡ changed (said_by truths.now) (effect_at effects.now) r values }
 {
     let mut new = values;
-    let mut x = 0;
-    while x < n {
+    for x in 0..n {
         new[x] = new_value(effects, r.first, r.count, truths, x, values[x]);
-        x += 1;
     }
     new
 }

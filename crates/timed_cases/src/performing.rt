@@ -75,10 +75,6 @@ fn perform_often(
     }
 }
 
-fn is_same(a: [u8; 32], b: [u8; 32]) -> bool {
-    a == b
-}
-
 // Both ways in turn, round by round.
 fn measure(
     rt: &impl CpuClock,
@@ -90,17 +86,17 @@ fn measure(
 ) -> Times
     requires { InEffects effects.now r n }
 {
-    let mut one_pass = 0xffffffffffffffff;
-    let mut each_fluent = 0xffffffffffffffff;
+    let mut one_pass = u64::MAX;
+    let mut each_fluent = u64::MAX;
     let mut same = true;
     for _ in 0..ROUNDS {
         let a = perform_often(rt, true, effects, r, n, truths, values);
         let b = perform_often(rt, false, effects, r, n, truths, values);
-        one_pass = clock::least(one_pass, a.time);
-        each_fluent = clock::least(each_fluent, b.time);
+        one_pass = one_pass.min(a.time);
+        each_fluent = each_fluent.min(b.time);
         let by_one_pass = a.values;
         let by_each_fluent = b.values;
-        same = same & is_same(by_one_pass, by_each_fluent);
+        same = same & (by_one_pass == by_each_fluent);
     }
     Times {
         one_pass,
@@ -146,7 +142,7 @@ fn compare(
     let a = new_values(true, effects, r, n, truths, values);
     let b = new_values(false, effects, r, n, truths, values);
     report::values(rt, n, &a)?;
-    report::answer(rt, "  the same values in both ways", is_same(a, b))?;
+    report::answer(rt, "  the same values in both ways", a == b)?;
     if timed {
         tell_times(rt, measure(rt, effects, r, n, truths, values))?;
     }

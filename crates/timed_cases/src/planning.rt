@@ -1,6 +1,4 @@
 // Document 02, F-4: planning with an index of configurations already explored, of several lengths, and without one.
-ghost use Rattle.std.specs.Prelude.{◌≤◌};
-
 use crate::{clock, report, sheets};
 use planner::Planned;
 use std::io;
@@ -84,19 +82,14 @@ fn plan_with(rt: &impl CpuClock, s: &[u8], index: &mut [u32]) -> Run {
 }
 
 // Plans with so many words of index.
-fn plan(rt: &impl CpuClock, s: &[u8], words: usize) -> Run
-    requires { words ≤ 4096 }
-{
+fn plan(rt: &impl CpuClock, s: &[u8], words: usize) -> Run {
     let mut index = [BEFORE as u32; INDEX];
-    plan_with(rt, s, &mut index[..words])
+    let n = words.min(INDEX);
+    plan_with(rt, s, &mut index[..n])
 }
 
 fn is_same(a: Answer, b: Answer) -> bool {
     a.found == b.found && a.first == b.first && a.second == b.second
-}
-
-fn is_same_trace(a: [u16; ENTRIES], b: [u16; ENTRIES]) -> bool {
-    a == b
 }
 
 fn tell(rt: &impl Print, a: Answer) -> io::Result<()> {
@@ -136,14 +129,14 @@ fn far(rt: &(impl Print + Eprint + CpuClock)) -> io::Result<()> {
 
 // With the whole index and without one in turn, round by round.
 fn measure(rt: &impl CpuClock, s: &[u8], expected: Answer) -> Times {
-    let mut with_index = 0xffffffffffffffff;
-    let mut without = 0xffffffffffffffff;
+    let mut with_index = u64::MAX;
+    let mut without = u64::MAX;
     let mut same = true;
     for _ in 0..ROUNDS {
         let a = plan(rt, s, INDEX);
         let b = plan(rt, s, 0);
-        with_index = clock::least(with_index, a.time);
-        without = clock::least(without, b.time);
+        with_index = with_index.min(a.time);
+        without = without.min(b.time);
         same = same & is_same(a.answer, expected) & is_same(b.answer, expected);
     }
     Times {
@@ -173,29 +166,17 @@ fn near(rt: &(impl Print + Eprint + CpuClock)) -> io::Result<()> {
 }
 
 // The lengths of index that are compared with 0.
-fn length_at(i: usize) -> usize
-    ensures { result ≤ 4096 }
-{
-    match i {
-        0 => 1,
-        1 => 15,
-        2 => 16,
-        3 => 40,
-        _ => 4096,
-    }
-}
-
-const LENGTHS: usize = 5;
+const LENGTHS: [usize; 5] = [1, 15, 16, 40, INDEX];
 
 // Whether planning with each length of index is as without one, and leaves it 0.
 fn agrees(rt: &impl CpuClock, s: &[u8], expected: Run) -> bool {
     let answer = expected.answer;
     let trace = expected.trace;
     let mut same = true;
-    for i in 0..LENGTHS {
-        let r = plan(rt, s, length_at(i));
+    for words in LENGTHS {
+        let r = plan(rt, s, words);
         let entries = r.trace;
-        same = same & is_same(r.answer, answer) & is_same_trace(entries, trace) & r.cleared;
+        same = same & is_same(r.answer, answer) & (entries == trace) & r.cleared;
     }
     same
 }

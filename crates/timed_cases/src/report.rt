@@ -23,28 +23,20 @@ pub fn number(rt: &impl Print, x: u64) -> io::Result<()> {
     print!(rt; " {x}")
 }
 
-fn wide(x: u8) -> u64 {
-    x as u64
-}
-
 // The first n values, all where there are not so many.
 pub fn values(rt: &impl Print, n: usize, v: &[u8]) -> io::Result<()> {
     text(rt, "  values")?;
     for x in v.iter().take(n) {
-        number(rt, wide(*x))?;
+        number(rt, u64::from(*x))?;
     }
     text(rt, "\n")
-}
-
-fn wide_entry(x: u16) -> u64 {
-    x as u64
 }
 
 // The first n entries, all where there are not so many.
 pub fn entries(rt: &impl Print, n: usize, trace: &[u16]) -> io::Result<()> {
     text(rt, "  entries")?;
     for x in trace.iter().take(n) {
-        number(rt, wide_entry(*x))?;
+        number(rt, u64::from(*x))?;
     }
     text(rt, "\n")
 }

@@ -25,20 +25,16 @@ pub fn byte(s: &mut [u8], at: usize, v: u8) {
 pub fn copy(s: &mut [u8], at: usize, bytes: &[u8])
     requires { at ≤ 65536 }
 {
-    let mut i = 0;
-    while i < bytes.len() {
-        byte(s, at + i, bytes[i]);
-        i += 1;
+    for (i, b) in bytes.iter().enumerate() {
+        byte(s, at + i, *b);
     }
 }
 
 // 32 fluents of size 16, which start with different values.
 fn fluents(s: &mut [u8]) {
-    let mut x = 0;
-    while x < 32 {
+    for x in 0..32 {
         byte(s, 2 * x, 16);
         byte(s, 2 * x + 1, (x * 7 % 16) as u8);
-        x += 1;
     }
 }
 
@@ -56,11 +52,8 @@ fn effect(s: &mut [u8], i: usize, kind: u8)
 
 // All effects: those from number `from` on hold.
 fn effects(s: &mut [u8], from: usize) {
-    let mut i = 0;
-    while i < 512 {
-        let kind = if i < from { 1 } else { 0 };
-        effect(s, i, kind);
-        i += 1;
+    for i in 0..512 {
+        effect(s, i, u8::from(i < from));
     }
 }
 

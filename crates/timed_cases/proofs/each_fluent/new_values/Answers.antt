@@ -30,14 +30,14 @@ laid-all says effects n r {x} {values} {new} names l L = changed_all says effect
     pick j (no q) = L.above j (omega arith) ∙ sym (given_stays says effects n j (get_or values j 0) r.count r.first names (omega arith))
 
 pub loop-x-init : goal.loop-x-init
-loop-x-init c = (omega arith, search rules, laid_none _ _ _)
+loop-x-init c = (search rules, laid_none _ _ _)
 
 pub bounds-new-x : goal.bounds-new-x
-bounds-new-x c = omega (arith, c.loop-x.invariant.2.len)
+bounds-new-x c = omega (arith, c.loop-x.invariant.1.len)
 
 pub loop-x-preserved : goal.loop-x-preserved
 loop-x-preserved c =
-    (omega arith, c.loop-x.invariant.1, laid_more _ _ _ c.loop-x.invariant.2 (omega arith) (omega arith) c.new_value.ensures)
+    (c.loop-x.invariant.0, laid_more _ _ _ c.loop-x.invariant.1 (omega arith) (omega arith) c.new_value.ensures)
 
 pub returns : goal.returns
-returns c = laid-all _ _ _ _ c.requires.2 c.loop-x-test.false c.loop-x.invariant.2
+returns c = laid-all _ _ _ _ c.requires.2 (omega arith) c.loop-x.invariant.1

@@ -1,4 +1,4 @@
-use Prim.Native.Nat.{ℕ, ◌-◌, ◌≤◌}
+use Prim.Native.Nat.{ℕ}
 use mathlib.Core.Path.{◌≡◌}
 use lib.ListN.{get_or, length}
 use Rattle.records.specs.Records.{effect_at}
@@ -9,7 +9,4 @@ use Rattle.timed_cases.proofs.each_fluent.new_values.Given as goal
 
 abbrev pub invariant-loop-x : goal.invariant-loop-x
 invariant-loop-x l =
-    (l.x ≤ l.n) × (length l.values ≡ 32) × Laid 0 (λ (y : ℕ). given (said_by l.truths) (effect_at l.effects) y (get_or l.values y 0) l.r.first l.r.count) l.values l.new l.x
-
-abbrev pub decreases-loop-x : goal.decreases-loop-x
-decreases-loop-x l = l.n - l.x
+    (length l.values ≡ 32) × Laid 0 (λ (y : ℕ). given (said_by l.truths) (effect_at l.effects) y (get_or l.values y 0) l.r.first l.r.count) l.values l.new l.x

@@ -1,9 +1,0 @@
--- The index stays between `at` and the length; each turn leaves one byte less.
-use Rattle.std.proofs.Common.{◌-◌, ◌≤◌, length}
-use Rattle.check_cases.proofs.scan.find.Given as goal
-
-abbrev pub invariant-loop-i : goal.invariant-loop-i
-invariant-loop-i l = (l.at ≤ l.i) × (l.i ≤ length l.s)
-
-abbrev pub decreases-loop-i : goal.decreases-loop-i
-decreases-loop-i l = length l.s - l.i

@@ -1,9 +1,0 @@
--- Each turn leaves one byte less.
-use Rattle.std.proofs.Common.{◌-◌, ◌≤◌, length}
-use Rattle.check_cases.proofs.scan.number.Given as goal
-
-abbrev pub invariant-loop-i : goal.invariant-loop-i
-invariant-loop-i l = l.i ≤ length l.t
-
-abbrev pub decreases-loop-i : goal.decreases-loop-i
-decreases-loop-i l = length l.t - l.i
