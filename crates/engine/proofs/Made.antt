@@ -1,7 +1,8 @@
 -- One transition made: what the step lays out in the next frame is the transition at the cursor, its move is known, and the frame has room
 -- for one fewer. Assumes nothing.
-use Rattle.std.proofs.Common.{◌≡◌, ℕ, ◌+◌, ◌<◌, Bool, true, List, sym, refl, ap, ◌∙◌, subst, arith}
+use Rattle.std.proofs.Common.{◌≡◌, ℕ, ◌+◌, ◌<◌, Bool, List, sym, refl, ap, ◌∙◌, subst, arith}
 use mathlib.Core.Option.{Option}
+use Rattle.std.proofs.Common.{Some}
 use Rattle.height.specs.Work.{header}
 use Rattle.sheet.specs.Layout.{programs_in}
 use Rattle.sheet.specs.Check.{Accepts}
@@ -35,7 +36,7 @@ use Rattle.engine.proofs.Going.{transition_of, listed_length, listed_nth, ahead_
 
 -- the transition made, with the code e and the state st, at the cursor k
 abbrev pub made_at : Cursor → (e : ℕ) → State → Taken
-made_at k e st = record { made = true; entry = e; state = st; cursor = record { next = k.next + 1; end = k.end } }
+made_at k e st = record { entry = e; state = st; cursor = record { next = k.next + 1; end = k.end } }
 
 -- what a step sees, by the names of a layout
 abbrev view_by : List ℕ → State → (truths : List Bool) (counts : List ℕ) → Layout → (interrupts : Bool) → Sources
@@ -100,13 +101,12 @@ module _
     pub made_next :
         {st' : State}
         → st' ≡ after (world_of s) (move_of e) st
-        → MakesNext s (g.program, st) g.left w' (d + 1) (made_at k e st') g.ahead
+        → MakesNext s (g.program, st) g.left w' (d + 1) (Some (made_at k e st')) g.ahead
     made_next {st'} after-it =
         let x : RestTransition = (built.move, built.rest) in
         let first = ahead_next g.listed (transition_of s st x) (listed_nth accepted g.frame st k.next x built.nth) in
-        subst (MakesNext s (g.program, st) g.left w' (d + 1) (made_at k e st')) (sym first)
+        subst (MakesNext s (g.program, st) g.left w' (d + 1) (Some (made_at k e st'))) (sym first)
         record {
-          made_is = refl;
           move_is = move_is;
           known = known;
           state_is = after-it ∙ ap (λ (x : Option ℕ). after (world_of s) x st) move_is;

@@ -1,10 +1,10 @@
 -- Windows of a list: writing in one leaves those beside it, and a window that is written anew is what was written. Assumes nothing.
 use Rattle.std.proofs.Common.{◌≡◌, ℕ, ◌+◌, ◌-◌, ◌<◌, ◌≤◌, List, ◌++◌, length, get_or, take, drop, set, sym, refl}
-use Rattle.std.proofs.Common.{ap, ◌∙◌, zero-add, arith, length-drop, length-take, length-take-le, get_or-drop, get_or-take, take-take, drop-drop, take_at, drop-set-lt, take-add, drop_at}
+use Rattle.std.proofs.Common.{ap, ◌∙◌, zero-add, arith, length-drop, length-take, length-take-le, get_or-drop, get_or-take, take-take, drop-drop, take_at, drop-set-lt, take-add, drop_at, append_assoc}
 use native.Mathlib.Decide.{dec_lt}
 use borrow.Rule.Slice.PartMut.{put_mid, post_of, take_put, drop_put}
 use lib.ListN.{get_or-eq_default}
-use lib.Seq.{take-set-le, take-set-lt, drop-set-add}
+use lib.Seq.{paste, drop-paste, take-set-le, take-set-lt, drop-set-add}
 use Rattle.engine.specs.Tables.{window, Only}
 
 module _ {A : Type 0} where
@@ -68,6 +68,20 @@ module _ {A : Type 0} where
   window_put o e n l x h k j =
       ap (take n) (drop_at (take o l) (x ++ post_of o (e - o) l) o (length-take-le o l (omega arith)))
       ∙ take_at x (post_of o (e - o) l) n j
+
+  -- n places were copied from the front
+  module _ (n to : ℕ) (l : List A) (h : to + n ≤ length l) where
+    there : length (take to l) ≡ to
+    there = length-take-le to l (omega arith)
+
+    put : paste l to l n ≡ take to l ++ (take n l ++ drop (to + n) l)
+    put = append_assoc (take to l) (take n l) (drop (to + n) l)
+
+    pub only_copied : Only to n l (paste l to l n)
+    only_copied = record { before = ap (take to) put ∙ take_at (take to l) _ to there; behind = drop-paste l to l n (omega arith) (omega arith) }
+
+    pub window_copied : window to n (paste l to l n) ≡ take n l
+    window_copied = ap (window to n) put ∙ ap (take n) (drop_at (take to l) _ to there) ∙ take_at (take n l) _ n (length-take-le n l (omega arith))
 
   -- one place of it was written
   pub window_set : (o n : ℕ) (l : List A) (i : ℕ) (v : A) → i < n → window o n (set l (o + i) v) ≡ set (window o n l) i v

@@ -1,8 +1,9 @@
 -- Own vocabulary: going through a configuration's transitions in listed order, from a cursor on: what strategies know of the engine.
 -- Assumes nothing.
-use Rattle.std.specs.Prelude.{◌≡◌, ℕ, suc, ◌+◌, ◌-◌, ◌<◌, ◌≤◌, Bool, true, false, cond, List, [], ◌∷◌, length, drop, ◌==◌}
+use Rattle.std.specs.Prelude.{◌≡◌, ℕ, suc, ◌+◌, ◌-◌, ◌<◌, ◌≤◌, Bool, cond, List, [], ◌∷◌, length, drop, ◌==◌, Option, IsNone, IsSomeAnd, IfSome}
 use mathlib.Core.List.{Memᴰ}
-use Rattle.std.proofs.Math.Option.{Option, none, some}
+use Rattle.std.proofs.Math.Option as maybe
+use Rattle.std.proofs.Math.Option.{none, some}
 use Rattle.records.specs.Bytes.{limit16}
 use Rattle.golog.specs.declared.State.{State}
 use Rattle.sheet.specs.Layout.{layout_of}
@@ -39,7 +40,7 @@ pub record Tells (s : List ℕ) (c : Configuration) (r : Findings) : Type 0 wher
   pub far : (x : Transition) → Memᴰ x (transitions_of s c) → r.soon ≤ suc (distance x.1.0)
 
 -- a test, or a move that has K
-abbrev pub Known : (ℕ → Type 0) → Option ℕ → Type 0
+abbrev pub Known : (ℕ → Type 0) → maybe.Option ℕ → Type 0
 Known K none = Unit {0}
 Known K (some a) = K a
 
@@ -48,12 +49,11 @@ abbrev pub IsAction : List ℕ → ℕ → Type 0
 IsAction s a = (a < limit16) × (a < start → a < (layout_of s).a)
 
 -- the move of a transition by its code: none where it is a test, else the action
-abbrev pub move_of : ℕ → Option ℕ
+abbrev pub move_of : ℕ → maybe.Option ℕ
 move_of entry = cond (entry == test_code) none (some entry)
 
--- the transition x was made into frame d, and from the cursor after it the transitions are ys
+-- the transition x was made into frame d, as r tells, and from the cursor after it the transitions are ys
 pub record MadeNext (s : List ℕ) (c : Configuration) (left : ℕ) (w : List ℕ) (d : ℕ) (r : Taken) (x : Transition) (ys : List Transition) : Type 0 where
-  pub made_is : r.made ≡ true
   pub move_is : move_of r.entry ≡ x.0
   pub known : Known (IsAction s) x.0
   pub state_is : r.state ≡ x.1.1
@@ -61,9 +61,9 @@ pub record MadeNext (s : List ℕ) (c : Configuration) (left : ℕ) (w : List �
   pub ahead : Ahead s c r.cursor ys
 
 -- the next of the transitions xs, or that there is none
-abbrev pub MakesNext : List ℕ → Configuration → (left : ℕ) → (w : List ℕ) → (d : ℕ) → Taken → List Transition → Type 0
-MakesNext s c left w d r [] = r.made ≡ false
-MakesNext s c left w d r (x ∷ ys) = MadeNext s c left w d r x ys
+abbrev pub MakesNext : List ℕ → Configuration → (left : ℕ) → (w : List ℕ) → (d : ℕ) → Option Taken → List Transition → Type 0
+MakesNext s c left w d r [] = IsNone r
+MakesNext s c left w d r (x ∷ ys) = IsSomeAnd r (λ t. MadeNext s c left w d t x ys)
 
 -- a remaining program in frame d, with room for a transition, and in the state st its transitions from the cursor on
 pub record CanGoOn (s : List ℕ) (st : State) (w : List ℕ) (d : ℕ) (k : Cursor) : Type 0 where
@@ -78,7 +78,7 @@ abbrev pub ahead_of : Cursor → ℕ
 ahead_of k = k.end - k.next
 
 -- the next transition from the cursor on was made into the frame after frame d, if there is one; frames up to that are kept
-pub record GoesOn (s : List ℕ) (st : State) (d : ℕ) (k : Cursor) (w w' : List ℕ) (r : Taken) : Type 0 where
+pub record GoesOn (s : List ℕ) (st : State) (d : ℕ) (k : Cursor) (w w' : List ℕ) (r : Option Taken) : Type 0 where
   pub makes : (g : CanGoOn s st w d k) → MakesNext s (g.program, st) g.left w' (d + 1) r g.ahead
   pub kept : KeptFrames s d w w'
-  pub falls : r.made ≡ true → ahead_of r.cursor < ahead_of k
+  pub falls : IfSome r (λ t. ahead_of t.cursor < ahead_of k)

@@ -70,20 +70,12 @@ pub struct Findings {
     pub first: Cursor,
 }
 
-// The next transition, where one was made: the code of its move, the state after it, and the cursor after it.
+// A transition that was made: the code of its move, the state after it, and the cursor after it.
 #[derive(Clone, Copy)]
 pub struct Taken {
-    pub made: bool,
     pub entry: u32,
     pub state: State,
     pub cursor: Cursor,
-}
-
-fn byte(x: usize) -> u8
-    requires { x ≤ 255 }
-    ensures { result ≡ x }
-{
-    x as u8
 }
 
 // The first state of n fluents.
@@ -92,11 +84,8 @@ fn initial(fluents: &[u8], n: usize) -> State
     ensures { result ≡ starting_with fluents.now n }
 {
     let mut values = [0u8; 32];
-    let mut x = 0;
-    while x < n {
-        let r = records::fluent_at(fluents, x);
-        values[x] = byte(r.initial);
-        x += 1;
+    for x in 0..n {
+        values[x] = records::fluent_at(fluents, x).initial as u8;
     }
     State {
         values,
@@ -131,29 +120,6 @@ pub fn put_first(work: &mut [u32], s: &[u8], found: Inspection)
 {
     let l = found.layout;
     words::put_node(work, height::HEADER, 1, top_of(l.p, found.interrupts), 1);
-}
-
-// Makes one table the same as another.
-fn copy_flags(to: &mut [bool], from: &[bool])
-    requires { length to.old ≡ length from.now }
-    ensures { to.new ≡ from.now }
-{
-    let mut i = 0;
-    while i < to.len() {
-        to[i] = from[i];
-        i += 1;
-    }
-}
-
-fn copy_numbers(to: &mut [u32], from: &[u32])
-    requires { length to.old ≡ length from.now }
-    ensures { to.new ≡ from.now }
-{
-    let mut i = 0;
-    while i < to.len() {
-        to[i] = from[i];
-        i += 1;
-    }
 }
 
 // The actions that records perform and whose effects may contradict each other in some state.
@@ -191,10 +157,10 @@ pub fn prepare(flags: &mut [bool], numbers: &mut [u32], s: &[u8], found: Inspect
     let skips = leaves::skips(t, l.p, found.interrupts, &endable);
     let distances = leaves::distances(t, l.p, found.interrupts);
     let listed = may_conflict_of(s, found);
-    copy_flags(&mut flags[..leaves::RECORDS], &endable);
-    copy_numbers(&mut numbers[..leaves::SKIPS], &skips);
-    copy_numbers(&mut numbers[leaves::SKIPS..MAY_CONFLICT], &distances);
-    copy_numbers(&mut numbers[MAY_CONFLICT..COUNTS], &listed);
+    flags[..leaves::RECORDS].copy_from_slice(&endable);
+    numbers[..leaves::SKIPS].copy_from_slice(&skips);
+    numbers[leaves::SKIPS..MAY_CONFLICT].copy_from_slice(&distances);
+    numbers[MAY_CONFLICT..COUNTS].copy_from_slice(&listed);
 }
 
 // Where the tables for depth d begin: among the flags what the formulas say, and behind it which records are final.
@@ -211,17 +177,29 @@ fn counts_from(d: usize) -> usize
     COUNTS + leaves::RECORDS * (d % SETS)
 }
 
-// Takes over for every record whether it may be final: so it is final, unless that depends on the state.
-fn settle(flags: &mut [bool], to: usize)
-    requires { (most_records ≤ to) × (to + most_records ≤ length flags.old) }
-    ensures written { Only to most_records flags.old flags.new }
-    ensures finals { window to most_records flags.new ≡ endable_in flags.old }
+// The tables for depth d: what the formulas say, which records are final, and how many transitions each record has.
+fn truths_at(flags: &[bool], d: usize) -> &[bool]
+    requires { length flags.now ≡ flag_places }
+    ensures { result.now ≡ truths_at d flags.now }
 {
-    let mut i = 0;
-    while i < leaves::RECORDS {
-        flags[to + i] = flags[i];
-        i += 1;
-    }
+    let from = flags_from(d);
+    &flags[from..from + sheet::MOST_FORMULAS]
+}
+
+fn finals_at(flags: &[bool], d: usize) -> &[bool]
+    requires { length flags.now ≡ flag_places }
+    ensures { result.now ≡ finals_at d flags.now }
+{
+    let from = flags_from(d) + sheet::MOST_FORMULAS;
+    &flags[from..from + leaves::RECORDS]
+}
+
+fn counts_at(numbers: &[u32], d: usize) -> &[u32]
+    requires { length numbers.now ≡ number_places }
+    ensures { result.now ≡ counts_at d numbers.now }
+{
+    let from = counts_from(d);
+    &numbers[from..from + leaves::RECORDS]
 }
 
 // Whether a record is final, by the tables that begin at `from`: what the formulas say, and what is told of lower records.
@@ -256,12 +234,12 @@ fn mark_finals(
     let size = leaves::places_of(n, interrupts);
     let none = size as u32;
     let to = from + sheet::MOST_FORMULAS;
-    let mut i = records::wide32(records::number_in(skips, 0, none));
+    let mut i = records::value_in(skips, 0, none) as usize;
     while i < size {
         let r = leaves::record_at(programs, n, interrupts, i);
         let f = final_by(flags, from, r, running);
         flags[to + i] = f;
-        i = records::wide32(records::number_in(skips, i + 1, none));
+        i = records::value_in(skips, i + 1, none) as usize;
     }
 }
 
@@ -279,7 +257,8 @@ pub fn judge(flags: &mut [bool], numbers: &[u32], s: &[u8], found: Inspection, s
     let from = flags_from(d);
     let to = from + sheet::MOST_FORMULAS;
     state::fill_truths(&s[formulas..effects], l.q, st, &mut flags[from..to]);
-    settle(flags, to);
+    // every record is as it may be, unless that depends on the state
+    flags.copy_within(..leaves::RECORDS, to);
     mark_finals(
         flags,
         from,
@@ -308,9 +287,7 @@ pub fn is_final(
     ensures written { Filled d d flags.old flags.new numbers.now numbers.now }
 {
     judge(flags, numbers, s, found, st, d);
-    let from = flags_from(d) + sheet::MOST_FORMULAS;
-    let to = from + leaves::RECORDS;
-    ends::final_rest(&flags[from..to], work, d * found.frame + height::HEADER)
+    ends::final_rest(finals_at(flags, d), work, d * found.frame + height::HEADER)
 }
 
 // What each formula of the sheet names: made once, since it does not depend on the state.
@@ -341,9 +318,7 @@ pub fn evaluate(flags: &[bool], sets: &[u32], d: usize, q: usize) -> Evaluated
     requires { length flags.now ≡ flag_places }
     ensures { (s numbers : List ℕ) (st : State) → Judged s st d flags.now numbers → FormulasNamed s sets.now → q < (layout_of s).q → result ≡ evaluated s st q }
 {
-    let from = flags_from(d);
-    let to = from + sheet::MOST_FORMULAS;
-    state::evaluate(&flags[from..to], sets, q)
+    state::evaluate(truths_at(flags, d), sets, q)
 }
 
 // Whether action a is in conflict, by the truths for depth d, and no other.
@@ -361,11 +336,9 @@ fn only_conflicted(
     let effects = l.effects;
     let actions = l.actions;
     let programs = l.programs;
-    let from = flags_from(d);
-    let to = from + sheet::MOST_FORMULAS;
     let r = records::action_at(&s[actions..programs], a);
     let mut conflicted = [false; state::conflicts::ACTIONS];
-    conflicted[a] = state::conflicts::is_in_conflict(&s[effects..actions], r, &flags[from..to]);
+    conflicted[a] = state::conflicts::is_in_conflict(&s[effects..actions], r, truths_at(flags, d));
     conflicted
 }
 
@@ -385,12 +358,10 @@ pub fn possible_check(
     let l = found.layout;
     let actions = l.actions;
     let programs = l.programs;
-    let from = flags_from(d);
-    let to = from + sheet::MOST_FORMULAS;
     let conflicted = only_conflicted(flags, s, found, d, a);
     state::possible_check(
         &s[actions..programs],
-        &flags[from..to],
+        truths_at(flags, d),
         &conflicted,
         sets,
         a,
@@ -412,13 +383,11 @@ fn conflicted_at(
     let effects = l.effects;
     let actions = l.actions;
     let programs = l.programs;
-    let from = flags_from(d);
-    let to = from + sheet::MOST_FORMULAS;
     state::conflicts::in_conflict(
         &s[effects..actions],
         &s[actions..programs],
         &numbers[MAY_CONFLICT..COUNTS],
-        &flags[from..to],
+        truths_at(flags, d),
     )
 }
 
@@ -432,9 +401,6 @@ fn tally(numbers: &mut [u32], flags: &[bool], s: &[u8], found: Inspection, st: S
     let actions = l.actions;
     let programs = l.programs;
     let end = l.end;
-    let from = flags_from(d);
-    let middle = from + sheet::MOST_FORMULAS;
-    let to = middle + leaves::RECORDS;
     let first = counts_from(d);
     let last = first + leaves::RECORDS;
     let conflicted = conflicted_at(flags, numbers, s, found, d);
@@ -444,10 +410,10 @@ fn tally(numbers: &mut [u32], flags: &[bool], s: &[u8], found: Inspection, st: S
         l.p,
         found.interrupts,
         &s[actions..programs],
-        &flags[from..middle],
+        truths_at(flags, d),
         &conflicted,
         st.running,
-        &flags[middle..to],
+        finals_at(flags, d),
     );
 }
 
@@ -456,14 +422,10 @@ fn total(flags: &[bool], numbers: &[u32], work: &[u32], d: usize, at: usize) -> 
     requires { (length flags.now ≡ flag_places) × (length numbers.now ≡ number_places) × Stands work.now at × (length work.now < 2 ^ 32) }
     ensures { (g : Rest) → At g work.now at → Totalled (finals_at d flags.now) (distances_in numbers.now) (counts_at d numbers.now) g result }
 {
-    let from = flags_from(d) + sheet::MOST_FORMULAS;
-    let to = from + leaves::RECORDS;
-    let first = counts_from(d);
-    let last = first + leaves::RECORDS;
     ends::total_rest(
-        &flags[from..to],
+        finals_at(flags, d),
         &numbers[leaves::SKIPS..MAY_CONFLICT],
-        &numbers[first..last],
+        counts_at(numbers, d),
         work,
         at,
     )
@@ -474,8 +436,7 @@ fn count_survey(numbers: &mut [u32])
     ensures written { Only surveys_at 1 numbers.old numbers.new }
     ensures counted { surveys_in numbers.new ≡ (surveys_in numbers.old + 1) % 2 ^ 32 }
 {
-    let k = numbers[SURVEYS];
-    numbers[SURVEYS] = std::num::wrapping_add_u32(k, 1);
+    numbers[SURVEYS] = numbers[SURVEYS].wrapping_add(1);
 }
 
 // How many configurations were surveyed since the tables were prepared, modulo 2^32: what searches have cost. No answer depends on it.
@@ -540,6 +501,7 @@ fn state_after(s: &[u8], found: Inspection, truths: &[bool], entry: u32, st: Sta
 }
 
 // Whether nothing is ahead of a cursor.
+#[tactic(auto, using(crate::proofs::Going::spent_is))]
 pub fn is_spent(k: Cursor) -> bool
     ensures { (s : List ℕ) (c : Configuration) (xs : List Transition) → Ahead s c k xs → result ≡ is_none xs }
 {
@@ -568,35 +530,18 @@ fn lay_next(
         interrupts: found.interrupts,
         running: st.running,
     };
-    let from = flags_from(d);
-    let middle = from + sheet::MOST_FORMULAS;
-    let to = middle + leaves::RECORDS;
-    let first = counts_from(d);
-    let last = first + leaves::RECORDS;
     let at = d * found.frame + height::HEADER;
     steps::step_rest(
         &s[programs..end],
         v,
-        &flags[from..middle],
-        &flags[middle..to],
-        &numbers[first..last],
+        truths_at(flags, d),
+        finals_at(flags, d),
+        counts_at(numbers, d),
         work,
         at,
         at + found.frame,
         k.next,
     )
-}
-
-// No transition was made.
-fn none_made(st: State, k: Cursor) -> Taken
-    ensures { result.made ≡ false }
-{
-    Taken {
-        made: false,
-        entry: 0,
-        state: st,
-        cursor: k,
-    }
 }
 
 // Makes the next transition from a cursor on into the frame after frame d, or says that there is none.
@@ -609,27 +554,24 @@ pub fn next(
     st: State,
     d: usize,
     k: Cursor,
-) -> Taken
+) -> Option<Taken>
     requires { Of s.now found × Surveyed s.now st d flags.now numbers.now × CanGoOn s.now st work.old d k }
     ensures { GoesOn s.now st d k work.old work.new result }
 {
     if k.end <= k.next {
-        return none_made(st, k);
+        return None;
     }
     let turn = lay_next(work, flags, numbers, s, found, st, d, k);
     let Turn::Made { entry, size: _ } = turn else {
-        return none_made(st, k);
+        return None;
     };
-    let from = flags_from(d);
-    let to = from + sheet::MOST_FORMULAS;
-    let state = state_after(s, found, &flags[from..to], entry, st);
-    Taken {
-        made: true,
+    let state = state_after(s, found, truths_at(flags, d), entry, st);
+    Some(Taken {
         entry,
         state,
         cursor: Cursor {
             next: k.next + 1,
             end: k.end,
         },
-    }
+    })
 }

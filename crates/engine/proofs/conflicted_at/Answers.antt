@@ -1,12 +1,11 @@
 -- The list and what the formulas say stand in the tables. Assumes nothing.
-use Rattle.std.proofs.Common.{◌+◌, Bool, arith}
+use Rattle.std.proofs.Common.{Bool, arith}
 use Rattle.sheet.specs.Layout.{effects_in, actions_in}
 use Rattle.sheet.specs.declared.Layout.{Layout}
 use Rattle.sheet.proofs.Parts.{in_order}
 use Rattle.sheet.proofs.Found.{in_sheet, by_found, of_found}
 use Rattle.state.specs.Conflicts.{Conflicted, ReadableListed}
-use Rattle.engine.specs.Tables.{truths_from, truths_at, may_conflict_in}
-use Rattle.engine.proofs.Windows.{window_at}
+use Rattle.engine.specs.Tables.{truths_at, may_conflict_in}
 use Rattle.engine.proofs.conflicted_at.Goals as goal
 
 pub slice_bounds-in_conflict-count : goal.slice_bounds-in_conflict-count
@@ -37,8 +36,5 @@ pub returns : goal.returns
 returns c =
     let O = c.requires.0 in
     let s = c.args.s.now in
-    let flags = c.args.flags.now in
-    let x = c.flags_from-from.result in
-    let T = window_at x (truths_from c.args.d) (x + 512) 512 flags c.flags_from-from.ensures.0 (omega arith) in
-    of_found O (λ (l : Layout) (b : Bool). Conflicted (effects_in s l) (actions_in s l) (may_conflict_in c.args.numbers.now) (truths_at c.args.d flags) c.in_conflict.result)
-    (rw T at c.in_conflict.ensures)
+    of_found O (λ (l : Layout) (b : Bool). Conflicted (effects_in s l) (actions_in s l) (may_conflict_in c.args.numbers.now) (truths_at c.args.d c.args.flags.now) c.in_conflict.result)
+    (rw c.truths_at.ensures at c.in_conflict.ensures)

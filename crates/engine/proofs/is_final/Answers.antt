@@ -3,10 +3,9 @@ use Rattle.std.proofs.Common.{ℕ, ◌+◌, Bool, List, sym, refl, ap, ◌∙◌
 use Rattle.height.specs.Work.{header}
 use Rattle.words.specs.Words.{At, Stands}
 use Rattle.ends.specs.Ends.{final_by_table}
-use Rattle.engine.specs.Tables.{finals_from}
 use Rattle.engine.proofs.Frames.{frame_by, frame_holds}
 use Rattle.engine.proofs.Tables.{filled}
-use Rattle.engine.proofs.Windows.{window_at, only_same}
+use Rattle.engine.proofs.Windows.{only_same}
 use Rattle.engine.proofs.Telling.{final_told}
 use Rattle.engine.proofs.is_final.Goals as goal
 
@@ -27,13 +26,9 @@ returns-clause-answer c =
     let O = c.requires.of.0 in
     let P = c.requires.of.1 in
     let d = c.args.d in
-    let x = c.flags_from-from.result in
     let J = c.judge.ensures.tables in
-    let flags = c.judge.new.flags in
-    let n = c.judge.auto.flags in
-    let e = window_at (x + 512) (finals_from d) (x + 512 + 260) 260 flags (omega (arith, c.flags_from-from.ensures.0)) (omega arith) in
     λ left p F. c.final_rest.ensures F.rest (subst (λ (o : ℕ). At F.rest c.args.work.now (o + header)) (sym (frame_by O d)) F.words_are)
-    ∙ ap (λ (l : List Bool). final_by_table l F.rest) e
+    ∙ ap (λ (l : List Bool). final_by_table l F.rest) c.finals_at.ensures
     ∙ final_told O.accepted F c.args.st J.finals_are
 
 pub returns-clause-tables : goal.returns-clause-tables

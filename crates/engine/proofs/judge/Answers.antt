@@ -10,7 +10,7 @@ use Rattle.engine.specs.Tables.{window, Only, endable_in, truths_from, finals_fr
 use Rattle.sheet.proofs.Parts.{in_order, formulas_long, programs_long}
 use Rattle.sheet.proofs.Found.{in_sheet}
 use Rattle.engine.proofs.Tables.{truths_long, endable_kept}
-use Rattle.engine.proofs.Windows.{window_at, window_at_long, only_in, only_then, only_put, window_put, window_before}
+use Rattle.engine.proofs.Windows.{window_at, window_at_long, only_in, only_then, only_put, only_copied, window_copied, window_put, window_before}
 use Rattle.engine.proofs.Judging.{runs, many, runs_lower, runs_plain, formulas_plain, skips_by, truths_told, judged}
 use Rattle.engine.proofs.judge.Goals as goal
 
@@ -60,8 +60,10 @@ mark_finals-requires c =
     let said = c.fill_truths.new.truths in
     let long : length said ≡ 512 = c.fill_truths.auto.truths ∙ window_at_long x (x + 512) 512 flags (omega arith) (omega arith) in
     let first = only_put x (x + 512) 512 flags said (omega arith) (omega arith) long in
-    let finals = c.settle.ensures.finals ∙ endable_kept (omega (arith, c.flags_from-from.ensures.0)) first in
-    let n = c.settle.auto.flags ∙ same_len_mid x (x + 512 - x) flags said c.fill_truths.auto.truths in
+    let n₁ = same_len_mid x (x + 512 - x) flags said c.fill_truths.auto.truths in
+    let copied = window_copied 260 (x + 512) (put_mid x (x + 512 - x) flags said) (omega (arith, n₁)) in
+    let finals = ap (window (x + 512) 260) c.copy_within.ensures.after ∙ copied ∙ endable_kept (omega (arith, c.flags_from-from.ensures.0)) first in
+    let n = c.copy_within.ensures.len ∙ n₁ in
     record {
       program_table = (r, omega (arith, n));
       all_lower = (runs_lower O, runs_plain O);
@@ -81,20 +83,22 @@ returns c =
     let said = c.fill_truths.new.truths in
     let long : length said ≡ 512 = c.fill_truths.auto.truths ∙ window_at_long x (x + 512) 512 flags (omega arith) (omega arith) in
     let flags₁ = put_mid x (x + 512 - x) flags said in
-    let flags₂ = c.settle.new.flags in
+    let flags₂ = c.copy_within.new.self in
     let flags₃ = c.mark_finals.new.flags in
     let n₁ = same_len_mid x (x + 512 - x) flags said c.fill_truths.auto.truths in
-    let n₂ = c.settle.auto.flags in
+    let n₂ = c.copy_within.ensures.len in
     let n₃ = c.mark_finals.auto.flags in
     let K₁ = only_put x (x + 512) 512 flags said (omega arith) (omega arith) long in
-    let S = c.settle.ensures in
+    let after = c.copy_within.ensures.after in
+    let S : Only (x + 512) 260 flags₁ flags₂ = subst (Only (x + 512) 260 flags₁) (sym after) (only_copied 260 (x + 512) flags₁ (omega (arith, n₁))) in
+    let copied = ap (window (x + 512) 260) after ∙ window_copied 260 (x + 512) flags₁ (omega (arith, n₁)) in
     let M = c.mark_finals.ensures in
     let K : Only (truths_from d) 772 flags flags₃ =
     subst (λ (o : ℕ). Only o 772 flags flags₃) ex
-    (only_then (only_in (omega arith) (omega arith) K₁) (only_then (only_in (omega arith) (omega arith) S.written) (only_in (omega arith) (omega arith) M.written))) in
+    (only_then (only_in (omega arith) (omega arith) K₁) (only_then (only_in (omega arith) (omega arith) S) (only_in (omega arith) (omega arith) M.written))) in
     let finals : (l : List Bool) → window (x + 512) 260 l ≡ finals_at d l = λ l. let e : x + 512 ≡ finals_from d = omega arith in ap (λ (o : ℕ). window o 260 l) e in
     let truths : (l : List Bool) → window x 512 l ≡ truths_at d l = λ l. ap (λ (o : ℕ). window o 512 l) ex in
-    let same = window_before M.written n₃ x 512 (omega arith) (omega (arith, n₁, n₂)) ∙ window_before S.written n₂ x 512 (omega arith) (omega (arith, n₁)) in
+    let same = window_before M.written n₃ x 512 (omega arith) (omega (arith, n₁, n₂)) ∙ window_before S n₂ x 512 (omega arith) (omega (arith, n₁)) in
     let told = sym (truths flags₃) ∙ same ∙ window_put x (x + 512) 512 flags said (omega arith) (omega arith) long ∙ c.fill_truths.ensures in
     let before : endable_in flags₁ ≡ endable_in flags = endable_kept (omega arith) K₁ in
     record {
@@ -103,6 +107,6 @@ returns c =
           (subst₂ (λ (t f : List Bool). FinalsKnown (runs c.args.s.now c.args.found.layout c.args.found.interrupts)
           (many c.args.found.layout c.args.found.interrupts) t st.running f)
           (truths flags₃) (finals flags₃) M.finals)
-          (λ i l. ap (λ (y : List Bool). get_or y i true) (sym (finals flags₃)) ∙ M.behind i l ∙ ap (λ (y : List Bool). get_or y i true) (S.finals ∙ before));
+          (λ i l. ap (λ (y : List Bool). get_or y i true) (sym (finals flags₃)) ∙ M.behind i l ∙ ap (λ (y : List Bool). get_or y i true) (copied ∙ before));
       written = K;
     }

@@ -1,10 +1,8 @@
 -- The step is asked what stands in the frame, with the tables of its state. Assumes nothing.
-use Rattle.std.proofs.Common.{◌+◌, arith}
-use Rattle.engine.specs.Tables.{truths_from, finals_from, counts_from}
+use Rattle.std.proofs.Common.{arith}
 use Rattle.sheet.proofs.Parts.{in_order, programs_long}
 use Rattle.sheet.proofs.Found.{in_sheet}
 use Rattle.engine.proofs.Frames.{frame_by, next_inside}
-use Rattle.engine.proofs.Windows.{window_at}
 use Rattle.engine.proofs.Made.{asked, turned}
 use Rattle.engine.proofs.lay_next.Goals as goal
 
@@ -36,33 +34,15 @@ pub step_rest-requires : goal.step_rest-requires
 step_rest-requires c =
     let O = c.requires.0 in
     let d = c.args.d in
-    let x = c.flags_from-from.result in
-    let y = c.counts_from-first.result in
-    let ex = c.flags_from-from.ensures.0 in
-    let flags = c.args.flags.now in
-    let numbers = c.args.numbers.now in
     record {
       program_table = programs_long _ _ (in_sheet O);
-      can_step = asked O c.requires.1 _ _ _ _ _
-          (window_at x (truths_from d) (x + 512) 512 flags ex (omega arith))
-          (window_at (x + 512) (finals_from d) (x + 512 + 260) 260 flags (omega (arith, ex)) (omega arith))
-          (window_at y (counts_from d) (y + 260) 260 numbers c.counts_from-first.ensures.0 (omega arith))
-          (omega (arith, frame_by O d))
-          (omega (arith, frame_by O d, O.frame_is)) c.requires.2;
+      can_step = asked O c.requires.1 _ _ _ _ _ c.truths_at.ensures c.finals_at.ensures c.counts_at.ensures
+          (omega (arith, frame_by O d)) (omega (arith, frame_by O d, O.frame_is)) c.requires.2;
     }
 
 pub returns : goal.returns
 returns c =
     let O = c.requires.0 in
     let d = c.args.d in
-    let x = c.flags_from-from.result in
-    let y = c.counts_from-first.result in
-    let ex = c.flags_from-from.ensures.0 in
-    let flags = c.args.flags.now in
-    let numbers = c.args.numbers.now in
-    turned O c.requires.1 _ _ _ _ _
-    (window_at x (truths_from d) (x + 512) 512 flags ex (omega arith))
-    (window_at (x + 512) (finals_from d) (x + 512 + 260) 260 flags (omega (arith, ex)) (omega arith))
-    (window_at y (counts_from d) (y + 260) 260 numbers c.counts_from-first.ensures.0 (omega arith))
-    (omega (arith, frame_by O d))
-    (omega (arith, frame_by O d, O.frame_is)) _ c.step_rest.ensures
+    turned O c.requires.1 _ _ _ _ _ c.truths_at.ensures c.finals_at.ensures c.counts_at.ensures
+    (omega (arith, frame_by O d)) (omega (arith, frame_by O d, O.frame_is)) _ c.step_rest.ensures

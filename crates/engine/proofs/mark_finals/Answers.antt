@@ -12,7 +12,7 @@ use Rattle.engine.proofs.mark_finals.Goals as goal
 pub loop-i-init : goal.loop-i-init
 loop-i-init c =
     let e = c.places_of-size.ensures.0 in
-    let skip = c.wide32-i.ensures.0 ∙ c.number_in.ensures in
+    let skip = c.value_in-i.ensures in
     (refl, refl, only_same _, λ a h. refl, λ W s can S. rw (skip, e) (first c.requires.skips))
 
 pub final_by-f-requires : goal.final_by-f-requires
@@ -25,7 +25,7 @@ bounds-flags-to c =
 pub loop-i-smaller : goal.loop-i-smaller
 loop-i-smaller c =
     let e = c.places_of-size.ensures.0 in
-    let skip = c.wide32-i-in-loop-i.ensures.0 ∙ c.number_in-in-loop-i.ensures in
+    let skip = c.value_in-i-in-loop-i.ensures in
     let o = c.requires.skips.onward (c.loop-i.i + 1) (omega (arith, e)) in
     rw (skip, e) (omega (arith, o, e))
 
@@ -33,7 +33,7 @@ pub loop-i-preserved : goal.loop-i-preserved
 loop-i-preserved c =
     let at = c.args.from in
     let e = c.places_of-size.ensures.0 in
-    let skip = c.wide32-i-in-loop-i.ensures.0 ∙ c.number_in-in-loop-i.ensures in
+    let skip = c.value_in-i-in-loop-i.ensures in
     let z = c.requires in
     let v = c.loop-i.invariant in
     let i = c.loop-i.i in

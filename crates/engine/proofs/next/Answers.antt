@@ -1,24 +1,20 @@
 -- A spent cursor has none ahead of it; else the transition at the cursor is made, for there is one. Assumes nothing.
-use Rattle.std.proofs.Common.{◌+◌, sym, ◌∙◌, subst, true≢false, arith}
+use Rattle.std.proofs.Common.{◌+◌, None, sym, refl, subst, arith}
 use Rattle.sheet.specs.Layout.{layout_of}
 use Rattle.demands.specs.Decoded.{world_of}
 use Rattle.state.specs.Truths.{AreTruths}
 use Rattle.words.proofs.Written.{kept_refl}
-use Rattle.engine.specs.Tables.{truths_from}
 use Rattle.engine.specs.Going.{MakesNext}
-use Rattle.engine.proofs.Windows.{window_at}
 use Rattle.engine.proofs.Going.{ahead_none}
 use Rattle.engine.proofs.Made.{none_left, made_known, made_next, step_kept}
 use Rattle.engine.proofs.next.Goals as goal
 
 pub returns-then-k : goal.returns-then-k
-returns-then-k c =
-    let r = c.none_made.ensures in
-    record {
-      makes = λ g. subst (MakesNext c.args.s.now (g.program, c.args.st) g.left _ _ c.none_made.result) (sym (ahead_none g.listed c.if-k.true)) r;
-      kept = kept_refl _ _;
-      falls = λ e. absurd (true≢false (sym e ∙ r));
-    }
+returns-then-k c = record {
+  makes = λ g. subst (MakesNext c.args.s.now (g.program, c.args.st) g.left c.args.work.now (c.args.d + 1) None) (sym (ahead_none g.listed c.if-k.true)) refl;
+  kept = kept_refl _ _;
+  falls = tt;
+}
 
 pub returns-in_default : goal.returns-in_default
 returns-in_default c =
@@ -28,10 +24,8 @@ returns-in_default c =
 pub state_after-state-requires : goal.state_after-state-requires
 state_after-state-requires c =
     let P = c.requires in
-    let x = c.flags_from-from.result in
-    let T = window_at x (truths_from c.args.d) (x + 512) 512 c.args.flags.now c.flags_from-from.ensures.0 (omega arith) in
     record {
-      of = (P.0, subst (AreTruths (world_of c.args.s.now) c.args.st (layout_of c.args.s.now).q) (sym T) P.1.truths_are);
+      of = (P.0, subst (AreTruths (world_of c.args.s.now) c.args.st (layout_of c.args.s.now).q) (sym c.truths_at.ensures) P.1.truths_are);
       known = made_known P.0.accepted c.lay_next-turn.ensures P.2 c.in-Made.is;
     }
 
@@ -42,5 +36,5 @@ returns c =
     record {
       makes = λ g. made_next P.0.accepted A g c.in-Made.is c.state_after-state.ensures;
       kept = step_kept P.0.accepted A P.2;
-      falls = λ e. omega (arith, c.if-k.false);
+      falls = omega (arith, c.if-k.false);
     }

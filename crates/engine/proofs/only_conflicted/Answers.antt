@@ -1,5 +1,5 @@
 -- The one action is looked at, whose range lies in the sheet's tables. Assumes nothing.
-use Rattle.std.proofs.Common.{◌+◌, Bool, false, List, replicate, ap, ◌∙◌, ap₂, arith, get_or-set_same}
+use Rattle.std.proofs.Common.{Bool, false, List, replicate, ap, ◌∙◌, ap₂, arith, get_or-set_same}
 use Rattle.records.specs.Records.{action_at}
 use Rattle.records.specs.declared.Action.{Action}
 use Rattle.sheet.specs.Layout.{effects_in, actions_in}
@@ -7,8 +7,7 @@ use Rattle.sheet.specs.declared.Layout.{Layout}
 use Rattle.sheet.proofs.Parts.{in_order, actions_long}
 use Rattle.sheet.proofs.Found.{in_sheet}
 use Rattle.state.specs.Conflicts.{in_conflict}
-use Rattle.engine.specs.Tables.{truths_from, truths_at}
-use Rattle.engine.proofs.Windows.{window_at}
+use Rattle.engine.specs.Tables.{truths_at}
 use Rattle.engine.proofs.Named.{readable}
 use Rattle.engine.proofs.only_conflicted.Goals as goal
 
@@ -47,9 +46,7 @@ returns c =
     let O = c.requires.0 in
     let s = c.args.s.now in
     let a = c.args.a in
-    let x = c.flags_from-from.result in
-    let T = window_at x (truths_from c.args.d) (x + 512) 512 c.args.flags.now c.flags_from-from.ensures.0 (omega arith) in
     get_or-set_same (replicate 64 false) a _ false (omega (arith, c.requires.2, (in_sheet O).a))
     ∙ c.is_in_conflict.ensures
-    ∙ ap₂ (λ (t : List Bool) (r : Action). in_conflict (effects_in s c.args.found.layout) t r) T c.action_at-r.ensures.record
+    ∙ ap₂ (λ (t : List Bool) (r : Action). in_conflict (effects_in s c.args.found.layout) t r) c.truths_at.ensures c.action_at-r.ensures.record
     ∙ ap (λ (l : Layout). in_conflict (effects_in s l) (truths_at c.args.d c.args.flags.now) (action_at (actions_in s l) a)) O.layout_is

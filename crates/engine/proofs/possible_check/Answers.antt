@@ -1,12 +1,11 @@
 -- By the tables the answer is that of the state, by the law of Named. Assumes nothing.
-use Rattle.std.proofs.Common.{◌+◌, ◌<◌, Bool, List, ap, ◌∙◌, subst, arith}
+use Rattle.std.proofs.Common.{◌<◌, Bool, List, ap, ◌∙◌, subst, arith}
 use Rattle.sheet.specs.Layout.{actions_in}
 use Rattle.sheet.specs.declared.Layout.{Layout}
 use Rattle.sheet.proofs.Parts.{in_order, actions_long}
 use Rattle.sheet.proofs.Found.{in_sheet}
 use Rattle.state.specs.Evaluated.{possibility_by}
-use Rattle.engine.specs.Tables.{truths_from, truths_at}
-use Rattle.engine.proofs.Windows.{window_at}
+use Rattle.engine.specs.Tables.{truths_at}
 use Rattle.engine.proofs.Named.{possibility_told}
 use Rattle.engine.proofs.possible_check.Goals as goal
 
@@ -30,12 +29,10 @@ returns c =
     let a = c.args.a in
     let flags = c.args.flags.now in
     let sets = c.args.sets.now in
-    let x = c.flags_from-from.result in
-    let T = window_at x (truths_from c.args.d) (x + 512) 512 flags c.flags_from-from.ensures.0 (omega arith) in
     let known = subst (λ (l : Layout). a < l.a) O.layout_is c.requires.2 in
     let conflicted = c.only_conflicted-conflicted.result in
     λ numbers st J named.
     c.possible_check.ensures
-    ∙ ap (λ (t : List Bool). possibility_by (actions_in s c.args.found.layout) t conflicted sets a) T
+    ∙ ap (λ (t : List Bool). possibility_by (actions_in s c.args.found.layout) t conflicted sets a) c.truths_at.ensures
     ∙ ap (λ (l : Layout). possibility_by (actions_in s l) (truths_at c.args.d flags) conflicted sets a) O.layout_is
     ∙ possibility_told O.accepted J a conflicted sets known c.only_conflicted-conflicted.ensures named

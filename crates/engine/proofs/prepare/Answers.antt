@@ -32,21 +32,21 @@ distances-distances-requires c = programs_long _ _ (in_sheet c.requires.0)
 pub may_conflict_of-listed-requires : goal.may_conflict_of-listed-requires
 may_conflict_of-listed-requires c = c.requires.0
 
-pub slice_bounds-copy_flags-end-2 : goal.slice_bounds-copy_flags-end-2
-slice_bounds-copy_flags-end-2 c =
+pub slice_bounds-copy_from_slice-end-2 : goal.slice_bounds-copy_from_slice-end-2
+slice_bounds-copy_from_slice-end-2 c =
     sym (length-take-le 260 c.args.flags.now (omega (arith, c.requires.1)))
 
-pub copy_flags-requires : goal.copy_flags-requires
-copy_flags-requires c =
+pub copy_from_slice-requires : goal.copy_from_slice-requires
+copy_from_slice-requires c =
     let n = length-take-le 260 c.args.flags.now (omega (arith, c.requires.1)) in
     search rules
 
-pub slice_bounds-copy_numbers-end-2 : goal.slice_bounds-copy_numbers-end-2
-slice_bounds-copy_numbers-end-2 c =
+pub slice_bounds-copy_from_slice-end-5 : goal.slice_bounds-copy_from_slice-end-5
+slice_bounds-copy_from_slice-end-5 c =
     sym (length-take-le 261 c.args.numbers.now (omega (arith, c.requires.2)))
 
-pub copy_numbers-requires : goal.copy_numbers-requires
-copy_numbers-requires c =
+pub copy_from_slice-requires-2 : goal.copy_from_slice-requires-2
+copy_from_slice-requires-2 c =
     let n = length-take-le 261 c.args.numbers.now (omega (arith, c.requires.2)) in
     search rules
 
@@ -54,34 +54,34 @@ pub returns : goal.returns
 returns c =
     let flags = c.args.flags.now in
     let numbers = c.args.numbers.now in
-    let marks = c.copy_flags.new.to in
-    let skips = c.copy_numbers.new.to in
-    let distances = c.copy_numbers-2.new.to in
-    let judged = c.copy_numbers-3.new.to in
+    let marks = c.copy_from_slice.new.self in
+    let skips = c.copy_from_slice-2.new.self in
+    let distances = c.copy_from_slice-3.new.self in
+    let judged = c.copy_from_slice-4.new.self in
     let numbers₁ = skips ++ drop 261 numbers in
     let numbers₂ = put_mid 261 260 numbers₁ distances in
-    let ml = c.copy_flags.auto.to ∙ length-take-le 260 flags (omega (arith, c.requires.1)) in
-    let sl = c.copy_numbers.auto.to ∙ length-take-le 261 numbers (omega (arith, c.requires.2)) in
-    let nl = length_front numbers skips 261 c.copy_numbers.auto.to in
+    let ml = c.copy_from_slice.ensures.len ∙ length-take-le 260 flags (omega (arith, c.requires.1)) in
+    let sl = c.copy_from_slice-2.ensures.len ∙ length-take-le 261 numbers (omega (arith, c.requires.2)) in
+    let nl = length_front numbers skips 261 c.copy_from_slice-2.ensures.len in
     let long : 521 ≤ length numbers₁ = omega (arith, nl, c.requires.2) in
-    let dl = c.copy_numbers-2.auto.to ∙ window_at_long 261 521 260 numbers₁ (omega arith) long in
-    let nl₂ = same_len_mid 261 260 numbers₁ distances c.copy_numbers-2.auto.to in
+    let dl = c.copy_from_slice-3.ensures.len ∙ window_at_long 261 521 260 numbers₁ (omega arith) long in
+    let nl₂ = same_len_mid 261 260 numbers₁ distances c.copy_from_slice-3.ensures.len in
     let K = only_put 261 521 260 numbers₁ distances (omega arith) long dl in
     let long₂ : 586 ≤ length numbers₂ = omega (arith, nl, nl₂, c.requires.2) in
-    let jl = c.copy_numbers-3.auto.to ∙ window_at_long 521 586 65 numbers₂ (omega arith) long₂ in
-    let nl₃ = same_len_mid 521 65 numbers₂ judged c.copy_numbers-3.auto.to in
+    let jl = c.copy_from_slice-4.ensures.len ∙ window_at_long 521 586 65 numbers₂ (omega arith) long₂ in
+    let nl₃ = same_len_mid 521 65 numbers₂ judged c.copy_from_slice-4.ensures.len in
     let K₂ = only_put 521 586 65 numbers₂ judged (omega arith) long₂ jl in
     prepared c.requires.0 c.bounds-endable.result
-    (length_front flags marks 260 c.copy_flags.auto.to ∙ c.requires.1)
+    (length_front flags marks 260 c.copy_from_slice.ensures.len ∙ c.requires.1)
     (nl₃ ∙ nl₂ ∙ nl ∙ c.requires.2)
-    (take_at marks (drop 260 flags) 260 ml ∙ c.copy_flags.ensures)
+    (take_at marks (drop 260 flags) 260 ml ∙ c.copy_from_slice.ensures.after)
     c.bounds-endable.ensures
     (λ d i. ap (λ (x : List ℕ). get_or x i 0)
     (window_behind K₂ nl₃ (counts_from d) 260 (omega arith) ∙ window_behind K nl₂ (counts_from d) 260 (omega arith) ∙ window_behind (only_front 261 numbers skips sl) nl (counts_from d) 260
     (omega arith))
     ∙ window_same 0 (counts_from d) 260 numbers c.requires.3 i)
-    (skips_kept (omega arith) K₂ ∙ skips_kept (omega arith) K ∙ take_at skips (drop 261 numbers) 261 sl ∙ c.copy_numbers.ensures ∙ c.skips-skips.ensures)
-    (distances_kept (omega arith) K₂ nl₃ (omega arith) ∙ window_put 261 521 260 numbers₁ distances (omega arith) long dl ∙ c.copy_numbers-2.ensures ∙
+    (skips_kept (omega arith) K₂ ∙ skips_kept (omega arith) K ∙ take_at skips (drop 261 numbers) 261 sl ∙ c.copy_from_slice-2.ensures.after ∙ c.skips-skips.ensures)
+    (distances_kept (omega arith) K₂ nl₃ (omega arith) ∙ window_put 261 521 260 numbers₁ distances (omega arith) long dl ∙ c.copy_from_slice-3.ensures.after ∙
     c.distances-distances.ensures)
     (subst (ListsMayConflict c.args.s.now)
-    (sym (window_put 521 586 65 numbers₂ judged (omega arith) long₂ jl ∙ c.copy_numbers-3.ensures)) c.may_conflict_of-listed.ensures)
+    (sym (window_put 521 586 65 numbers₂ judged (omega arith) long₂ jl ∙ c.copy_from_slice-4.ensures.after)) c.may_conflict_of-listed.ensures)

@@ -4,7 +4,7 @@ use borrow.Rule.Slice.PartMut.{put_mid, same_len_mid}
 use Rattle.leaves.specs.Tallies.{Tallied}
 use Rattle.leaves.specs.Endable.{Tallyable}
 use Rattle.sheet.specs.Layout.{actions_in}
-use Rattle.engine.specs.Tables.{window, Only, truths_from, finals_from, truths_at, counts_from, counts_at}
+use Rattle.engine.specs.Tables.{window, Only, truths_at, counts_from, counts_at}
 use Rattle.sheet.proofs.Parts.{in_order, programs_long}
 use Rattle.sheet.proofs.Found.{in_sheet}
 use Rattle.engine.proofs.Tables.{counts_long}
@@ -42,18 +42,13 @@ tallies-requires c =
     let s = c.args.s.now in
     let l = c.args.found.layout in
     let b = c.args.found.interrupts in
-    let flags = c.args.flags.now in
     let numbers = c.args.numbers.now in
-    let x = c.flags_from-from.result in
     let y = c.counts_from-first.result in
-    let e = c.flags_from-from.ensures.0 in
-    let T = window_at x (truths_from d) (x + 512) 512 flags e (omega arith) in
-    let F = window_at (x + 512) (finals_from d) (x + 512 + 260) 260 flags (omega (arith, e)) (omega arith) in
     let N = window_at y (counts_from d) (y + 260) 260 numbers c.counts_from-first.ensures.0 (omega arith) in
     let r = programs_long _ _ (in_sheet O) in
     record {
       program_table = (r, ap length N ∙ counts_long J.prepared d);
-      tallyable = subst₂ (λ (t f : List Bool). Tallyable (runs s l b) (many l b) (actions_in s l) t c.args.st.running f) (sym T) (sym F) (tallyable O J);
+      tallyable = subst₂ (λ (t f : List Bool). Tallyable (runs s l b) (many l b) (actions_in s l) t c.args.st.running f) (sym c.truths_at.ensures) (sym c.finals_at.ensures) (tallyable O J);
     }
 
 pub returns : goal.returns
@@ -67,9 +62,7 @@ returns c =
     let b = c.args.found.interrupts in
     let flags = c.args.flags.now in
     let numbers = c.args.numbers.now in
-    let x = c.flags_from-from.result in
     let y = c.counts_from-first.result in
-    let T = window_at x (truths_from d) (x + 512) 512 flags c.flags_from-from.ensures.0 (omega arith) in
     let ey = c.counts_from-first.ensures.0 in
     let N = window_at y (counts_from d) (y + 260) 260 numbers ey (omega arith) in
     let counts = c.tallies.new.counts in
@@ -79,7 +72,7 @@ returns c =
     let K : Only (counts_from d) 260 numbers new = subst (λ (o : ℕ). Only o 260 numbers new) ey (only_put y (y + 260) 260 numbers counts (omega arith) fits long) in
     let e : counts_at d new ≡ counts = subst (λ (o : ℕ). window o 260 new ≡ counts) ey (window_put y (y + 260) 260 numbers counts (omega arith) fits long) in
     let conflicted = c.conflicted_at-conflicted.result in
-    let told = subst₂ (λ (t : List Bool) (k : List ℕ). Tallied (runs s l b) (many l b) (actions_in s l) t conflicted st.running k counts) T N c.tallies.ensures.counts in
+    let told = subst₂ (λ (t : List Bool) (k : List ℕ). Tallied (runs s l b) (many l b) (actions_in s l) t conflicted st.running k counts) c.truths_at.ensures N c.tallies.ensures.counts in
     record {
       tables = surveyed O J new conflicted (same_len_mid y (y + 260 - y) numbers counts c.tallies.auto.counts) K c.conflicted_at-conflicted.ensures
           (subst (λ (k : List ℕ). Tallied (runs s l b) (many l b) (actions_in s l) (truths_at d flags) conflicted st.running (counts_at d numbers) k) (sym e) told);
