@@ -4,30 +4,18 @@
 #![tactic(auto)]
 
 ghost use Rattle.std.specs.Prelude.{◌≡◌, length};
-ghost use Rattle.sheet.specs.Inspection.{Of};
 ghost use Rattle.engine.specs.Tables.{flag_places};
 
-use sheet::{Checked, Inspected, Inspection};
+use sheet::Sheet;
 use std::io;
 
 // The bytes that the program reads.
 const BYTES: usize = 16384;
 
-fn number(rt: &impl Print, x: usize) -> io::Result<()> {
-    print!(rt; " {x}")
-}
-
-fn digit(b: bool) -> usize {
-    if b { 1 } else { 0 }
-}
-
 // One line: a word, a record's number, what is said of it, and its set.
 fn line(rt: &impl Print, word: &str, i: usize, said: bool, set: u32) -> io::Result<()> {
-    rt.print(word)?;
-    number(rt, i)?;
-    number(rt, digit(said))?;
-    number(rt, set as usize)?;
-    println!(rt)
+    let digit = u8::from(said);
+    println!(rt; "{word} {i} {digit} {set}")
 }
 
 // Each of the first n formulas, evaluated in the state that was judged at depth 0.
@@ -42,59 +30,45 @@ fn formulas(rt: &impl Print, flags: &[bool], sets: &[u32], n: usize) -> io::Resu
 }
 
 // Each action of the sheet, checked in that state.
-fn actions(
-    rt: &impl Print,
-    flags: &[bool],
-    sets: &[u32],
-    s: &[u8],
-    found: Inspection,
-) -> io::Result<()>
-    requires { Of s.now found × (length flags.now ≡ flag_places) }
+fn actions(rt: &impl Print, flags: &[bool], sets: &[u32], s: &Sheet) -> io::Result<()>
+    requires { length flags.now ≡ flag_places }
 {
-    let l = found.layout;
-    for a in 0..l.a {
-        let p = engine::possible_check(flags, sets, s, found, 0, a);
+    let count = s.found().layout.a;
+    for a in 0..count {
+        let p = engine::possible_check(flags, sets, s, 0, a);
         line(rt, "action", a, p.possible, p.names)?;
     }
     Ok(())
 }
 
 // The formulas and the actions of an accepted sheet.
-fn tell(rt: &impl Print, s: &[u8], found: Inspection) -> io::Result<()>
-    requires { Of s.now found }
-{
+fn tell(rt: &impl Print, s: &Sheet) -> io::Result<()> {
     let mut flags = [false; engine::FLAGS];
     let mut numbers = [0u32; engine::NUMBERS];
-    engine::prepare(&mut flags, &mut numbers, s, found);
-    let st = engine::initial_of(s, found);
-    engine::judge(&mut flags, &numbers, s, found, st, 0);
-    let l = found.layout;
-    let sets = engine::formula_sets(s, found);
-    formulas(rt, &flags, &sets, l.q)?;
-    let unions = engine::action_sets(s, found, &sets);
-    actions(rt, &flags, &unions, s, found)
+    engine::prepare(&mut flags, &mut numbers, s);
+    let st = engine::initial_of(s);
+    engine::judge(&mut flags, &numbers, s, st, 0);
+    let sets = engine::formula_sets(s);
+    formulas(rt, &flags, &sets, s.found().layout.q)?;
+    let unions = engine::action_sets(s, &sets);
+    actions(rt, &flags, &unions, s)
 }
 
 // What the check answers.
 fn check(rt: &impl Print, s: &[u8]) -> io::Result<()> {
     match sheet::check(s) {
-        Checked::Accepted { words, names } => {
-            rt.print("sheet")?;
-            number(rt, words)?;
-            number(rt, names as usize)?;
+        Ok(found) => {
+            let words = found.words;
+            let names = found.names;
+            println!(rt; "sheet {words} {names}")
         }
-        Checked::Refused { why } => {
-            rt.print("refused")?;
-            number(rt, why.number as usize)?;
-            number(rt, why.place)?;
-        }
+        Err(why) => println!(rt; "refused {why}"),
     }
-    println!(rt)
 }
 
 fn report(rt: &impl Print, s: &[u8]) -> io::Result<()> {
-    if let Inspected::Accepted { found } = sheet::inspect(s) {
-        tell(rt, s, found)?;
+    if let Ok(sheet) = Sheet::open(s) {
+        tell(rt, &sheet)?;
     }
     check(rt, s)
 }

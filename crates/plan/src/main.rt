@@ -13,23 +13,11 @@ const INDEX: usize = 32768;
 
 const BYTES: usize = 16384;
 
-fn wide(x: u16) -> usize {
-    x as usize
-}
-
-fn number(rt: &impl Print, x: usize) -> io::Result<()> {
-    print!(rt; "{x}")
-}
-
-// One line: a word and two numbers.
-fn line(rt: &impl Print, word: &str, a: usize, b: usize) -> io::Result<()> {
-    println!(rt; "{word} {a} {b}")
-}
-
-fn entries(rt: &impl Print, trace: &[u16], n: usize) -> io::Result<()> {
+fn found(rt: &impl Print, plan: Planned, trace: &[u16]) -> io::Result<()> {
+    let Planned { n, t } = plan;
+    println!(rt; "found {n} {t}")?;
     for entry in trace.iter().take(n) {
-        number(rt, wide(*entry))?;
-        println!(rt)?;
+        println!(rt; "{entry}")?;
     }
     Ok(())
 }
@@ -39,11 +27,8 @@ fn report(rt: &impl Print, sheet: &[u8]) -> io::Result<()> {
     let mut trace = [0u16; ENTRIES];
     let mut index = [0u32; INDEX];
     match planner::plan(sheet, &mut work, &mut trace, &mut index) {
-        Planned::Found { n, t } => {
-            line(rt, "found", n, t)?;
-            entries(rt, &trace, n)
-        }
-        Planned::Refused { why } => line(rt, "refused", why.number as usize, why.place),
+        Ok(plan) => found(rt, plan, &trace),
+        Err(why) => println!(rt; "refused {why}"),
     }
 }
 

@@ -10,10 +10,8 @@ use lib.Seq.{take_at}
 use Rattle.records.specs.Mask.{has_bit}
 use Rattle.records.specs.Records.{fluent_at}
 use Rattle.sheet.specs.Layout.{layout_of, fluents_in}
-use Rattle.sheet.specs.Check.{refusal_of, check_of, Accepts}
+use Rattle.sheet.specs.Check.{Checked, accepted_with, refusal_of, check_of, Accepts}
 use Rattle.sheet.specs.Notes.{FirstRecord, with_notes}
-use Rattle.sheet.specs.declared.Checked.{Checked}
-use Rattle.sheet.specs.declared.Checked.TheVariants as checked
 use Rattle.demands.specs.Decoded.{bound_of}
 use Rattle.demands.specs.Planning as meant
 use Rattle.demands.specs.Initials.{SameButInitials, with_initial}
@@ -27,7 +25,6 @@ use Rattle.planner.specs.Answers.{reply, replay_at, reply_of, replay_work}
 use Rattle.planner.specs.Numbers.{plan_moves}
 use Rattle.planner.specs.Sizes.{sized_as, sizes_of}
 use Rattle.planner.specs.declared.Planned.{Planned}
-use Rattle.planner.specs.declared.Sized.TheVariants as sized
 use Rattle.planner.proofs.Demands.{answer_is, trace_is, reply_is}
 
 -- with the same areas lent
@@ -36,8 +33,8 @@ module _ {s s' : List ℕ} (same : AnsweredAlike s s') where
   stage_same work trace = ap (plan_checked s' work trace) same.check ∙ go (check_of s)
     where
       go : (c : Checked) → plan_checked s' work trace c ≡ plan_checked s work trace c
-      go (checked.Accepted w names) = ap (λ (b : ℕ). cond (ltb trace b) (refused (refusal_of 10 0)) (with_work work w)) same.bound
-      go (checked.Refused why) = refl
+      go (Ok a) = ap (λ (b : ℕ). cond (ltb trace b) (refused (refusal_of 10 0)) (with_work work a.words)) same.bound
+      go (Err why) = refl
 
   pub answer_same : (work trace : ℕ) → answer_of s' work trace ≡ answer_of s work trace
   unfolding answer_of
@@ -79,8 +76,8 @@ module _ {s s' : List ℕ} (same : AnsweredAlike s s') where
   sizes_same = ap (sized_as s') same.check ∙ go (check_of s)
     where
       go : (c : Checked) → sized_as s' c ≡ sized_as s c
-      go (checked.Accepted w names) = λ i. sized.Known (same.fluents i) (same.bound i)
-      go (checked.Refused why) = refl
+      go (Ok a) = λ i. Ok (record { fluents = same.fluents i; bound = same.bound i })
+      go (Err why) = refl
 
   -- two calls of `plan` that were lent the same answer the same and leave the same
   pub calls_same : (work trace index : List ℕ) (a a' : Planned) (work₁ trace₁ index₁ work₂ trace₂ index₂ : List ℕ)
@@ -99,7 +96,7 @@ other_notes = notes_alike
 
 -- Document 02, F-5: "Two accepted sheets that differ only in initial values of fluents outside the union get the same plan verdict, trace
 -- and replay replies"
-module _ (s s' : List ℕ) (w names : ℕ) (accepted : check_of s ≡ checked.Accepted w names) (accepted' : Accepts s') (but : SameButInitials names s s') where
+module _ (s s' : List ℕ) (w names : ℕ) (accepted : check_of s ≡ accepted_with w names) (accepted' : Accepts s') (but : SameButInitials names s s') where
   pub outside_same : AnsweredAlike s s'
   outside_same = outside_alike s (w, names, accepted) s' accepted' but
 
@@ -133,7 +130,7 @@ module _ (s s' : List ℕ) (w names : ℕ) (accepted : check_of s ≡ checked.Ac
 
 -- such sheets exist: an accepted sheet and the same with another initial value, below the domain size, of a fluent outside the union
 module _
-    (s : List ℕ) (w names : ℕ) (accepted : check_of s ≡ checked.Accepted w names) (x v : ℕ) (known : x < (layout_of s).f)
+    (s : List ℕ) (w names : ℕ) (accepted : check_of s ≡ accepted_with w names) (x v : ℕ) (known : x < (layout_of s).f)
     (below : v < (fluent_at (fluents_in s (layout_of s)) x).size) (outside : has_bit names x ≡ false) where
   pub initial_same : AnsweredAlike s (with_initial s x v)
   initial_same =

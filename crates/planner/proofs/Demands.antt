@@ -15,11 +15,9 @@ use lib.ListN.{length, take, drop, replicate}
 use lib.Seq.{take_at, drop_at}
 use Rattle.runs.specs.Search.{Verdict, plan, nothing, more}
 use Rattle.height.specs.Work.{work_words}
-use Rattle.sheet.specs.Check.{refusal_of, check_of}
+use Rattle.sheet.specs.Check.{Checked, accepted_with, refusal_of, check_of}
 use Rattle.sheet.specs.declared.Refusal.{Refusal}
 use Rattle.sheet.proofs.Numbers.{Numbered, numbered}
-use Rattle.sheet.specs.declared.Checked.{Checked}
-use Rattle.sheet.specs.declared.Checked.TheVariants as checked
 use Rattle.demands.specs.Decoded.{bound_of, levels_of}
 use Rattle.demands.specs.Planning as meant
 use Rattle.demands.specs.Planning.{plan_of, replay_of, answer, verdict_of, accepts_of}
@@ -36,21 +34,19 @@ use Rattle.planner.specs.Answers.{reply, replay_at, reply_of, replay_work}
 use Rattle.planner.specs.Numbers.{plan_number, plan_moves, plan_transitions, reply_number, reply_yes, sizes_bound}
 use Rattle.planner.specs.Sizes.{sized_as, sizes_of}
 use Rattle.planner.specs.declared.Planned.{Planned}
-use Rattle.planner.specs.declared.Planned.TheVariants as planned
-use Rattle.planner.specs.declared.Replayed.TheVariants as replayed
 
 -- Demand 1: "turns away what it can't use by a number; what it returns and leaves in each lent slice is written down"
 
 -- a sheet with a cause of 1 to 9: that number and place, all else untouched, whatever was lent
-module _ (s : List ℕ) (why : Refusal) (cause : check_of s ≡ checked.Refused why) where
+module _ (s : List ℕ) (why : Refusal) (cause : check_of s ≡ Err why) where
   sheet_stage : (work trace : ℕ) → plan_stage s work trace ≡ refused why
   sheet_stage work trace = ap (plan_checked s work trace) cause
 
-  pub sheet_refused : (work trace : ℕ) → answer_of s work trace ≡ planned.Refused why
+  pub sheet_refused : (work trace : ℕ) → answer_of s work trace ≡ Err why
   unfolding answer_of
   sheet_refused work trace = ap (plan_at s) (sheet_stage work trace)
 
-  pub sheet_refused_reply : (h : List ℕ) (work : ℕ) → reply_of s h work ≡ replayed.Refused why
+  pub sheet_refused_reply : (h : List ℕ) (work : ℕ) → reply_of s h work ≡ Err why
   unfolding reply_of
   sheet_refused_reply h work = ap (λ (c : Stage). replay_at s h c) (ap (replay_checked work) cause)
 
@@ -65,7 +61,7 @@ module _ (s : List ℕ) (why : Refusal) (cause : check_of s ≡ checked.Refused 
   )
 
 -- an accepted sheet, whose figure is w
-module _ (s : List ℕ) (w names : ℕ) (accepted : check_of s ≡ checked.Accepted w names) where
+module _ (s : List ℕ) (w names : ℕ) (accepted : check_of s ≡ accepted_with w names) where
   -- the bound that `sizes` tells is the number of trace entries that planning asks for
   pub told_bound : sizes_bound (sizes_of s) ≡ bound_of s
   unfolding sizes_of
@@ -76,7 +72,7 @@ module _ (s : List ℕ) (w names : ℕ) (accepted : check_of s ≡ checked.Accep
     stage_ten : plan_stage s (length work) (length trace) ≡ refused (refusal_of 10 0)
     stage_ten = ap (plan_checked s (length work) (length trace)) accepted ∙ simp (lt-ltb (length trace) (bound_of s) short)
 
-    pub ten : (index : List ℕ) → (answer_of s (length work) (length trace) ≡ planned.Refused (refusal_of 10 0)) × (trace_of s (length work) trace ≡ trace) ×
+    pub ten : (index : List ℕ) → (answer_of s (length work) (length trace) ≡ Err (refusal_of 10 0)) × (trace_of s (length work) trace ≡ trace) ×
         (plan_work s work (length trace) ≡ work) × (index_of s (length work) (length trace) index ≡ index)
     unfolding answer_of trace_of plan_work index_of
     ten index = (
@@ -96,7 +92,7 @@ module _ (s : List ℕ) (w names : ℕ) (accepted : check_of s ≡ checked.Accep
         ap (plan_checked s (length work) (length trace)) accepted
         ∙ simp (le-ltb (length trace) (bound_of s) long, lt-ltb (length work) w short)
 
-    pub eleven : (trace index : List ℕ) → bound_of s ≤ length trace → (answer_of s (length work) (length trace) ≡ planned.Refused (refusal_of 11 0)) ×
+    pub eleven : (trace index : List ℕ) → bound_of s ≤ length trace → (answer_of s (length work) (length trace) ≡ Err (refusal_of 11 0)) ×
         (trace_of s (length work) trace ≡ trace) × (plan_work s work (length trace) ≡ work) × (index_of s (length work) (length trace) index ≡ index)
     unfolding answer_of trace_of plan_work index_of
     eleven trace index long =
@@ -107,7 +103,7 @@ module _ (s : List ℕ) (w names : ℕ) (accepted : check_of s ≡ checked.Accep
           ap (λ (c : Stage). index_at c index) e,
         )
 
-    pub eleven_reply : (h : List ℕ) → (reply_of s h (length work) ≡ replayed.Refused (refusal_of 11 0)) × (replay_work s work ≡ work)
+    pub eleven_reply : (h : List ℕ) → (reply_of s h (length work) ≡ Err (refusal_of 11 0)) × (replay_work s work ≡ work)
     unfolding reply_of replay_work
     eleven_reply h = (ap (λ (c : Stage). replay_at s h c) stage_eleven, ap (λ (c : Stage). work_at c work) stage_eleven)
 
@@ -300,7 +296,7 @@ stage_numbered s work trace = go (check_of s) refl (numbered s)
     searched nothing = inr (omega arith)
     searched more = inr (omega arith)
 
-    lent : (w names : ℕ) → check_of s ≡ checked.Accepted w names → (b c : Bool)
+    lent : (w names : ℕ) → check_of s ≡ accepted_with w names → (b c : Bool)
         → (let g = cond b (refused (refusal_of 10 0)) (cond c (refused (refusal_of 11 0)) (searching w)) in NumberedAt (plan_number (plan_at s g)) g)
     lent w names e true c = (omega arith, omega arith)
     lent w names e false true = (omega arith, omega arith)
@@ -308,8 +304,8 @@ stage_numbered s work trace = go (check_of s) refl (numbered s)
         subst (λ (a : meant.PlanAnswer). (plan_number (answer_as a) ≡ 0) ⊎ (11 < plan_number (answer_as a))) (sym (plan_is s (w, names, e))) (searched (verdict_of s))
 
     go : (x : Checked) → check_of s ≡ x → Numbered x → NumberedAt (plan_number (plan_at s (plan_checked s work trace x))) (plan_checked s work trace x)
-    go (checked.Accepted w names) e n = lent w names e (ltb trace (bound_of s)) (ltb work w)
-    go (checked.Refused why) e n = (n.0, omega (arith, n.1))
+    go (Ok a) e n = lent a.words a.names e (ltb trace (bound_of s)) (ltb work a.words)
+    go (Err why) e n = (n.0, omega (arith, n.1))
 
 module _ (s work trace index : List ℕ) (a : Planned) (work' trace' index' : List ℕ) (call : Called s work trace index a work' trace' index') where
   call_numbered : NumberedAt (plan_number a) (plan_stage s (length work) (length trace))
@@ -350,10 +346,10 @@ module _ (s work trace index : List ℕ) (a : Planned) (work' trace' index' : Li
 -- "Raising D alone keeps a plan a plan and 13 a 13": an accepted sheet, with a higher D put in; the areas lent for writing are long
 -- enough for each call and hold anything
 module _
-    (s : List ℕ) (w names : ℕ) (accepted : check_of s ≡ checked.Accepted w names) (d : ℕ) (raised : bound_of s ≤ d) (small : d ≤ 64)
+    (s : List ℕ) (w names : ℕ) (accepted : check_of s ≡ accepted_with w names) (d : ℕ) (raised : bound_of s ≤ d) (small : d ≤ 64)
     (work trace work' trace' : List ℕ) (enough : w ≤ length work) (long : bound_of s ≤ length trace)
     (enough' : work_words (levels_of s) d ≤ length work') (long' : d ≤ length trace') where
-  accepted' : check_of (with_bound s d) ≡ checked.Accepted (work_words (levels_of s) d) names
+  accepted' : check_of (with_bound s d) ≡ accepted_with (work_words (levels_of s) d) names
   accepted' = raised_accepted s (w, names, accepted) d small
 
   longer : bound_of (with_bound s d) ≤ length trace'

@@ -9,15 +9,13 @@ use native.Mathlib.Omega.{arith}
 use borrow.Author.Tests.{ltb-true, lt-ltb}
 use lib.Dec.{ltb}
 use Rattle.runs.specs.Search.{Verdict, plan, nothing, more}
-use Rattle.sheet.specs.Check.{refusal_of, check_of, number_of, place_of, Accepts}
+use Rattle.sheet.specs.Check.{Checked, accepted_with, refusal_of, check_of, number_of, place_of, Accepts}
 use Rattle.sheet.specs.Causes.{Cause, First}
 use Rattle.sheet.proofs.Rising.{By, Told, unplaced, then, last, wider, sooner}
 use Rattle.sheet.proofs.Exactly.{answered_by}
 use Rattle.sheet.proofs.Numbers.{Numbered, numbered, caused}
 use Rattle.sheet.proofs.Accepted.{ruled}
 use Rattle.sheet.proofs.Called.{number_exactly, no_number_exactly}
-use Rattle.sheet.specs.declared.Checked.{Checked}
-use Rattle.sheet.specs.declared.Checked.TheVariants as checked
 use Rattle.demands.specs.Decoded.{bound_of}
 use Rattle.demands.specs.Planning as meant
 use Rattle.demands.specs.Planning.{plan_of, replied, accepts_of, answer, verdict_of, NoPlanAtAll, NoPlanWithinBound}
@@ -27,37 +25,31 @@ use Rattle.planner.specs.Numbers.{plan_number, plan_place, reply_number, reply_p
 use Rattle.planner.specs.Causes.{required, PlanCause, ReplayCause}
 use Rattle.planner.specs.Sizes.{sized_as, sizes_of}
 use Rattle.planner.specs.declared.Planned.{Planned}
-use Rattle.planner.specs.declared.Planned.TheVariants as planned
-use Rattle.planner.specs.declared.Replayed.{Replayed}
-use Rattle.planner.specs.declared.Replayed.TheVariants as replayed
 
 -- an answer by its number and place alone
-abbrev seen : Planned → Checked
-seen (planned.Found n t) = checked.Accepted 0 0
-seen (planned.Refused why) = checked.Refused why
+abbrev seen : Result Planned Refusal → Checked
+seen (Ok x) = accepted_with 0 0
+seen (Err why) = Err why
 
-seen_number : (a : Planned) → plan_number a ≡ number_of (seen a)
-seen_number (planned.Found n t) = refl
-seen_number (planned.Refused why) = refl
+seen_number : (a : Result Planned Refusal) → plan_number a ≡ number_of (seen a)
+seen_number (Ok x) = refl
+seen_number (Err why) = refl
 
-seen_place : (a : Planned) → plan_place a ≡ place_of (seen a)
-seen_place (planned.Found n t) = refl
-seen_place (planned.Refused why) = refl
+seen_place : (a : Result Planned Refusal) → plan_place a ≡ place_of (seen a)
+seen_place (Ok x) = refl
+seen_place (Err why) = refl
 
-abbrev heard : Replayed → Checked
-heard replayed.Yes = checked.Accepted 0 0
-heard replayed.No = checked.Accepted 0 0
-heard (replayed.Refused why) = checked.Refused why
+abbrev heard : Result Bool Refusal → Checked
+heard (Ok yes) = accepted_with 0 0
+heard (Err why) = Err why
 
-heard_number : (a : Replayed) → reply_number a ≡ number_of (heard a)
-heard_number replayed.Yes = refl
-heard_number replayed.No = refl
-heard_number (replayed.Refused why) = refl
+heard_number : (a : Result Bool Refusal) → reply_number a ≡ number_of (heard a)
+heard_number (Ok yes) = refl
+heard_number (Err why) = refl
 
-heard_place : (a : Replayed) → reply_place a ≡ place_of (heard a)
-heard_place replayed.Yes = refl
-heard_place replayed.No = refl
-heard_place (replayed.Refused why) = refl
+heard_place : (a : Result Bool Refusal) → reply_place a ≡ place_of (heard a)
+heard_place (Ok yes) = refl
+heard_place (Err why) = refl
 
 -- a test between two stages
 at_test : {A : Type 0} (f : Stage → A) (b : Bool) (x y : Stage) → cond b (f x) (f y) ≡ f (cond b x y)
@@ -65,7 +57,7 @@ at_test f true x y = refl
 at_test f false x y = refl
 
 -- the figure of an accepted sheet is what is required
-figure_required : (s : List ℕ) (w names : ℕ) → check_of s ≡ checked.Accepted w names → w ≡ required s
+figure_required : (s : List ℕ) (w names : ℕ) → check_of s ≡ accepted_with w names → w ≡ required s
 figure_required s w names e = (ruled s (w, names, e)).figure
 
 abbrev Ending : List ℕ → (number place : ℕ) → Type 0
@@ -109,14 +101,14 @@ module _ (s : List ℕ) (work trace : ℕ) where
   abbrev Lent : (number place : ℕ) → Type 0
   Lent k p = ((k ≡ 10) × (p ≡ 0) × (trace < bound_of s)) ⊎ (Eleven s work k p ⊎ Ending s k p)
 
-  module _ (w names : ℕ) (accepted : check_of s ≡ checked.Accepted w names) where
+  module _ (w names : ℕ) (accepted : check_of s ≡ accepted_with w names) where
     searched : Told 11 (Unit {0}) (Ending s) (seen (plan_at s (searching w)))
     searched = record { above = ending_high s; by = λ g. searched_by s (w, names, accepted) }
 
-    lent : Told 9 (Unit {0}) Lent (seen (plan_at s (plan_checked s work trace (checked.Accepted w names))))
+    lent : Told 9 (Unit {0}) Lent (seen (plan_at s (plan_checked s work trace (accepted_with w names))))
     lent =
         subst (Told 9 (Unit {0}) Lent)
-        (ap (cond (ltb trace (bound_of s)) (checked.Refused (refusal_of 10 0))) (at_test (λ (c : Stage). seen (plan_at s c)) (ltb work w) (refused (refusal_of 11 0)) (searching w))
+        (ap (cond (ltb trace (bound_of s)) (Err (refusal_of 10 0))) (at_test (λ (c : Stage). seen (plan_at s c)) (ltb work w) (refused (refusal_of 11 0)) (searching w))
         ∙ at_test (λ (c : Stage). seen (plan_at s c)) (ltb trace (bound_of s)) (refused (refusal_of 10 0)) (with_work work w))
         (then (unplaced 10 _ (λ g. (ltb-true trace (bound_of s), lt-ltb trace (bound_of s)))) 9 (omega arith) (λ g e. g)
         (then (unplaced 11 _ (λ g. short_work s w work (figure_required s w names accepted))) 10 (omega arith) (λ g e. g) searched))
@@ -129,8 +121,8 @@ module _ (s : List ℕ) (work trace : ℕ) where
   plan_answered = go (check_of s) refl (answered_by s) (numbered s)
     where
       go : (c : Checked) → check_of s ≡ c → By (Cause s) c → Numbered c → By (PlanCause s work trace) (seen (plan_at s (plan_checked s work trace c)))
-      go (checked.Accepted w names) e none n = wider (Cause s) Lent none (seen (plan_at s (plan_checked s work trace (checked.Accepted w names)))) ((lent w names e).by tt)
-      go (checked.Refused r) e by n = sooner (Cause s) Lent 9 r.number r.place n.1 lent_high by
+      go (Ok a) e none n = wider (Cause s) Lent none (seen (plan_at s (plan_checked s work trace (Ok a)))) ((lent a.words a.names e).by tt)
+      go (Err r) e by n = sooner (Cause s) Lent 9 r.number r.place n.1 lent_high by
 
   plan_some : (k p : ℕ) → PlanCause s work trace k p → 1 ≤ k
   plan_some k p = ⊎_elim (λ c. (caused s k p c).0) (λ c. let l = lent_high k p c in omega arith)
@@ -150,18 +142,14 @@ module _ (s : List ℕ) (work trace : ℕ) where
 
 -- replay
 module _ (s h : List ℕ) (work : ℕ) where
-  replied_by : (b : Bool) → heard (reply (replied b)) ≡ checked.Accepted 0 0
-  replied_by true = refl
-  replied_by false = refl
+  module _ (w names : ℕ) (accepted : check_of s ≡ accepted_with w names) where
+    replied_none : heard (replay_at s h (searching w)) ≡ accepted_with 0 0
+    replied_none = ap (λ (r : meant.ReplayAnswer). heard (reply r)) (replay_is s (w, names, accepted) h)
 
-  module _ (w names : ℕ) (accepted : check_of s ≡ checked.Accepted w names) where
-    replied_none : heard (replay_at s h (searching w)) ≡ checked.Accepted 0 0
-    replied_none = ap (λ (r : meant.ReplayAnswer). heard (reply r)) (replay_is s (w, names, accepted) h) ∙ replied_by (accepts_of s h)
-
-    worked : By (Eleven s work) (heard (replay_at s h (replay_checked work (checked.Accepted w names))))
+    worked : By (Eleven s work) (heard (replay_at s h (replay_checked work (accepted_with w names))))
     worked =
         subst (By (Eleven s work))
-        (ap (cond (ltb work w) (checked.Refused (refusal_of 11 0))) (sym replied_none)
+        (ap (cond (ltb work w) (Err (refusal_of 11 0))) (sym replied_none)
         ∙ at_test (λ (c : Stage). heard (replay_at s h c)) (ltb work w) (refused (refusal_of 11 0)) (searching w))
         ((last (unplaced {G = Unit {0}} 11 _ (λ g. short_work s w work (figure_required s w names accepted))) 9 (omega arith) 0 0).by tt)
 
@@ -170,8 +158,8 @@ module _ (s h : List ℕ) (work : ℕ) where
   replay_answered = go (check_of s) refl (answered_by s) (numbered s)
     where
       go : (c : Checked) → check_of s ≡ c → By (Cause s) c → Numbered c → By (ReplayCause s work) (heard (replay_at s h (replay_checked work c)))
-      go (checked.Accepted w names) e none n = wider (Cause s) (Eleven s work) none (heard (replay_at s h (replay_checked work (checked.Accepted w names)))) (worked w names e)
-      go (checked.Refused r) e by n = sooner (Cause s) (Eleven s work) 9 r.number r.place n.1 (λ j q c. omega (arith, c.0)) by
+      go (Ok a) e none n = wider (Cause s) (Eleven s work) none (heard (replay_at s h (replay_checked work (Ok a)))) (worked a.words a.names e)
+      go (Err r) e by n = sooner (Cause s) (Eleven s work) 9 r.number r.place n.1 (λ j q c. omega (arith, c.0)) by
 
   replay_some : (k p : ℕ) → ReplayCause s work k p → 1 ≤ k
   replay_some k p = ⊎_elim (λ c. (caused s k p c).0) (λ c. omega (arith, c.0))
@@ -191,12 +179,12 @@ module _ (s h : List ℕ) (work : ℕ) where
 -- sizes: the numbers of the check
 module _ (s : List ℕ) where
   sizes_number_lem : (c : Checked) → sizes_number (sized_as s c) ≡ number_of c
-  sizes_number_lem (checked.Accepted w names) = refl
-  sizes_number_lem (checked.Refused why) = refl
+  sizes_number_lem (Ok a) = refl
+  sizes_number_lem (Err why) = refl
 
   sizes_place_lem : (c : Checked) → sizes_place (sized_as s c) ≡ place_of c
-  sizes_place_lem (checked.Accepted w names) = refl
-  sizes_place_lem (checked.Refused why) = refl
+  sizes_place_lem (Ok a) = refl
+  sizes_place_lem (Err why) = refl
 
   sizes_some : (k p : ℕ) → Cause s k p → 1 ≤ k
   sizes_some k p c = (caused s k p c).0

@@ -10,8 +10,7 @@ use lib.ListN.{length, take, drop, replicate}
 use lib.Seq.{length-take-le}
 use Rattle.runs.proofs.Histories.{run_length}
 use Rattle.runs.specs.Search.{Verdict, plan, nothing, more}
-use Rattle.sheet.specs.Check.{check_of}
-use Rattle.sheet.specs.declared.Checked.TheVariants.{Accepted}
+use Rattle.sheet.specs.Check.{Checked, accepted_with, check_of}
 use Rattle.demands.specs.Decoded.{world_of, bound_of, first_of}
 use Rattle.demands.specs.Planning as meant
 use Rattle.demands.specs.Planning.{answer, verdict_of, accepts_of}
@@ -22,8 +21,7 @@ use Rattle.search.specs.declared.Outcome.{Outcome}
 use Rattle.search.specs.declared.Outcome.TheVariants.{Found}
 use Rattle.planner.specs.Answers.{answer_as, traced, reply, answer_of, trace_of, reply_of}
 use Rattle.planner.proofs.Demands.{answer_is, trace_is, reply_is}
-use Rattle.planner.specs.Reports.{planned_as, replied_as}
-use Rattle.planner.specs.declared.Replayed.TheVariants as replayed
+use Rattle.planner.specs.Reports.{planned_as}
 
 -- the answer and the trace, where the histories of plans fit
 pub planned_says :
@@ -35,13 +33,8 @@ planned_says trace trace' o (plan h t) short (e, l) = (ap planned_as (e ∙ ap�
 planned_says trace trace' o nothing short (e, l) = (ap planned_as e, l)
 planned_says trace trace' o more short (e, l) = (ap planned_as e, l)
 
--- replay
-pub replied_as_lem : (b : Bool) → replied_as b ≡ reply (meant.replied b)
-replied_as_lem true = refl
-replied_as_lem false = refl
-
 -- on an accepted sheet, with areas long enough: what is reported of its verdict is planning's answer and trace
-module _ (s : List ℕ) (w names : ℕ) (accepted : check_of s ≡ Accepted w names) (work trace : List ℕ) (enough : w ≤ length work) (long : bound_of s ≤ length trace) where
+module _ (s : List ℕ) (w names : ℕ) (accepted : check_of s ≡ accepted_with w names) (work trace : List ℕ) (enough : w ≤ length work) (long : bound_of s ≤ length trace) where
   short : (h : List ℕ) (t : ℕ) → verdict_of s ≡ plan h t → length h ≤ length trace
   short h t e =
       let r = plan_transitions_lem s (w, names, accepted) h t (plan_is s (w, names, accepted) ∙ ap answer e) in
@@ -60,18 +53,17 @@ module _ (s : List ℕ) (w names : ℕ) (accepted : check_of s ≡ Accepted w na
 
 -- and whether it is accepted is replay's
 pub replaying :
-    (s : List ℕ) (w names : ℕ) (accepted : check_of s ≡ Accepted w names) (work : List ℕ) (enough : w ≤ length work) (h : List ℕ) (b : Bool) → b ≡ accepts_of s h
-    → replied_as b ≡ reply_of s h (length work)
+    (s : List ℕ) (w names : ℕ) (accepted : check_of s ≡ accepted_with w names) (work : List ℕ) (enough : w ≤ length work) (h : List ℕ) (b : Bool) → b ≡ accepts_of s h
+    → Ok b ≡ reply_of s h (length work)
 replaying s w names accepted work enough h b e =
-    ap replied_as e
-    ∙ replied_as_lem (accepts_of s h)
+    ap Ok e
     ∙ sym (ap reply (replay_is s (w, names, accepted) h))
     ∙ sym (reply_is s w names accepted work enough h)
 
 -- a history of more moves than the bound is answered with no
 pub longer :
-    (s : List ℕ) (w names : ℕ) (accepted : check_of s ≡ Accepted w names) (work : List ℕ) (enough : w ≤ length work) (h : List ℕ) → bound_of s < length h
-    → replayed.No ≡ reply_of s h (length work)
+    (s : List ℕ) (w names : ℕ) (accepted : check_of s ≡ accepted_with w names) (work : List ℕ) (enough : w ≤ length work) (h : List ℕ) → bound_of s < length h
+    → Ok false ≡ reply_of s h (length work)
 longer s w names accepted work enough h l = sym (reply_is s w names accepted work enough h ∙ ap reply (longer_no s (w, names, accepted) h l))
 
 -- the required words cleared, those beyond untouched

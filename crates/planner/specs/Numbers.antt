@@ -1,59 +1,54 @@
 -- To be believed: document 01's number, place and values of the answers of planning, replay and `sizes`, case by case: number 0 where there
 -- is none, and "beside it every other result is 0". Assumes nothing.
-use Rattle.std.specs.Prelude.{ℕ}
+use Rattle.std.specs.Prelude.{ℕ, Bool, true, false, Result, Ok, Err}
+use Rattle.sheet.specs.declared.Refusal.{Refusal}
 use Rattle.planner.specs.declared.Planned.{Planned}
-use Rattle.planner.specs.declared.Planned.TheVariants as planned
-use Rattle.planner.specs.declared.Replayed.{Replayed}
-use Rattle.planner.specs.declared.Replayed.TheVariants as replayed
-use Rattle.planner.specs.declared.Sized.{Sized}
-use Rattle.planner.specs.declared.Sized.TheVariants as sized
+use Rattle.planner.specs.declared.Size.{Size}
 
 -- planning: n moves and t transitions
-abbrev pub plan_number : Planned → ℕ
-plan_number (planned.Found n t) = 0
-plan_number (planned.Refused why) = why.number
+abbrev pub plan_number : Result Planned Refusal → ℕ
+plan_number (Ok x) = 0
+plan_number (Err why) = why.number
 
-abbrev pub plan_place : Planned → ℕ
-plan_place (planned.Found n t) = 0
-plan_place (planned.Refused why) = why.place
+abbrev pub plan_place : Result Planned Refusal → ℕ
+plan_place (Ok x) = 0
+plan_place (Err why) = why.place
 
-abbrev pub plan_moves : Planned → ℕ
-plan_moves (planned.Found n t) = n
-plan_moves (planned.Refused why) = 0
+abbrev pub plan_moves : Result Planned Refusal → ℕ
+plan_moves (Ok x) = x.n
+plan_moves (Err why) = 0
 
-abbrev pub plan_transitions : Planned → ℕ
-plan_transitions (planned.Found n t) = t
-plan_transitions (planned.Refused why) = 0
+abbrev pub plan_transitions : Result Planned Refusal → ℕ
+plan_transitions (Ok x) = x.t
+plan_transitions (Err why) = 0
 
 -- replay: 1 for yes, 0 for no
-abbrev pub reply_number : Replayed → ℕ
-reply_number replayed.Yes = 0
-reply_number replayed.No = 0
-reply_number (replayed.Refused why) = why.number
+abbrev pub reply_number : Result Bool Refusal → ℕ
+reply_number (Ok yes) = 0
+reply_number (Err why) = why.number
 
-abbrev pub reply_place : Replayed → ℕ
-reply_place replayed.Yes = 0
-reply_place replayed.No = 0
-reply_place (replayed.Refused why) = why.place
+abbrev pub reply_place : Result Bool Refusal → ℕ
+reply_place (Ok yes) = 0
+reply_place (Err why) = why.place
 
-abbrev pub reply_yes : Replayed → ℕ
-reply_yes replayed.Yes = 1
-reply_yes replayed.No = 0
-reply_yes (replayed.Refused why) = 0
+abbrev pub reply_yes : Result Bool Refusal → ℕ
+reply_yes (Ok true) = 1
+reply_yes (Ok false) = 0
+reply_yes (Err why) = 0
 
 -- sizes: F and D
-abbrev pub sizes_number : Sized → ℕ
-sizes_number (sized.Known f d) = 0
-sizes_number (sized.Refused why) = why.number
+abbrev pub sizes_number : Result Size Refusal → ℕ
+sizes_number (Ok x) = 0
+sizes_number (Err why) = why.number
 
-abbrev pub sizes_place : Sized → ℕ
-sizes_place (sized.Known f d) = 0
-sizes_place (sized.Refused why) = why.place
+abbrev pub sizes_place : Result Size Refusal → ℕ
+sizes_place (Ok x) = 0
+sizes_place (Err why) = why.place
 
-abbrev pub sizes_fluents : Sized → ℕ
-sizes_fluents (sized.Known f d) = f
-sizes_fluents (sized.Refused why) = 0
+abbrev pub sizes_fluents : Result Size Refusal → ℕ
+sizes_fluents (Ok x) = x.fluents
+sizes_fluents (Err why) = 0
 
-abbrev pub sizes_bound : Sized → ℕ
-sizes_bound (sized.Known f d) = d
-sizes_bound (sized.Refused why) = 0
+abbrev pub sizes_bound : Result Size Refusal → ℕ
+sizes_bound (Ok x) = x.bound
+sizes_bound (Err why) = 0

@@ -2,62 +2,47 @@
 #![tactic(auto)]
 
 ghost use Rattle.std.specs.Prelude.{◌≡◌, length};
-ghost use Rattle.sheet.specs.Check.{refusal_of, check_of, number_of, place_of};
+ghost use Rattle.sheet.specs.Check.{check_of, number_of, place_of};
 ghost use Rattle.sheet.specs.Notes.{notes_of};
-ghost use Rattle.sheet.specs.Inspection.{Of};
 ghost use Rattle.lookup.specs.LookUp.{look_of};
 ghost use Rattle.planner.specs.Answers.{answer_of, trace_of, plan_work, index_of, reply_of, replay_work};
-ghost use Rattle.planner.specs.declared.Planned.TheVariants.{Refused};
-ghost use Rattle.planner.specs.Reports.{planned_as, replied_as};
+ghost use Rattle.planner.specs.Reports.{planned_as};
 ghost use Rattle.planner.specs.Sizes.{sizes_of};
 
-use lookup::Looked;
+use records::Fluent;
 use search::Outcome;
-use sheet::{Checked, Inspected, Inspection, Refusal};
+use sheet::{Acceptance, Cause, Refusal, Sheet};
 
-// What planning answers: n moves and t transitions, the moves standing in the trace; or why there is none.
-#[derive(Clone, Copy)]
-pub enum Planned {
-    Found { n: usize, t: usize },
-    Refused { why: Refusal },
+// What planning finds: n moves and t transitions, the moves standing in the trace.
+#[derive(Clone, Copy, Debug, PartialEq, Eq)]
+pub struct Planned {
+    pub n: usize,
+    pub t: usize,
 }
 
-// What replay answers: yes, no, or why there is none.
-#[derive(Clone, Copy)]
-pub enum Replayed {
-    Yes,
-    No,
-    Refused { why: Refusal },
-}
-
-// What is told of a sheet's sizes: the number of its fluents and its bound, or why there is none.
-#[derive(Clone, Copy)]
-pub enum Sized {
-    Known { fluents: usize, bound: usize },
-    Refused { why: Refusal },
+// A sheet's sizes: the number of its fluents and its bound.
+#[derive(Clone, Copy, Debug, PartialEq, Eq)]
+pub struct Size {
+    pub fluents: usize,
+    pub bound: usize,
 }
 
 // Checks a sheet: the words of work that planning and replay require and the set of the fluents that formulas name, or a number and a place.
-pub fn check(s: &[u8]) -> Checked
+pub fn check(s: &[u8]) -> Result<Acceptance, Refusal>
     ensures answer { result ≡ check_of s.now }
 {
     sheet::check(s)
 }
 
 // How many fluents a sheet has, and its bound: so many entries of trace are enough for planning.
-pub fn sizes(s: &[u8]) -> Sized
+pub fn sizes(s: &[u8]) -> Result<Size, Refusal>
     ensures answer { result ≡ sizes_of s.now }
 {
-    match sheet::inspect(s) {
-        Inspected::Accepted { found } => {
-            let l = found.layout;
-            Sized::Known {
-                fluents: l.f,
-                bound: l.d,
-            }
-        }
-        Inspected::Refused { why } => Sized::Refused { why },
-    }
+    let l = Sheet::open(s)?.found().layout;
+    Ok(Size {
+        fluents: l.f,
+        bound: l.d,
+    })
 }
 
 // The notes of a sheet: the caller's own bytes ahead of the first record; under a number, the empty part at the slice's start.
@@ -71,113 +56,79 @@ pub fn notes<'a>(s: &'a [u8], number: &mut u32, place: &mut usize) -> &'a [u8]
 }
 
 // Fluent x of a sheet: its domain size and initial value, or a number and a place.
-pub fn look_up(s: &[u8], x: usize) -> Looked
+pub fn look_up(s: &[u8], x: usize) -> Result<Fluent, Refusal>
     ensures answer { result ≡ look_of s.now x }
 {
     view::look_up(s, x)
 }
 
-// A number whose place is 0.
-fn refused(number: u32) -> Planned
-    ensures { result ≡ Refused (refusal_of number 0) }
-{
-    let place = 0;
-    Planned::Refused {
-        why: Refusal { number, place },
-    }
-}
-
-fn answer_of(o: Outcome) -> Planned
+fn answer_of(o: Outcome) -> Result<Planned, Refusal>
     ensures { result ≡ planned_as o }
 {
     match o {
-        Outcome::Found { n, t } => Planned::Found { n, t },
-        Outcome::Nothing => refused(13),
-        Outcome::More => refused(14),
+        Outcome::Found { n, t } => Ok(Planned { n, t }),
+        Outcome::Nothing => Err(Refusal::from(Cause::NoPlan)),
+        Outcome::More => Err(Refusal::from(Cause::NoPlanInBound)),
     }
 }
 
-fn reply_of(accepted: bool) -> Replayed
-    ensures { result ≡ replied_as accepted }
-{
-    if accepted {
-        Replayed::Yes
-    } else {
-        Replayed::No
-    }
-}
-
-// Plans on a sheet of which so much was found.
-fn plan_found(
-    s: &[u8],
-    found: Inspection,
+// Plans on an accepted sheet.
+fn plan_on(
+    s: &Sheet,
     work: &mut [u32],
     trace: &mut [u16],
     index: &mut [u32],
-) -> Planned
-    requires { Of s.now found }
+) -> Result<Planned, Refusal>
     ensures answer { result ≡ answer_of s.now (length work.old) (length trace.old) }
     ensures trace { trace.new ≡ trace_of s.now (length work.old) trace.old }
     ensures work { work.new ≡ plan_work s.now work.old (length trace.old) }
     ensures index { index.new ≡ index_of s.now (length work.old) (length trace.old) index.old }
 {
-    let l = found.layout;
-    let d = l.d;
+    let found = s.found();
+    if trace.len() < found.layout.d {
+        return Err(Refusal::from(Cause::ShortTrace));
+    }
     let words = found.words;
-    if trace.len() < d {
-        return refused(10);
-    }
     if work.len() < words {
-        return refused(11);
+        return Err(Refusal::from(Cause::ShortWork));
     }
-    answer_of(first::plan(s, found, &mut work[..words], trace, index))
+    answer_of(first::plan(s.bytes(), found, &mut work[..words], trace, index))
 }
 
 // Plans: the first plan, or why there is none: of the runs of at most D transitions that end final those of fewest transitions, and of their
 // histories the smallest.
-pub fn plan(s: &[u8], work: &mut [u32], trace: &mut [u16], index: &mut [u32]) -> Planned
+pub fn plan(s: &[u8], work: &mut [u32], trace: &mut [u16], index: &mut [u32]) -> Result<Planned, Refusal>
     ensures answer { result ≡ answer_of s.now (length work.old) (length trace.old) }
     ensures trace { trace.new ≡ trace_of s.now (length work.old) trace.old }
     ensures work { work.new ≡ plan_work s.now work.old (length trace.old) }
     ensures index { index.new ≡ index_of s.now (length work.old) (length trace.old) index.old }
 {
-    match sheet::inspect(s) {
-        Inspected::Accepted { found } => plan_found(s, found, work, trace, index),
-        Inspected::Refused { why } => Planned::Refused { why },
-    }
+    let sheet = Sheet::open(s)?;
+    plan_on(&sheet, work, trace, index)
 }
 
-// Replays on a sheet of which so much was found. A history of more moves than the bound is answered at once.
-fn replay_found(s: &[u8], found: Inspection, history: &[u16], work: &mut [u32]) -> Replayed
-    requires { Of s.now found }
+// Replays on an accepted sheet. A history of more moves than the bound is answered at once.
+fn replay_on(s: &Sheet, history: &[u16], work: &mut [u32]) -> Result<bool, Refusal>
     ensures answer { result ≡ reply_of s.now history.now (length work.old) }
     ensures work { work.new ≡ replay_work s.now work.old }
 {
-    let l = found.layout;
-    let d = l.d;
+    let found = s.found();
     let required = found.words;
     if work.len() < required {
-        return Replayed::Refused {
-            why: Refusal {
-                number: 11,
-                place: 0,
-            },
-        };
+        return Err(Refusal::from(Cause::ShortWork));
     }
-    if d < history.len() {
+    if found.layout.d < history.len() {
         search::clear(&mut work[..required]);
-        return Replayed::No;
+        return Ok(false);
     }
-    reply_of(search::accepts(s, found, history, &mut work[..required]))
+    Ok(search::accepts(s.bytes(), found, history, &mut work[..required]))
 }
 
 // Replays a history: whether some run of at most D transitions makes exactly these moves and ends final.
-pub fn replay(s: &[u8], history: &[u16], work: &mut [u32]) -> Replayed
+pub fn replay(s: &[u8], history: &[u16], work: &mut [u32]) -> Result<bool, Refusal>
     ensures answer { result ≡ reply_of s.now history.now (length work.old) }
     ensures work { work.new ≡ replay_work s.now work.old }
 {
-    match sheet::inspect(s) {
-        Inspected::Accepted { found } => replay_found(s, found, history, work),
-        Inspected::Refused { why } => Replayed::Refused { why },
-    }
+    let sheet = Sheet::open(s)?;
+    replay_on(&sheet, history, work)
 }

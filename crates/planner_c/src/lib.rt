@@ -11,10 +11,6 @@ ghost use Rattle.lookup.specs.LookUp.{look_of, look_number, look_place, look_siz
 ghost use Rattle.planner.specs.Numbers.{plan_number, plan_place, plan_moves, plan_transitions, reply_number, reply_place, reply_yes, sizes_number, sizes_place, sizes_fluents, sizes_bound};
 ghost use Rattle.planner.specs.Sizes.{sizes_of};
 
-use lookup::Looked;
-use planner::{Planned, Replayed, Sized};
-use sheet::Checked;
-
 #[unsafe(no_mangle)]
 pub extern "C" fn planner_raw_check(
     sheet: &[u8],
@@ -28,13 +24,13 @@ pub extern "C" fn planner_raw_check(
     ensures place { place.new ≡ place_of (check_of sheet.now) }
 {
     match planner::check(sheet) {
-        Checked::Accepted { words: w, names: u } => {
-            *words = w;
-            *names = u;
+        Ok(found) => {
+            *words = found.words;
+            *names = found.names;
             *place = 0;
             0
         }
-        Checked::Refused { why } => {
+        Err(why) => {
             *words = 0;
             *names = 0;
             *place = why.place;
@@ -56,16 +52,13 @@ pub extern "C" fn planner_raw_sizes(
     ensures place { place.new ≡ sizes_place (sizes_of sheet.now) }
 {
     match planner::sizes(sheet) {
-        Sized::Known {
-            fluents: f,
-            bound: d,
-        } => {
-            *fluents = f;
-            *bound = d;
+        Ok(size) => {
+            *fluents = size.fluents;
+            *bound = size.bound;
             *place = 0;
             0
         }
-        Sized::Refused { why } => {
+        Err(why) => {
             *fluents = 0;
             *bound = 0;
             *place = why.place;
@@ -93,16 +86,13 @@ pub extern "C" fn planner_raw_plan(
     ensures index { index.new ≡ index_of sheet.now (length work.old) (length trace.old) index.old }
 {
     match planner::plan(sheet, work, trace, index) {
-        Planned::Found {
-            n: moves,
-            t: transitions,
-        } => {
-            *n = moves;
-            *t = transitions;
+        Ok(plan) => {
+            *n = plan.n;
+            *t = plan.t;
             *place = 0;
             0
         }
-        Planned::Refused { why } => {
+        Err(why) => {
             *n = 0;
             *t = 0;
             *place = why.place;
@@ -125,17 +115,12 @@ pub extern "C" fn planner_raw_replay(
     ensures work { work.new ≡ replay_work sheet.now work.old }
 {
     match planner::replay(sheet, history, work) {
-        Replayed::Yes => {
-            *yes = 1;
+        Ok(accepted) => {
+            *yes = u32::from(accepted);
             *place = 0;
             0
         }
-        Replayed::No => {
-            *yes = 0;
-            *place = 0;
-            0
-        }
-        Replayed::Refused { why } => {
+        Err(why) => {
             *yes = 0;
             *place = why.place;
             why.number
@@ -157,16 +142,13 @@ pub extern "C" fn planner_raw_look_up(
     ensures place { place.new ≡ look_place (look_of sheet.now fluent) }
 {
     match planner::look_up(sheet, fluent) {
-        Looked::Found {
-            size: m,
-            initial: i,
-        } => {
-            *size = m;
-            *initial = i;
+        Ok(found) => {
+            *size = found.size;
+            *initial = found.initial;
             *place = 0;
             0
         }
-        Looked::Refused { why } => {
+        Err(why) => {
             *size = 0;
             *initial = 0;
             *place = why.place;

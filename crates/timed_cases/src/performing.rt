@@ -3,13 +3,12 @@
 ghost use Rattle.std.specs.Prelude.{◌≡◌};
 ghost use Rattle.records.specs.Records.{effect_at};
 ghost use Rattle.golog.specs.World.{changed};
-ghost use Rattle.sheet.specs.Inspection.{Of};
 ghost use Rattle.state.specs.Truths.{said_by};
 ghost use Rattle.timed_cases.specs.Ranges.{InEffects};
 
 use crate::{clock, each_fluent, report, writing};
 use records::Action;
-use sheet::{Inspected, Inspection};
+use sheet::Sheet;
 use std::io;
 use std::time::CpuClock;
 
@@ -152,26 +151,18 @@ fn compare(
 // The first action of an accepted sheet, from the initial values.
 fn perform_first(
     rt: &(impl Print + Eprint + CpuClock),
-    s: &[u8],
-    found: Inspection,
+    s: &Sheet,
     timed: bool,
-) -> io::Result<()>
-    requires { Of s.now found }
-{
-    let l = found.layout;
-    let formulas = l.formulas;
-    let effects = l.effects;
-    let actions = l.actions;
-    let programs = l.programs;
+) -> io::Result<()> {
+    let l = s.found().layout;
     if l.a == 0 {
         return report::text(rt, "no action\n");
     }
-    let st = engine::initial_of(s, found);
+    let st = engine::initial_of(s);
     let mut truths = [false; sheet::MOST_FORMULAS];
-    state::fill_truths(&s[formulas..effects], l.q, st, &mut truths);
-    let r = records::action_at(&s[actions..programs], 0);
-    let values = st.values;
-    compare(rt, &s[effects..actions], r, l.f, &truths, values, timed)
+    state::fill_truths(s.formulas(), l.q, st, &mut truths);
+    let r = records::action_at(s.actions(), 0);
+    compare(rt, s.effects(), r, l.f, &truths, st.values, timed)
 }
 
 fn case(
@@ -183,9 +174,9 @@ fn case(
     report::text(rt, title)?;
     let mut s = [0u8; writing::BYTES];
     writing::write(&mut s, from);
-    match sheet::inspect(&s) {
-        Inspected::Accepted { found } => perform_first(rt, &s, found, timed),
-        Inspected::Refused { why: _ } => report::text(rt, "refused\n"),
+    match Sheet::open(&s) {
+        Ok(sheet) => perform_first(rt, &sheet, timed),
+        Err(_) => report::text(rt, "refused\n"),
     }
 }
 

@@ -1,6 +1,7 @@
 // Document 02, F-4: planning with an index of configurations already explored, of several lengths, and without one.
 use crate::{clock, report, sheets};
 use planner::Planned;
+use sheet::Refusal;
 use std::io;
 use std::time::CpuClock;
 
@@ -22,13 +23,8 @@ const INDEX: usize = 4096;
 
 const BEFORE: u16 = 0xbe4e;
 
-// What planning answers: n and t, or a number and its place.
-#[derive(Clone, Copy)]
-struct Answer {
-    found: bool,
-    first: usize,
-    second: usize,
-}
+// What planning answers.
+type Answer = Result<Planned, Refusal>;
 
 // The answer and the trace, whether the whole index was 0 after it, and the microseconds that it took.
 #[derive(Clone, Copy)]
@@ -47,21 +43,6 @@ struct Times {
     same: bool,
 }
 
-fn answer_of(p: Planned) -> Answer {
-    match p {
-        Planned::Found { n, t } => Answer {
-            found: true,
-            first: n,
-            second: t,
-        },
-        Planned::Refused { why } => Answer {
-            found: false,
-            first: why.number as usize,
-            second: why.place,
-        },
-    }
-}
-
 fn is_zero(index: &[u32]) -> bool {
     index.iter().all(|word| *word == 0)
 }
@@ -71,10 +52,10 @@ fn plan_with(rt: &impl CpuClock, s: &[u8], index: &mut [u32]) -> Run {
     let mut work = [BEFORE as u32; WORDS];
     let mut trace = [BEFORE; ENTRIES];
     let begin = clock::microseconds(rt);
-    let planned = planner::plan(s, &mut work, &mut trace, index);
+    let answer = planner::plan(s, &mut work, &mut trace, index);
     let time = clock::since(rt, begin);
     Run {
-        answer: answer_of(planned),
+        answer,
         trace,
         cleared: is_zero(index),
         time,
@@ -88,19 +69,11 @@ fn plan(rt: &impl CpuClock, s: &[u8], words: usize) -> Run {
     plan_with(rt, s, &mut index[..n])
 }
 
-fn is_same(a: Answer, b: Answer) -> bool {
-    a.found == b.found && a.first == b.first && a.second == b.second
-}
-
 fn tell(rt: &impl Print, a: Answer) -> io::Result<()> {
-    if a.found {
-        report::text(rt, "  found")?;
-    } else {
-        report::text(rt, "  refused")?;
+    match a {
+        Ok(Planned { n, t }) => println!(rt; "  found {n} {t}"),
+        Err(why) => println!(rt; "  refused {why}"),
     }
-    report::number(rt, a.first as u64)?;
-    report::number(rt, a.second as u64)?;
-    report::text(rt, "\n")
 }
 
 fn title(rt: &impl Print, bound: u8) -> io::Result<()> {
@@ -137,7 +110,7 @@ fn measure(rt: &impl CpuClock, s: &[u8], expected: Answer) -> Times {
         let b = plan(rt, s, 0);
         with_index = with_index.min(a.time);
         without = without.min(b.time);
-        same = same & is_same(a.answer, expected) & is_same(b.answer, expected);
+        same = same & (a.answer == expected) & (b.answer == expected);
     }
     Times {
         with_index,
@@ -176,7 +149,7 @@ fn agrees(rt: &impl CpuClock, s: &[u8], expected: Run) -> bool {
     for words in LENGTHS {
         let r = plan(rt, s, words);
         let entries = r.trace;
-        same = same & is_same(r.answer, answer) & (entries == trace) & r.cleared;
+        same = same & (r.answer == answer) & (entries == trace) & r.cleared;
     }
     same
 }
@@ -192,8 +165,8 @@ fn lengths(rt: &(impl Print + CpuClock)) -> io::Result<()> {
     let answer = r.answer;
     let trace = r.trace;
     tell(rt, answer)?;
-    if answer.found {
-        report::entries(rt, answer.first, &trace)?;
+    if let Ok(plan) = answer {
+        report::entries(rt, plan.n, &trace)?;
     }
     report::answer(rt, "  the same at every length, index 0", agrees(rt, &s, r))
 }

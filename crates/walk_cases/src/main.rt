@@ -9,26 +9,15 @@ use std::io;
 
 // Writes bytes from `at` on, as far as there is room: where they end.
 fn put(s: &mut [u8], at: usize, bytes: &[u8]) -> usize {
-    let mut i = 0;
     let mut next = at;
-    while i < bytes.len() {
-        if next >= s.len() {
+    for b in bytes {
+        if s.len() <= next {
             return s.len();
         }
-        s[next] = bytes[i];
+        s[next] = *b;
         next += 1;
-        i += 1;
     }
     next
-}
-
-// The bytes below `end`, all where there are not so many.
-fn start_of(s: &[u8], end: usize) -> &[u8] {
-    let start = 0;
-    if end > s.len() {
-        return s;
-    }
-    &s[start..end]
 }
 
 // One case: the shared tables, then the case's program records and trailer.
@@ -60,7 +49,7 @@ fn case(
     );
     let e = put(&mut s, d, programs);
     let f = put(&mut s, e, trailer);
-    walk::walk_sheet(rt, start_of(&s, f), choices)
+    walk::walk_sheet(rt, s.get(..f).unwrap_or(&s), choices)
 }
 
 // Iteration and tests.

@@ -3,6 +3,9 @@ use engine::Findings;
 use golog::State;
 use std::io;
 
+// The tag of a over b.
+const OVER: u32 = 9;
+
 pub fn text(rt: &impl Print, label: &str) -> io::Result<()> {
     rt.print(label)
 }
@@ -24,8 +27,8 @@ pub fn configuration(rt: &impl Print, d: usize, st: State, x: Findings) -> io::R
     text(rt, "  depth")?;
     number(rt, d as u64)?;
     text(rt, ": values")?;
-    number(rt, values[0] as u64)?;
-    number(rt, values[1] as u64)?;
+    number(rt, u64::from(values[0]))?;
+    number(rt, u64::from(values[1]))?;
     text(rt, ", running")?;
     yes_or_no(rt, st.running)?;
     text(rt, ", final")?;
@@ -40,14 +43,14 @@ pub fn configuration(rt: &impl Print, d: usize, st: State, x: Findings) -> io::R
 // A node of the remaining program, by its tag and the number of its record.
 fn node(rt: &impl Print, tag: u32, record: usize) -> io::Result<()> {
     match tag {
-        0 => text(rt, " nil"),
-        1 => {
+        words::GONE => text(rt, " nil"),
+        words::LEAF => {
             text(rt, " record")?;
             number(rt, record as u64)
         }
-        3 => text(rt, " sequence"),
-        8 => text(rt, " together"),
-        9 => text(rt, " over"),
+        words::SEQUENCE => text(rt, " sequence"),
+        words::TOGETHER => text(rt, " together"),
+        OVER => text(rt, " over"),
         _ => text(rt, " ?"),
     }
 }
@@ -55,8 +58,7 @@ fn node(rt: &impl Print, tag: u32, record: usize) -> io::Result<()> {
 // So many nodes from `at` on, each construct before its parts.
 pub fn nodes(rt: &impl Print, work: &[u32], at: usize, n: usize) -> io::Result<()> {
     let mut i = at;
-    let mut left = n;
-    while left > 0 {
+    for _ in 0..n {
         if work.len() < 3 {
             return Ok(());
         }
@@ -65,7 +67,6 @@ pub fn nodes(rt: &impl Print, work: &[u32], at: usize, n: usize) -> io::Result<(
         }
         node(rt, words::tag_at(work, i), words::record_at(work, i))?;
         i += 3;
-        left -= 1;
     }
     text(rt, "\n")
 }
@@ -75,6 +76,6 @@ pub fn transition(rt: &impl Print, k: usize, entry: u32) -> io::Result<()> {
     text(rt, "    transition")?;
     number(rt, k as u64)?;
     text(rt, ", entry")?;
-    number(rt, entry as u64)?;
+    number(rt, u64::from(entry))?;
     text(rt, "\n")
 }
