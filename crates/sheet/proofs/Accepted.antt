@@ -1,6 +1,6 @@
 -- What acceptance tells: no cause of 1 to 9 holds, so the tables lie in the sheet, every record keeps its rule, the height is at most
 -- 16 and the answer is the figure and the union. Assumes nothing.
-use mathlib.Core.Path.{◌≡◌, refl, sym, subst}
+use mathlib.Core.Path.{◌≡◌, refl, sym, ap, subst}
 use mathlib.Core.List.{List}
 use mathlib.Core.Bool.{Bool, true, false, not, cond}
 use Prim.Native.Nat.{ℕ, ◌+◌, ◌-◌, ◌≤◌, ◌<◌}
@@ -16,20 +16,18 @@ use Rattle.height.specs.Height.{height_of}
 use Rattle.height.specs.Work.{levels, work_words}
 use Rattle.sheet.specs.Trailer.{trailer_of, limits_ok, WithinLimits, record_bytes, distance_ok}
 use Rattle.sheet.specs.Layout.{layout_in, layout_of, LaidOut, fluents_in, formulas_in, effects_in, actions_in, programs_in}
-use Rattle.sheet.specs.Check.{refused, refused_at, tables_checked, names_in, height_checked, records_checked, trailer_checked, check_of, Accepts}
+use Rattle.sheet.specs.Check.{refused, refused_at, tables_checked, names_in, height_checked, records_checked, trailer_checked, check_of, Accepts, Checked, accepted_with, words_of, fluents_named}
 use Rattle.sheet.proofs.Checking.{within, limits_exactly, placed, placed_exactly, fits, in_place}
 use Rattle.sheet.specs.declared.Layout.{Layout}
-use Rattle.sheet.specs.declared.Checked.{Checked}
-use Rattle.sheet.specs.declared.Checked.TheVariants.{Accepted}
 
 -- an answer that accepts has passed the test
-passed : (b : Bool) (n p : ℕ) (x : Checked) {w u : ℕ} → cond b (refused n p) x ≡ Accepted w u → (b ≡ false) × (x ≡ Accepted w u)
+passed : (b : Bool) (n p : ℕ) (x : Checked) {w u : ℕ} → cond b (refused n p) x ≡ accepted_with w u → (b ≡ false) × (x ≡ accepted_with w u)
 passed true n p x e = (cc, cc)
 passed false n p x e = (refl, e)
 
 -- and has found no faulty record
-kept : (number : ℕ) (ok : ℕ → Bool) (n : ℕ) (next : Checked) {w u : ℕ} → refused_at number (lowest ok n) n next ≡ Accepted w u
-    → ((i : ℕ) → i < n → ok i ≡ true) × (next ≡ Accepted w u)
+kept : (number : ℕ) (ok : ℕ → Bool) (n : ℕ) (next : Checked) {w u : ℕ} → refused_at number (lowest ok n) n next ≡ accepted_with w u
+    → ((i : ℕ) → i < n → ok i ≡ true) × (next ≡ accepted_with w u)
 unfolding refused_at
 kept number ok n next e =
     let r = passed (ltb (lowest ok n) n) number (lowest ok n) next e in
@@ -62,10 +60,10 @@ pub record Ruled (s : List ℕ) (l : Layout) (w u : ℕ) : Type 0 where
   pub figure : w ≡ work_words (levels (program_at (programs_in s l)) l.p) l.d
   pub union : u ≡ names_in s l
 
-figure_of : (x y w u : ℕ) → Accepted x y ≡ Accepted w u → (w ≡ x) × (u ≡ y)
-figure_of x y w u e = (cc, cc)
+figure_of : (x y w u : ℕ) → accepted_with x y ≡ accepted_with w u → (w ≡ x) × (u ≡ y)
+figure_of x y w u e = (sym (ap words_of e), sym (ap fluents_named e))
 
-ruled_in : (s : List ℕ) (l : Layout) (w u : ℕ) → records_checked s l ≡ Accepted w u → Ruled s l w u
+ruled_in : (s : List ℕ) (l : Layout) (w u : ℕ) → records_checked s l ≡ accepted_with w u → Ruled s l w u
 unfolding tables_checked height_checked
 ruled_in s l w u e =
     let p = program_at (programs_in s l) in
@@ -88,7 +86,7 @@ ruled_in s l w u e =
     }
 
 -- the two together
-both : (s : List ℕ) (w u : ℕ) → check_of s ≡ Accepted w u → Trailed s × Ruled s (layout_of s) w u
+both : (s : List ℕ) (w u : ℕ) → check_of s ≡ accepted_with w u → Trailed s × Ruled s (layout_of s) w u
 unfolding check_of trailer_checked layout_of
 both s w u e =
     let t = trailer_of s in

@@ -4,11 +4,10 @@ use mathlib.Core.Path.{◌≡◌, sym, ◌∙◌, ap, subst}
 use mathlib.Core.Logic.{◌↔◌}
 use Prim.Native.Nat.{ℕ, ◌≤◌}
 use native.Mathlib.Omega.{arith}
-use Rattle.sheet.specs.Check.{number_of, place_of}
+use Rattle.sheet.specs.Check.{number_of, place_of, Checked}
 use Rattle.sheet.specs.Causes.{First}
 use Rattle.sheet.proofs.Rising.{By, first_answered, none_accepted}
-use Rattle.sheet.specs.declared.Checked.{Checked}
-use Rattle.sheet.specs.declared.Checked.TheVariants.{Accepted, Refused}
+use Rattle.std.specs.Prelude.{Ok, Err}
 
 -- n and q are the number and the place of an answer by the causes C
 module _ (C : ℕ → ℕ → Type 0) (some : (k p : ℕ) → C k p → 1 ≤ k) (x : Checked) (by : By C x) (n q : ℕ) (number : n ≡ number_of x) where
@@ -19,12 +18,12 @@ module _ (C : ℕ → ℕ → Type 0) (some : (k p : ℕ) → C k p → 1 ≤ k)
   )
     where
       go : (x : Checked) → By C x → number_of x ≡ k → place_of x ≡ p → First C k p
-      go (Accepted w u) b e f = absurd (omega arith)
-      go (Refused r) (c, least, one) e f = (subst (λ (m : ℕ). C m p) e (subst (C r.number) f c), λ i b h. least i b (omega arith))
+      go (Ok a) b e f = absurd (omega arith)
+      go (Err r) (c, least, one) e f = (subst (λ (m : ℕ). C m p) e (subst (C r.number) f c), λ i b h. least i b (omega arith))
 
   pub no_number_exactly : (n ≡ 0) ↔ ((k p : ℕ) → ¬ C k p)
   no_number_exactly = (λ e. go x by (sym number ∙ e), λ off. let a = none_accepted C x by off in number ∙ ap number_of a.2)
     where
       go : (x : Checked) → By C x → number_of x ≡ 0 → (k p : ℕ) → ¬ C k p
-      go (Accepted w u) none e = none
-      go (Refused r) (c, least, one) e = absurd (omega (arith, some _ _ c))
+      go (Ok a) none e = none
+      go (Err r) (c, least, one) e = absurd (omega (arith, some _ _ c))

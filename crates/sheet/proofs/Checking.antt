@@ -14,11 +14,9 @@ use Rattle.height.specs.Height.{height_of}
 use Rattle.height.specs.Work.{levels, work_words}
 use Rattle.sheet.specs.Trailer.{trailer_of, limits_ok, WithinLimits, record_bytes, distance_ok}
 use Rattle.sheet.specs.Layout.{layout_in, LaidOut, programs_in}
-use Rattle.sheet.specs.Check.{refused, refused_at, names_in, height_checked, records_checked, trailer_checked, check_of}
+use Rattle.sheet.specs.Check.{refused, refused_at, names_in, height_checked, records_checked, trailer_checked, check_of, Checked, accepted_with}
 use Rattle.sheet.specs.declared.Trailer.{Trailer}
 use Rattle.sheet.specs.declared.Layout.{Layout}
-use Rattle.sheet.specs.declared.Checked.{Checked}
-use Rattle.sheet.specs.declared.Checked.TheVariants.{Accepted}
 
 module _ (number i j n : ℕ) (next : Checked) (e : i ≡ j) where
   -- the record at i is faulty: the answer is its number and place
@@ -36,7 +34,7 @@ module _ (s : List ℕ) (l : Layout) (h : ℕ) (e : h ≡ height_of (program_at 
   unfolding height_checked
   too_high a = rw (← e) (simp (lt-ltb 16 h a))
 
-  pub low_enough : h ≤ 16 → Accepted (work_words (levels (program_at (programs_in s l)) l.p) l.d) (names_in s l) ≡ height_checked s l
+  pub low_enough : h ≤ 16 → accepted_with (work_words (levels (program_at (programs_in s l)) l.p) l.d) (names_in s l) ≡ height_checked s l
   unfolding height_checked
   low_enough a = rw (← e) (simp (le-ltb 16 h a))
 

@@ -31,15 +31,13 @@ use Rattle.height.proofs.Levels.{levels_exactly}
 use Rattle.height.proofs.Paths.{Lower, above_exactly}
 use Rattle.sheet.specs.Trailer.{trailer_of, WithinLimits, record_bytes, distance_ok}
 use Rattle.sheet.specs.Layout.{layout_of, layout_in, formulas_in, programs_in}
-use Rattle.sheet.specs.Check.{refused, refused_at, tables_checked, height_checked, trailer_checked, check_of, Accepts}
+use Rattle.sheet.specs.Check.{refused, refused_at, tables_checked, height_checked, trailer_checked, check_of, Accepts, Checked, accepted_with}
 use Rattle.sheet.specs.Causes.{Cause, First, Figure, Union}
 use Rattle.sheet.proofs.Accepted.{ruled, laid}
 use Rattle.sheet.proofs.Checking.{limits_exactly, placed_exactly}
 use Rattle.sheet.proofs.Lower.{rules_lower, lower, lower_formulas}
 use Rattle.sheet.proofs.Rising.{By, Told, then, last, unplaced, lowest_placed, first_answered, none_accepted}
 use Rattle.sheet.specs.declared.Trailer.{Trailer}
-use Rattle.sheet.specs.declared.Checked.{Checked}
-use Rattle.sheet.specs.declared.Checked.TheVariants.{Accepted}
 
 -- two tests one after the other with the same answer are one test
 either_test : (a b : Bool) (x y : Checked) → cond (a || b) x y ≡ cond a x (cond b x y)
@@ -127,10 +125,10 @@ module _ (s : List ℕ) where
         )
 
   -- and then the answer is the figure and the union
-  pub answered_exactly : (w u : ℕ) → (check_of s ≡ Accepted w u) ↔ (((k p : ℕ) → ¬ Cause s k p) × Figure s w × Union s u)
+  pub answered_exactly : (w u : ℕ) → (check_of s ≡ accepted_with w u) ↔ (((k p : ℕ) → ¬ Cause s k p) × Figure s w × Union s u)
   answered_exactly w u = (
     λ e. (accepted_exactly.0 (w, u, e), (figure_exactly (w, u, e) w).1 refl, (union_exactly (w, u, e) u).1 refl),
     λ (none, f, g).
         let accepted = accepted_exactly.1 none in
-        accepted.2 ∙ ap₂ Accepted (sym ((figure_exactly accepted w).0 f)) (sym ((union_exactly accepted u).0 g)),
+        accepted.2 ∙ ap₂ accepted_with (sym ((figure_exactly accepted w).0 f)) (sym ((union_exactly accepted u).0 g)),
   )

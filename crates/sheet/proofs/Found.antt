@@ -1,47 +1,38 @@
 -- What an inspection tells: an answer of the check and what was found, from the tests that led there, and back again. Assumes nothing.
-use Prim.Native.Nat.{ℕ, ◌-◌}
+use Prim.Native.Nat.{ℕ, ◌-◌, ◌*◌, ◌≤◌}
 use mathlib.Core.Path.{◌≡◌, refl, sym, ◌∙◌, ap, ap₂, subst}
 use mathlib.Core.Bool.{Bool, true≢false}
 use mathlib.Core.List.{List}
-use borrow.Author.Tests.{eq-eqb, ne_eqb}
 use lib.ListN.{length}
+use Rattle.records.specs.Records.{ProgramTable}
 use Rattle.sheet.specs.Trailer.{trailer_of}
-use Rattle.sheet.specs.Layout.{layout_in, layout_of, LaidOut}
-use Rattle.sheet.specs.Check.{names_in, tables_checked, height_checked, records_checked, check_of}
-use Rattle.sheet.specs.Inspection.{unless, inspection_in, inspected_in, inspect_of, Of}
+use Rattle.sheet.specs.Layout.{layout_in, layout_of, LaidOut, fluents_in, formulas_in, effects_in, actions_in, programs_in}
+use Rattle.sheet.specs.Check.{names_in, check_of, Accepts, Checked, accepted_with}
+use Rattle.sheet.specs.Inspection.{inspection_in, inspected_in, inspect_of, Of}
 use Rattle.sheet.proofs.Accepted.{ruled, laid}
+use Rattle.sheet.proofs.Parts.{InOrder, in_order, fluents_long, formulas_long, effects_long, actions_long, programs_long}
 use Rattle.sheet.specs.declared.Trailer.{Trailer}
 use Rattle.sheet.specs.declared.Layout.{Layout}
 use Rattle.sheet.specs.declared.Refusal.{Refusal}
 use Rattle.sheet.specs.declared.Inspection.{Inspection}
-use Rattle.sheet.specs.declared.Checked.{Checked}
-use Rattle.sheet.specs.declared.Checked.TheVariants as checked
-use Rattle.sheet.specs.declared.Inspected.TheVariants as inspected
+use Rattle.std.specs.Prelude.{Ok, Err}
 
 -- the trailer read gives the layout
 pub laid_out : (s : List ℕ) {t : Trailer} {l : Layout} → t ≡ trailer_of s → l ≡ layout_in t (length s - 18) → l ≡ layout_of s
 unfolding layout_of
 laid_out s e f = f ∙ ap (λ (t : Trailer). layout_in t (length s - 18)) e
 
--- what the tables told is the answer of all that is asked of records
-module _ (s : List ℕ) (l : Layout) (r : Refusal) (told : (next : Checked) → unless r next ≡ tables_checked s l next) where
-  pub some_fault : ¬ (r.number ≡ 0) → checked.Refused r ≡ records_checked s l
-  some_fault n = let e = ne_eqb r.number 0 n in sym (simp (e)) ∙ told (height_checked s l)
-
-  pub no_fault : r.number ≡ 0 → height_checked s l ≡ records_checked s l
-  no_fault n = let e = eq-eqb r.number 0 n in sym (simp (e)) ∙ told (height_checked s l)
-
 -- from an inspection's answer back to the check's
 module _ (s : List ℕ) where
-  accepted_as : (x : Checked) {i : Inspection} → inspected.Accepted i ≡ inspected_in s (layout_of s) x → ((w u : ℕ) × (x ≡ checked.Accepted w u)) × (i ≡ inspection_in s (layout_of s))
-  accepted_as (checked.Accepted w u) e = ((w, u, refl), cc)
-  accepted_as (checked.Refused why) e = absurd (true≢false cc)
+  accepted_as : (x : Checked) {i : Inspection} → Ok i ≡ inspected_in s (layout_of s) x → ((w u : ℕ) × (x ≡ accepted_with w u)) × (i ≡ inspection_in s (layout_of s))
+  accepted_as (Ok a) e = ((a.words, a.names, refl), cc)
+  accepted_as (Err why) e = absurd (true≢false cc)
 
-  refused_as : (x : Checked) {why : Refusal} → inspected.Refused why ≡ inspected_in s (layout_of s) x → x ≡ checked.Refused why
-  refused_as (checked.Accepted w u) e = cc
-  refused_as (checked.Refused why) e = cc
+  refused_as : (x : Checked) {why : Refusal} → Err why ≡ inspected_in s (layout_of s) x → x ≡ Err why
+  refused_as (Ok a) e = cc
+  refused_as (Err why) e = cc
 
-  pub found_of : {i : Inspection} → inspected.Accepted i ≡ inspect_of s → Of s i
+  pub found_of : {i : Inspection} → Ok i ≡ inspect_of s → Of s i
   found_of e =
       let a = accepted_as (check_of s) e in
       record {
@@ -52,7 +43,7 @@ module _ (s : List ℕ) where
         words_are = ap (λ (i : Inspection). i.words) a.1;
       }
 
-  pub refused_by : {why : Refusal} → inspected.Refused why ≡ inspect_of s → check_of s ≡ checked.Refused why
+  pub refused_by : {why : Refusal} → Err why ≡ inspect_of s → check_of s ≡ Err why
   refused_by e = refused_as (check_of s) e
 
 -- what was found of an accepted sheet
@@ -69,8 +60,40 @@ module _ {s : List ℕ} {i : Inspection} (O : Of s i) where
   of_found X x = subst (X (layout_of s)) O.interrupts_are (subst (λ (l : Layout). X l i.interrupts) O.layout_is x)
 
   -- the check answers with its words, and with the union of what its formulas name
-  pub answered : check_of s ≡ checked.Accepted i.words (names_in s (layout_of s))
-  answered = let a = O.accepted in a.2 ∙ ap₂ checked.Accepted ((ruled s a).figure ∙ sym O.words_are) (ruled s a).union
+  pub answered : check_of s ≡ accepted_with i.words (names_in s (layout_of s))
+  answered = let a = O.accepted in a.2 ∙ ap₂ accepted_with ((ruled s a).figure ∙ sym O.words_are) (ruled s a).union
 
-  pub answered_with : {u : ℕ} → u ≡ names_in s i.layout → checked.Accepted i.words u ≡ check_of s
-  answered_with e = sym (answered ∙ ap (checked.Accepted i.words) (ap (names_in s) (sym O.layout_is) ∙ sym e))
+  pub answered_with : {u : ℕ} → u ≡ names_in s (layout_of s) → accepted_with i.words u ≡ check_of s
+  answered_with e = sym (answered ∙ ap (accepted_with i.words) (sym e))
+
+-- what was found of a sheet that is opened
+module _ (s : List ℕ) (i : Inspection) (e : inspect_of s ≡ Ok i) where
+  pub found_from : Of s i
+  found_from = found_of s (sym e)
+
+  pub accepted_from : Accepts s
+  accepted_from = found_from.accepted
+
+  pub inspected_from : i ≡ inspection_in s (layout_of s)
+  inspected_from = (accepted_as s (check_of s) (sym e)).1
+
+  pub laid_from : LaidOut i.layout (length s)
+  laid_from = in_sheet found_from
+
+  pub ordered : InOrder i.layout (length s)
+  ordered = in_order laid_from
+
+  pub fluents_from : 2 * (layout_of s).f ≤ length (fluents_in s i.layout)
+  fluents_from = rw (← found_from.layout_is) (fluents_long s i.layout laid_from).0
+
+  pub formulas_from : 6 * (layout_of s).q ≤ length (formulas_in s i.layout)
+  formulas_from = rw (← found_from.layout_is) (formulas_long s i.layout laid_from)
+
+  pub effects_from : 4 * (layout_of s).e ≤ length (effects_in s i.layout)
+  effects_from = rw (← found_from.layout_is) (effects_long s i.layout laid_from)
+
+  pub actions_from : 6 * (layout_of s).a ≤ length (actions_in s i.layout)
+  actions_from = rw (← found_from.layout_is) (actions_long s i.layout laid_from)
+
+  pub programs_from : ProgramTable (programs_in s i.layout) (layout_of s).p
+  programs_from = rw (← found_from.layout_is) (programs_long s i.layout laid_from)

@@ -12,11 +12,10 @@ use lib.Dec.{eqb}
 use Rattle.records.specs.Bytes.{part}
 use Rattle.sheet.specs.Trailer.{trailer_in, trailer_of, limits_ok, record_bytes, distance_ok}
 use Rattle.sheet.specs.Layout.{layout_in, layout_of, fluents_in, formulas_in, effects_in, actions_in, programs_in}
-use Rattle.sheet.specs.Check.{refused, trailer_checked, check_of, Accepts}
+use Rattle.sheet.specs.Check.{refused, trailer_checked, check_of, Accepts, Checked}
 use Rattle.sheet.specs.Notes.{notes_count, notes_of, FirstRecord, with_notes}
 use Rattle.sheet.specs.declared.Trailer.{Trailer}
 use Rattle.sheet.specs.declared.Layout.{Layout}
-use Rattle.sheet.specs.declared.Checked.{Checked}
 use Rattle.sheet.proofs.Accepted.{trailed}
 use Rattle.sheet.proofs.Tables.{SameTables, sizes_same, checked_same}
 

@@ -9,7 +9,7 @@ use lib.ListN.{length, get_or, drop, length-take, length-drop, get_or-eq_default
 use lib.Seq.{ext_get_or, get_or-take, get_or-drop, length-take-le}
 use Rattle.records.specs.Bytes.{part}
 use Rattle.records.specs.Records.{ProgramTable}
-use Rattle.sheet.specs.Layout.{LaidOut, fluents_in, formulas_in, actions_in, programs_in}
+use Rattle.sheet.specs.Layout.{LaidOut, fluents_in, formulas_in, effects_in, actions_in, programs_in}
 use Rattle.sheet.specs.declared.Layout.{Layout}
 
 -- the length of a part that lies in a list
@@ -66,6 +66,11 @@ module _ (s : List ℕ) (l : Layout) (f : LaidOut l (length s)) where
   formulas_long =
       let o = in_order f in
       omega (arith, part_length s l.formulas l.effects o.formulas (omega arith), f.at_effects)
+
+  pub effects_long : 4 * l.e ≤ length (effects_in s l)
+  effects_long =
+      let o = in_order f in
+      omega (arith, part_length s l.effects l.actions o.effects (omega arith), f.at_actions)
 
   pub actions_long : 6 * l.a ≤ length (actions_in s l)
   actions_long =

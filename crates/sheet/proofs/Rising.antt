@@ -10,34 +10,33 @@ use borrow.Author.Tests.{ltb-true, lt-ltb}
 use lib.Dec.{ltb}
 use Rattle.records.specs.Lowest.{lowest, LowestFaulty}
 use Rattle.records.proofs.Lowest.{lowest_exactly}
-use Rattle.sheet.specs.Check.{refused}
-use Rattle.sheet.specs.declared.Checked.{Checked}
-use Rattle.sheet.specs.declared.Checked.TheVariants.{Accepted, Refused}
+use Rattle.sheet.specs.Check.{refused, Checked, accepted_with}
+use Rattle.std.specs.Prelude.{Ok, Err}
 
 -- the answer that causes C give: the least number that has one, with its only place
 abbrev pub By : (ℕ → ℕ → Type 0) → Checked → Type 0
-By C (Accepted w u) = (k p : ℕ) → ¬ C k p
-By C (Refused r) = C r.number r.place × ((j q : ℕ) → j < r.number → ¬ C j q) × ((q : ℕ) → C r.number q → q ≡ r.place)
+By C (Ok a) = (k p : ℕ) → ¬ C k p
+By C (Err r) = C r.number r.place × ((j q : ℕ) → j < r.number → ¬ C j q) × ((q : ℕ) → C r.number q → q ≡ r.place)
 
 -- it is the only one
 module _ (C : ℕ → ℕ → Type 0) where
   pub first_answered : (k p : ℕ) (x : Checked) → By C x → C k p × ((j q : ℕ) → j < k → ¬ C j q) → x ≡ refused k p
-  first_answered k p (Accepted w u) none (c, least) = absurd (none k p c)
-  first_answered k p (Refused r) (d, lower, one) (c, least) = go (dec_lt r.number k) (dec_lt k r.number)
+  first_answered k p (Ok a) none (c, least) = absurd (none k p c)
+  first_answered k p (Err r) (d, lower, one) (c, least) = go (dec_lt r.number k) (dec_lt k r.number)
     where
-      go : Dec (r.number < k) → Dec (k < r.number) → Refused r ≡ refused k p
+      go : Dec (r.number < k) → Dec (k < r.number) → Err r ≡ refused k p
       go (yes l) h = absurd (least _ _ l d)
       go (no l) (yes h) = absurd (lower k p h c)
       go (no l) (no h) = let e : k ≡ r.number = omega arith in ap₂ refused (sym e) (sym (one p (subst (λ (m : ℕ). C m p) e c)))
 
-  pub none_accepted : (x : Checked) → By C x → ((k p : ℕ) → ¬ C k p) → (w u : ℕ) × (x ≡ Accepted w u)
-  none_accepted (Accepted w u) none off = (w, u, refl)
-  none_accepted (Refused r) (d, lower, one) off = absurd (off _ _ d)
+  pub none_accepted : (x : Checked) → By C x → ((k p : ℕ) → ¬ C k p) → (w u : ℕ) × (x ≡ accepted_with w u)
+  none_accepted (Ok a) none off = (a.words, a.names, refl)
+  none_accepted (Err r) (d, lower, one) off = absurd (off _ _ d)
 
 -- causes that do not hold, before others
 pub wider : (L C : ℕ → ℕ → Type 0) → ((k p : ℕ) → ¬ L k p) → (x : Checked) → By C x → By (λ k p. L k p ⊎ C k p) x
-wider L C off (Accepted w u) none = λ k p. ⊎_elim (off k p) (none k p)
-wider L C off (Refused r) (c, least, one) = (inr c, λ j q l. ⊎_elim (off j q) (least j q l), λ q. ⊎_elim (λ c. absurd (off _ q c)) (one q))
+wider L C off (Ok a) none = λ k p. ⊎_elim (off k p) (none k p)
+wider L C off (Err r) (c, least, one) = (inr c, λ j q l. ⊎_elim (off j q) (least j q l), λ q. ⊎_elim (λ c. absurd (off _ q c)) (one q))
 
 -- a number that is given by the first causes, before others of higher numbers
 pub sooner : (L C : ℕ → ℕ → Type 0) (m k p : ℕ) → k ≤ m → ((j q : ℕ) → C j q → m < j) → By L (refused k p) → By (λ k p. L k p ⊎ C k p) (refused k p)
@@ -63,10 +62,10 @@ module _ {G : Type 0} {m i : ℕ} {b : Bool} {L : ℕ → ℕ → Type 0} (d : D
   never g e k p h = false≢true (sym e ∙ (d.holds_true g k p h).0)
 
   -- the last line
-  pub last : (l : ℕ) → l < m → (w u : ℕ) → Told l G L (cond b (refused m i) (Accepted w u))
+  pub last : (l : ℕ) → l < m → (w u : ℕ) → Told l G L (cond b (refused m i) (accepted_with w u))
   last l h w u = record { above = λ k p c. omega (arith, d.number k p c); by = λ g. go g b refl }
     where
-      go : G → (c : Bool) → b ≡ c → By L (cond c (refused m i) (Accepted w u))
+      go : G → (c : Bool) → b ≡ c → By L (cond c (refused m i) (accepted_with w u))
       go g true e = (d.true_holds g e, λ j q l c. omega (arith, d.number j q c), λ q c. (d.holds_true g m q c).1)
       go g false e = never g e
 

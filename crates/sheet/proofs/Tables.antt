@@ -15,10 +15,9 @@ use Rattle.height.specs.Height.{height_of}
 use Rattle.height.specs.Work.{levels, work_words}
 use Rattle.named.specs.Named.{table_set}
 use Rattle.sheet.specs.Layout.{layout_of, fluents_in, formulas_in, effects_in, actions_in, programs_in}
-use Rattle.sheet.specs.Check.{refused, refused_at, tables_checked, names_in, height_checked, records_checked}
+use Rattle.sheet.specs.Check.{refused, refused_at, tables_checked, names_in, height_checked, records_checked, Checked, accepted_with}
 use Rattle.sheet.specs.declared.Layout.{Layout}
-use Rattle.sheet.specs.declared.Checked.{Checked}
-use Rattle.sheet.specs.declared.Checked.TheVariants.{Accepted, Refused}
+use Rattle.std.specs.Prelude.{Ok, Err}
 
 -- as many records in each table, and the same bytes in it but for the fluents'
 pub record SameRest (s s' : List ℕ) : Type 0 where
@@ -57,8 +56,8 @@ figure_of s d = work_words (levels (program_at (programs_in s (layout_of s))) (l
 
 -- an answer, with another figure where it accepts
 abbrev pub figured : (w : ℕ) → Checked → Checked
-figured w (Accepted v u) = Accepted w u
-figured w (Refused why) = Refused why
+figured w (Ok a) = accepted_with w a.names
+figured w (Err why) = Err why
 
 -- a number is given before any figure
 number_first : (w : ℕ) (b : Bool) (n p : ℕ) (x : Checked) → cond b (refused n p) (figured w x) ≡ figured w (cond b (refused n p) x)
@@ -72,9 +71,9 @@ height_alike :
 unfolding height_checked
 height_alike s s' l l' t n u =
     let w : (ℕ → Program) → ℕ → (d : ℕ) → ℕ = λ p n d. work_words (levels p n) d in
-    (λ i. cond (ltb 16 (height_of (program_at (t i)) (n i))) (refused 9 0) (Accepted (w (program_at (t i)) (n i) l'.d) (u i)))
+    (λ i. cond (ltb 16 (height_of (program_at (t i)) (n i))) (refused 9 0) (accepted_with (w (program_at (t i)) (n i) l'.d) (u i)))
     ∙ number_first (w (program_at (programs_in s l)) l.p l'.d) (ltb 16 (height_of (program_at (programs_in s l)) l.p)) 9 0
-    (Accepted (w (program_at (programs_in s l)) l.p l.d) (names_in s l))
+    (accepted_with (w (program_at (programs_in s l)) l.p l.d) (names_in s l))
 
 -- a table in which the same record is the lowest faulty one, and then the same answer
 table_alike :

@@ -1,7 +1,7 @@
 -- To be believed: when a sheet is accepted, and the number, place, figure and union of a check's answer. The answer itself is computed here too
 -- (document 01, "Who can cause which number": the causes in rising order, a place for 4 to 8); that it goes by the first cause of
 -- Causes.antt is proved in proofs/Exactly.antt. Assumes nothing.
-use Rattle.std.specs.Prelude.{◌≡◌, ℕ, ◌-◌, List, not, cond, length, ltb, eqb}
+use Rattle.std.specs.Prelude.{◌≡◌, ℕ, ◌-◌, List, not, cond, length, ltb, eqb, Result, Ok, Err}
 use Rattle.records.specs.Lowest.{lowest}
 use Rattle.records.specs.Records.{formula_at, program_at}
 use Rattle.rules.specs.Tables.{fluents_ok, formulas_ok, effects_ok, actions_ok, programs_ok}
@@ -12,16 +12,41 @@ use Rattle.sheet.specs.Trailer.{trailer_of, limits_ok, distance_ok}
 use Rattle.sheet.specs.Layout.{layout_in, fluents_in, formulas_in, effects_in, actions_in, programs_in}
 use Rattle.sheet.specs.declared.Trailer.{Trailer}
 use Rattle.sheet.specs.declared.Layout.{Layout}
+use Rattle.sheet.specs.declared.Cause.{Cause}
+use Rattle.sheet.specs.declared.Cause.TheVariants as cause
 use Rattle.sheet.specs.declared.Refusal.{Refusal}
-use Rattle.sheet.specs.declared.Checked.{Checked}
-use Rattle.sheet.specs.declared.Checked.TheVariants.{Accepted, Refused}
+use Rattle.sheet.specs.declared.Acceptance.{Acceptance}
+
+-- what a check answers
+abbrev pub Checked : Type 0
+Checked = Result Acceptance Refusal
+
+abbrev pub accepted_with : (words names : ℕ) → Checked
+accepted_with words names = Ok (record { words = words; names = names })
+
+-- document 01's number of each cause
+abbrev pub cause_number : Cause → ℕ
+cause_number cause.Trailer = 1
+cause_number cause.Limits = 2
+cause_number cause.Distance = 3
+cause_number cause.Fluent = 4
+cause_number cause.Formula = 5
+cause_number cause.Effect = 6
+cause_number cause.Action = 7
+cause_number cause.Program = 8
+cause_number cause.Height = 9
+cause_number cause.ShortTrace = 10
+cause_number cause.ShortWork = 11
+cause_number cause.NoFluent = 12
+cause_number cause.NoPlan = 13
+cause_number cause.NoPlanInBound = 14
 
 -- a number with its place
 abbrev pub refusal_of : (number place : ℕ) → Refusal
 refusal_of number place = record { number = number; place = place }
 
 abbrev pub refused : (number place : ℕ) → Checked
-refused number place = Refused (refusal_of number place)
+refused number place = Err (refusal_of number place)
 
 -- the number and the place, where a record below n is faulty; else what comes next
 unfoldable pub refused_at : (number i n : ℕ) → Checked → Checked
@@ -44,7 +69,7 @@ names_in s l = table_set (formula_at (formulas_in s l)) l.q
 unfoldable pub height_checked : List ℕ → Layout → Checked
 height_checked s l =
     let p = program_at (programs_in s l) in
-    cond (ltb 16 (height_of p l.p)) (refused 9 0) (Accepted (work_words (levels p l.p) l.d) (names_in s l))
+    cond (ltb 16 (height_of p l.p)) (refused 9 0) (accepted_with (work_words (levels p l.p) l.d) (names_in s l))
 
 -- the tables, then the height
 abbrev pub records_checked : List ℕ → Layout → Checked
@@ -63,21 +88,21 @@ check_of s = cond (ltb (length s) 18) (refused 1 0) (trailer_checked s (trailer_
 
 -- no cause of 1 to 9 holds of the sheet
 abbrev pub Accepts : List ℕ → Type 0
-Accepts s = (w u : ℕ) × (check_of s ≡ Accepted w u)
+Accepts s = (w u : ℕ) × (check_of s ≡ accepted_with w u)
 
 -- document 01's number and place of an answer, 0 where there is none, its figure and its union, 0 beside a number
 abbrev pub number_of : Checked → ℕ
-number_of (Accepted w u) = 0
-number_of (Refused why) = why.number
+number_of (Ok a) = 0
+number_of (Err why) = why.number
 
 abbrev pub place_of : Checked → ℕ
-place_of (Accepted w u) = 0
-place_of (Refused why) = why.place
+place_of (Ok a) = 0
+place_of (Err why) = why.place
 
 abbrev pub words_of : Checked → ℕ
-words_of (Accepted w u) = w
-words_of (Refused why) = 0
+words_of (Ok a) = a.words
+words_of (Err why) = 0
 
 abbrev pub fluents_named : Checked → ℕ
-fluents_named (Accepted w u) = u
-fluents_named (Refused why) = 0
+fluents_named (Ok a) = a.names
+fluents_named (Err why) = 0

@@ -1,22 +1,19 @@
 -- Own vocabulary: what a check found of a sheet and is kept for the calls that go on with it: where the tables lie, whether there are
 -- interrupts, the words of a frame and of the work area. Assumes nothing.
-use Rattle.std.specs.Prelude.{ℕ, ◌≡◌, cond, List, eqb}
+use Rattle.std.specs.Prelude.{ℕ, ◌≡◌, List, Result, Ok, Err, ⊤}
 use Rattle.records.specs.Records.{program_at}
 use Rattle.height.specs.Height.{interrupts}
 use Rattle.height.specs.Work.{levels, frame_words, work_words}
 use Rattle.sheet.specs.Layout.{layout_of, programs_in}
-use Rattle.sheet.specs.Check.{check_of, Accepts}
+use Rattle.sheet.specs.Check.{Checked, check_of, Accepts}
 use Rattle.sheet.specs.declared.Layout.{Layout}
 use Rattle.sheet.specs.declared.Refusal.{Refusal}
 use Rattle.sheet.specs.declared.Inspection.{Inspection}
-use Rattle.sheet.specs.declared.Checked.{Checked}
-use Rattle.sheet.specs.declared.Checked.TheVariants as checked
-use Rattle.sheet.specs.declared.Inspected.{Inspected}
-use Rattle.sheet.specs.declared.Inspected.TheVariants as inspected
 
--- the answer of a test that gives a number, or 0 where it goes on
-abbrev pub unless : Refusal → Checked → Checked
-unless why next = cond (eqb why.number 0) next (checked.Refused why)
+-- the answer of tests that refuse, or else go on
+abbrev pub unless : Result ⊤ Refusal → Checked → Checked
+unless (Ok a) next = next
+unless (Err why) next = Err why
 
 -- what is found where the tables lie so
 abbrev pub inspection_in : List ℕ → Layout → Inspection
@@ -26,11 +23,11 @@ inspection_in s l =
     record { layout = l; interrupts = interrupts p l.p; frame = frame_words h l.d; words = work_words h l.d }
 
 -- the check's answer, with what it found
-abbrev pub inspected_in : List ℕ → Layout → Checked → Inspected
-inspected_in s l (checked.Accepted w u) = inspected.Accepted (inspection_in s l)
-inspected_in s l (checked.Refused why) = inspected.Refused why
+abbrev pub inspected_in : List ℕ → Layout → Checked → Result Inspection Refusal
+inspected_in s l (Ok a) = Ok (inspection_in s l)
+inspected_in s l (Err why) = Err why
 
-abbrev pub inspect_of : List ℕ → Inspected
+abbrev pub inspect_of : List ℕ → Result Inspection Refusal
 inspect_of s = inspected_in s (layout_of s) (check_of s)
 
 -- it was found of the sheet s, which is accepted

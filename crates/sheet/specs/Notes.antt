@@ -1,15 +1,13 @@
 -- To be believed: the notes (document 01: "Bytes before that point are notes, never interpreted"). Assumes nothing.
-use Rattle.std.specs.Prelude.{ℕ, ◌-◌, ◌≤◌, List, ◌++◌, length, take, drop}
+use Rattle.std.specs.Prelude.{ℕ, ◌-◌, ◌≤◌, List, ◌++◌, length, take, drop, Ok, Err}
 use Rattle.sheet.specs.Trailer.{trailer_of}
 use Rattle.sheet.specs.Layout.{layout_of}
-use Rattle.sheet.specs.Check.{check_of}
-use Rattle.sheet.specs.declared.Checked.{Checked}
-use Rattle.sheet.specs.declared.Checked.TheVariants.{Accepted, Refused}
+use Rattle.sheet.specs.Check.{check_of, Checked}
 
 -- how many bytes of notes a checked sheet hands out: none under a number
 abbrev pub notes_count : List ℕ → Checked → ℕ
-notes_count s (Accepted w u) = (layout_of s).fluents
-notes_count s (Refused why) = 0
+notes_count s (Ok a) = (layout_of s).fluents
+notes_count s (Err why) = 0
 
 abbrev pub notes_of : List ℕ → List ℕ
 notes_of s = take (notes_count s (check_of s)) s

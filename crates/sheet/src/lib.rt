@@ -1,15 +1,15 @@
 // The sheet: its trailer, its five tables as parts, the nine checks, and the notes.
 #![tactic(auto)]
 
-ghost use Rattle.std.specs.Prelude.{◌≡◌, ◌+◌, ◌*◌, ◌≤◌, length};
+ghost use Rattle.std.specs.Prelude.{◌≡◌, ◌+◌, ◌*◌, ◌≤◌, length, Err, IfOk, IfErr};
+ghost use Rattle.records.specs.Records.{ProgramTable};
 ghost use Rattle.sheet.specs.Trailer.{trailer_of, limits_ok, WithinLimits, record_bytes, distance_ok};
-ghost use Rattle.kinds.specs.Formulas.{LowerFormulas};
-ghost use Rattle.sheet.specs.Layout.{layout_in, LaidOut, formulas_in};
-ghost use Rattle.sheet.specs.Check.{names_in, refusal_of, tables_checked, height_checked, check_of, number_of, place_of};
-ghost use Rattle.sheet.specs.Inspection.{unless, inspected_in, inspect_of};
+ghost use Rattle.sheet.specs.Layout.{layout_in, layout_of, LaidOut, fluents_in, formulas_in, effects_in, actions_in, programs_in};
+ghost use Rattle.sheet.specs.Check.{Checked, names_in, cause_number, refusal_of, tables_checked, height_checked, check_of, Accepts, number_of, place_of};
+ghost use Rattle.sheet.specs.Inspection.{unless, inspection_in, inspected_in, inspect_of, Of};
 ghost use Rattle.sheet.specs.Notes.{notes_of};
-ghost use Rattle.sheet.specs.declared.Checked.{Checked};
-ghost use Rattle.sheet.specs.declared.Inspected.TheVariants.{Refused};
+
+use std::marker::Model;
 
 // The bytes of the trailer, and what its last two say.
 const TRAILER: usize = 18;
@@ -62,19 +62,70 @@ pub struct Layout {
     pub end: usize,
 }
 
-// Why a call turns its input away: document 01's number, and its place, which is 0 unless a record is at fault.
-#[derive(Clone, Copy)]
+// Why a call turns its input away.
+#[derive(Clone, Copy, Debug, PartialEq, Eq)]
+pub enum Cause {
+    Trailer = 1,
+    Limits,
+    Distance,
+    Fluent,
+    Formula,
+    Effect,
+    Action,
+    Program,
+    Height,
+    ShortTrace,
+    ShortWork,
+    NoFluent,
+    NoPlan,
+    NoPlanInBound,
+}
+
+impl Cause {
+    // Document 01's number of a cause.
+    pub fn number(self) -> u32
+        ensures { result ≡ cause_number self }
+    {
+        self as u32
+    }
+}
+
+// Document 01's number of a cause, and its place, which is 0 unless a record is at fault.
+// Kept: the number is what C and `view::find` hand on: `found_from` answers whatever number a view holds.
+#[derive(Clone, Copy, Debug, PartialEq, Eq)]
 pub struct Refusal {
     pub number: u32,
     pub place: usize,
 }
 
-// What a check answers: the words of work that planning and replay require, and the set of the fluents that formulas name, bit x for
-// fluent x; or why it turns the sheet away.
-#[derive(Clone, Copy)]
-pub enum Checked {
-    Accepted { words: usize, names: u32 },
-    Refused { why: Refusal },
+impl Refusal {
+    pub fn at(cause: Cause, place: usize) -> Refusal
+        ensures { result ≡ refusal_of (cause_number cause) place }
+    {
+        Refusal {
+            number: cause.number(),
+            place,
+        }
+    }
+}
+
+impl From<Cause> for Refusal {
+    ghost use Rattle.std.specs.Prelude.{◌≡◌};
+    ghost use Rattle.sheet.specs.Check.{cause_number, refusal_of};
+
+    ghost from_gives = { λ cause why. why ≡ refusal_of (cause_number cause) 0 };
+
+    fn from(cause: Cause) -> Refusal {
+        Refusal::at(cause, 0)
+    }
+}
+
+// What a check tells of an accepted sheet: the words of work that planning and replay require, and the set of the fluents that formulas
+// name, bit x for fluent x.
+#[derive(Clone, Copy, Debug, PartialEq, Eq)]
+pub struct Acceptance {
+    pub words: usize,
+    pub names: u32,
 }
 
 // What was found of an accepted sheet: where its tables lie, whether there are interrupts, the words of a frame and of the work area.
@@ -86,13 +137,7 @@ pub struct Inspection {
     pub words: usize,
 }
 
-// What an inspection answers: a check, with all that it found.
-#[derive(Clone, Copy)]
-pub enum Inspected {
-    Accepted { found: Inspection },
-    Refused { why: Refusal },
-}
-
+#[tactic(auto, unfolding(crate::specs::Trailer::trailer_in))]
 pub fn read_trailer(s: &[u8]) -> Trailer
     requires { 18 ≤ length s.now }
     ensures { result ≡ trailer_of s.now }
@@ -120,6 +165,7 @@ pub fn read_trailer(s: &[u8]) -> Trailer
     }
 }
 
+#[tactic(auto, unfolding(crate::specs::Trailer::limits_ok))]
 fn limits_ok(t: Trailer) -> bool
     ensures { result ≡ limits_ok t }
 {
@@ -134,6 +180,7 @@ fn limits_ok(t: Trailer) -> bool
 }
 
 // `room` is the number of bytes before the trailer.
+#[tactic(auto, unfolding(crate::specs::Trailer::distance_ok))]
 fn distance_ok(t: Trailer, room: usize) -> bool
     requires { WithinLimits t }
     ensures { result ≡ distance_ok t room }
@@ -141,6 +188,7 @@ fn distance_ok(t: Trailer, room: usize) -> bool
     (t.distance == 2 * t.f + 6 * t.q + 4 * t.e + 6 * t.a + 8 * t.p) & (t.distance <= room)
 }
 
+#[tactic(auto, unfolding(crate::specs::Layout::layout_in))]
 fn lay_out(t: Trailer, room: usize) -> Layout
     requires within_limits { WithinLimits t }
     requires distance_value { (t.distance ≡ record_bytes t) × (t.distance ≤ room) }
@@ -169,14 +217,8 @@ fn lay_out(t: Trailer, room: usize) -> Layout
     }
 }
 
-fn refusal_of(number: u32, place: usize) -> Refusal
-    ensures { result ≡ refusal_of number place }
-{
-    Refusal { number, place }
-}
-
-// The first table with a record that breaks its rule, and the lowest such record; number 0 where there is none.
-fn check_tables(s: &[u8], l: Layout) -> Refusal
+// The first table with a record that breaks its rule, and the lowest such record.
+fn check_tables(s: &[u8], l: Layout) -> Result<(), Refusal>
     requires { LaidOut l (length s.now) }
     ensures { (next : Checked) → unless result next ≡ tables_checked s.now l next }
 {
@@ -189,38 +231,30 @@ fn check_tables(s: &[u8], l: Layout) -> Refusal
     let sizes = &s[at_fluents..at_formulas];
     let a = rules::fluents(sizes, l.f);
     if a < l.f {
-        return refusal_of(4, a);
+        return Err(Refusal::at(Cause::Fluent, a));
     }
     let b = rules::formulas(sizes, l.f, &s[at_formulas..at_effects], l.q);
     if b < l.q {
-        return refusal_of(5, b);
+        return Err(Refusal::at(Cause::Formula, b));
     }
     let c = rules::effects(sizes, l.f, l.q, &s[at_effects..at_actions], l.e);
     if c < l.e {
-        return refusal_of(6, c);
+        return Err(Refusal::at(Cause::Effect, c));
     }
     let d = rules::actions(l.q, l.e, &s[at_actions..at_programs], l.a);
     if d < l.a {
-        return refusal_of(7, d);
+        return Err(Refusal::at(Cause::Action, d));
     }
     let e = rules::programs(l.q, l.a, &s[at_programs..end], l.p);
     if e < l.p {
-        return refusal_of(8, e);
+        return Err(Refusal::at(Cause::Program, e));
     }
-    refusal_of(0, 0)
-}
-
-fn refused(number: u32) -> Inspected
-    ensures { result ≡ Refused (refusal_of number 0) }
-{
-    let place = 0;
-    Inspected::Refused {
-        why: refusal_of(number, place),
-    }
+    Ok(())
 }
 
 // What is found where every record keeps its rule, unless the program is too high.
-fn measure(s: &[u8], l: Layout) -> Inspected
+#[tactic(auto, using(crate::proofs::Checking::too_high, crate::proofs::Checking::low_enough), unfolding(crate::specs::Check::height_checked))]
+fn measure(s: &[u8], l: Layout) -> Result<Inspection, Refusal>
     requires { LaidOut l (length s.now) }
     ensures { result ≡ inspected_in s.now l (height_checked s.now l) }
 {
@@ -229,72 +263,55 @@ fn measure(s: &[u8], l: Layout) -> Inspected
     let programs = &s[start..end];
     let h = height::height(programs, l.p);
     if MOST_HEIGHT < h {
-        return refused(9);
+        return Err(Refusal::from(Cause::Height));
     }
     let interrupts = height::has_interrupts(programs, l.p);
     let frame = height::frame_words(height::levels_from(h, interrupts), l.d);
-    Inspected::Accepted {
-        found: Inspection {
-            layout: l,
-            interrupts,
-            frame,
-            words: height::work_words(frame, l.d),
-        },
-    }
+    Ok(Inspection {
+        layout: l,
+        interrupts,
+        frame,
+        words: height::work_words(frame, l.d),
+    })
 }
 
 // Checks a sheet, and keeps what was found.
-pub fn inspect(s: &[u8]) -> Inspected
+pub fn inspect(s: &[u8]) -> Result<Inspection, Refusal>
     ensures { result ≡ inspect_of s.now }
 {
     let n = s.len();
     if n < TRAILER {
-        return refused(1);
+        return Err(Refusal::from(Cause::Trailer));
     }
     let t = read_trailer(s);
     if t.magic != MAGIC {
-        return refused(1);
+        return Err(Refusal::from(Cause::Trailer));
     }
     if !limits_ok(t) {
-        return refused(2);
+        return Err(Refusal::from(Cause::Limits));
     }
     let room = n - TRAILER;
     if !distance_ok(t, room) {
-        return refused(3);
+        return Err(Refusal::from(Cause::Distance));
     }
     let l = lay_out(t, room);
-    let fault = check_tables(s, l);
-    if fault.number != 0 {
-        return Inspected::Refused { why: fault };
-    }
+    check_tables(s, l)?;
     measure(s, l)
 }
 
-// What the formulas name, all together.
-fn names_in(s: &[u8], l: Layout) -> u32
-    requires { LaidOut l (length s.now) × LowerFormulas (formulas_in s.now l) l.q }
-    ensures { result ≡ names_in s.now l }
-{
-    let start = l.formulas;
-    let end = l.effects;
-    let sets = named::sets_of(&s[start..end], l.q);
-    named::union_of(&sets, l.q)
-}
-
 // Checks a sheet.
-pub fn check(s: &[u8]) -> Checked
+pub fn check(s: &[u8]) -> Result<Acceptance, Refusal>
     ensures { result ≡ check_of s.now }
 {
-    match inspect(s) {
-        Inspected::Accepted { found } => Checked::Accepted {
-            words: found.words,
-            names: names_in(s, found.layout),
-        },
-        Inspected::Refused { why } => Checked::Refused { why },
-    }
+    let sheet = Sheet::open(s)?;
+    Ok(Acceptance {
+        words: sheet.found().words,
+        names: sheet.names(),
+    })
 }
 
 // The notes: the caller's own bytes ahead of the first record. Under a number, the empty part at the slice's start.
+// Kept: the clauses `answer` and `borrowed` speak of the part handed out under a number too, and `planner_raw_notes` hands both to C.
 pub fn notes<'a>(s: &'a [u8], number: &mut u32, place: &mut usize) -> &'a [u8]
     ensures answer { result.now ≡ notes_of s.now }
     ensures borrowed { result.ref_ptr ≡ s.entry.ref_ptr }
@@ -302,18 +319,114 @@ pub fn notes<'a>(s: &'a [u8], number: &mut u32, place: &mut usize) -> &'a [u8]
     ensures place { place.new ≡ place_of (check_of s.now) }
 {
     match inspect(s) {
-        Inspected::Accepted { found } => {
+        Ok(found) => {
             *number = 0;
             *place = 0;
-            let l = found.layout;
-            let end = l.fluents;
-            &s[..end]
+            &s[..found.layout.fluents]
         }
-        Inspected::Refused { why } => {
+        Err(why) => {
             *number = why.number;
             *place = why.place;
-            let end = 0;
-            &s[..end]
+            &s[..0]
         }
+    }
+}
+
+// An accepted sheet.
+#[derive(Drop)]
+pub struct Sheet<'a> {
+    bytes: &'a [u8],
+    found: Inspection,
+}
+
+impl<'a> Model for Sheet<'a> {
+    ghost use Rattle.std.specs.Prelude.{◌≡◌, ℕ, List, Ok};
+    ghost use Rattle.sheet.specs.Inspection.{inspect_of};
+
+    ghost Value = { List ℕ };
+
+    ghost view = { λ s. s.bytes.now };
+
+    ghost invariant = { λ s. inspect_of s.bytes.now ≡ Ok s.found };
+}
+
+impl<'a> Sheet<'a> {
+    // Opens a sheet, which is checked.
+    #[tactic(auto, using(crate::proofs::Found::accepted_from))]
+    pub fn open(bytes: &'a [u8]) -> Result<Sheet<'a>, Refusal>
+        ensures accepted { IfOk result (λ s. (s ≡ bytes.now) × Accepts bytes.now) }
+        ensures refused { IfErr result (λ why. check_of bytes.now ≡ Err why) }
+    {
+        let found = inspect(bytes)?;
+        Ok(Sheet { bytes, found })
+    }
+
+    #[tactic(auto, using(crate::proofs::Found::found_from, crate::proofs::Found::inspected_from, crate::proofs::Found::laid_from))]
+    pub fn found(&self) -> Inspection
+        ensures of { Of self.now result }
+        ensures found { result ≡ inspection_in self.now (layout_of self.now) }
+        ensures laid_out { LaidOut result.layout (length self.now) }
+    {
+        self.found
+    }
+
+    pub fn bytes(&self) -> &'a [u8]
+        ensures { result.now ≡ self.now }
+    {
+        self.bytes
+    }
+
+    #[tactic(auto, using(crate::proofs::Found::ordered, crate::proofs::Found::fluents_from))]
+    pub fn fluents(&self) -> &'a [u8]
+        ensures table { result.now ≡ fluents_in self.now (layout_of self.now) }
+        ensures long { 2 * (layout_of self.now).f ≤ length result.now }
+    {
+        let l = self.found.layout;
+        &self.bytes[l.fluents..l.formulas]
+    }
+
+    #[tactic(auto, using(crate::proofs::Found::ordered, crate::proofs::Found::formulas_from))]
+    pub fn formulas(&self) -> &'a [u8]
+        ensures table { result.now ≡ formulas_in self.now (layout_of self.now) }
+        ensures long { 6 * (layout_of self.now).q ≤ length result.now }
+    {
+        let l = self.found.layout;
+        &self.bytes[l.formulas..l.effects]
+    }
+
+    #[tactic(auto, using(crate::proofs::Found::ordered, crate::proofs::Found::effects_from))]
+    pub fn effects(&self) -> &'a [u8]
+        ensures table { result.now ≡ effects_in self.now (layout_of self.now) }
+        ensures long { 4 * (layout_of self.now).e ≤ length result.now }
+    {
+        let l = self.found.layout;
+        &self.bytes[l.effects..l.actions]
+    }
+
+    #[tactic(auto, using(crate::proofs::Found::ordered, crate::proofs::Found::actions_from))]
+    pub fn actions(&self) -> &'a [u8]
+        ensures table { result.now ≡ actions_in self.now (layout_of self.now) }
+        ensures long { 6 * (layout_of self.now).a ≤ length result.now }
+    {
+        let l = self.found.layout;
+        &self.bytes[l.actions..l.programs]
+    }
+
+    #[tactic(auto, using(crate::proofs::Found::ordered, crate::proofs::Found::programs_from))]
+    pub fn programs(&self) -> &'a [u8]
+        ensures table { result.now ≡ programs_in self.now (layout_of self.now) }
+        ensures long { ProgramTable result.now (layout_of self.now).p }
+    {
+        let l = self.found.layout;
+        &self.bytes[l.programs..l.end]
+    }
+
+    // What the formulas name, all together.
+    fn names(&self) -> u32
+        ensures { result ≡ names_in self.now (layout_of self.now) }
+    {
+        let count = self.found().layout.q;
+        let sets = named::sets_of(self.formulas(), count);
+        named::union_of(&sets, count)
     }
 }
