@@ -1,12 +1,15 @@
 -- The h of the work figure as it is computed is document 01's: the height, plus 2 if any record has kind 11. Assumes nothing.
-use mathlib.Core.Path.{◌≡◌, refl, sym, ◌∙◌}
+use mathlib.Core.Path.{◌≡◌, refl, sym, ap, ◌∙◌}
 use mathlib.Core.Bool.{Bool, true, false, cond, false≢true}
 use mathlib.Core.Logic.{◌⊎◌, inl, inr, ⊎_elim, ◌↔◌}
-use Prim.Native.Nat.{ℕ, ◌+◌, ◌≤◌, ◌<◌}
+use Prim.Native.Nat.{ℕ, zero, suc, ◌+◌, ◌≤◌, ◌<◌}
 use native.Mathlib.Decide.{dec_lt}
+use native.Mathlib.Numerals.{add-one}
 use native.Mathlib.Omega.{arith}
-use borrow.Author.Tests.{ltb-true, lt-ltb, eqb-true, eqb-false, not-true, not-false}
-use Rattle.records.specs.Lowest.{lowest}
+use borrow.Author.Tests.{ltb-true, lt-ltb, le-ltb, eqb-true, eqb-false, not-true, not-false}
+use lib.Dec.{eqb, ltb}
+use Rattle.std.specs.List.{list_any, range_with_len}
+use Rattle.records.specs.Lowest.{lowest_from, lowest}
 use Rattle.records.proofs.Lowest.{lower_true, lowest_false}
 use Rattle.records.proofs.Truth.{is_false}
 use Rattle.records.specs.declared.Program.{Program}
@@ -14,6 +17,24 @@ use Rattle.height.specs.Down.{IsHeight}
 use Rattle.height.specs.Height.{height_of, plain, interrupts}
 use Rattle.height.specs.Work.{Interrupted, IsLevels, levels}
 use Rattle.height.proofs.Paths.{Lower, height_is_most}
+
+-- whether any of k records from number i on is an interrupt
+module _ (p : ℕ → Program) where
+  abbrev any_in : (k i : ℕ) → Bool
+  any_in k i = list_any (λ (j : ℕ). eqb (p j).kind 11) (range_with_len i k)
+
+  any_from : (k i : ℕ) → any_in k i ≡ ltb (lowest_from (plain p) i k) (i + k)
+  unfolding lowest_from
+  any_from zero i = sym (le-ltb _ _ (omega arith))
+  any_from (suc k) i = go (eqb (p i).kind 11) refl (any_from k (suc i))
+    where
+      go : (b : Bool) → eqb (p i).kind 11 ≡ b → any_in k (suc i) ≡ ltb (lowest_from (plain p) (suc i) k) (suc i + k) → any_in (suc k) i ≡ ltb (lowest_from (plain p) i (suc k)) (i + suc k)
+      go true e next = rw (e, lowest_from) (sym (lt-ltb _ _ (omega arith)))
+      go false e next = rw (e, lowest_from, add-one i) (next ∙ ap (ltb (lowest_from (plain p) (suc i) k)) (omega arith))
+
+pub any_is : (p : ℕ → Program) (n : ℕ) → list_any (λ (j : ℕ). eqb (p j).kind 11) (range_with_len 0 n) ≡ interrupts p n
+unfolding interrupts lowest
+any_is p n = any_from p n 0 ∙ ap (ltb (lowest_from (plain p) 0 n)) (omega arith)
 
 module _ (p : ℕ → Program) (n : ℕ) where
   pub interrupts_exactly : (interrupts p n ≡ true) ↔ Interrupted p n

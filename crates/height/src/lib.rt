@@ -12,11 +12,8 @@ use records::Program;
 // The words of a frame before its nodes.
 pub const HEADER: usize = 64;
 
-fn larger(a: u32, b: u32) -> u32
-    ensures { result ≡ max a b }
-{
-    if a < b { b } else { a }
-}
+// The kind of an interrupt.
+const INTERRUPT: usize = 11;
 
 // One link more than record a is high, where there is a link to it.
 fn above(h: &[u32], link: bool, a: usize) -> u32
@@ -24,7 +21,7 @@ fn above(h: &[u32], link: bool, a: usize) -> u32
     ensures { result ≡ cond link (suc (get_or h.now a 0)) 0 }
 {
     if link {
-        records::number_in(h, a, 0) + 1
+        records::value_in(h, a, 0) + 1
     } else {
         0
     }
@@ -35,10 +32,9 @@ fn height_over(h: &[u32], r: Program) -> u32
     requires { (j : ℕ) → get_or h.now j 0 ≤ 256 }
     ensures { result ≡ height_over h.now (links r) }
 {
-    larger(
-        above(h, kinds::programs::has_a(r.kind), r.a),
-        above(h, kinds::programs::has_b(r.kind), r.b),
-    )
+    let a = above(h, kinds::programs::has_a(r.kind), r.a);
+    let b = above(h, kinds::programs::has_b(r.kind), r.b);
+    a.max(b)
 }
 
 // The height of a table of n program records.
@@ -47,21 +43,10 @@ pub fn height(t: &[u8], n: usize) -> usize
     ensures { result ≡ height_of (program_at t.now) n }
 {
     let mut h = [0u32; 256];
-    let mut i = 0;
-    while i < n {
-        let v = height_over(&h, records::program_at(t, i));
-        h[i] = v;
-        i += 1;
+    for i in 0..n {
+        h[i] = height_over(&h, records::program_at(t, i));
     }
-    records::wide32(h[n - 1])
-}
-
-fn is_plain(t: &[u8], i: usize) -> bool
-    requires { 8 * i + 8 ≤ length t.now }
-    ensures { result ≡ plain (program_at t.now) i }
-{
-    let r = records::program_at(t, i);
-    r.kind != 11
+    h[n - 1] as usize
 }
 
 // Whether any of n program records is an interrupt.
@@ -69,14 +54,7 @@ pub fn has_interrupts(t: &[u8], n: usize) -> bool
     requires { 8 * n ≤ length t.now }
     ensures { result ≡ interrupts (program_at t.now) n }
 {
-    let mut i = 0;
-    while i < n {
-        if !is_plain(t, i) {
-            return true;
-        }
-        i += 1;
-    }
-    false
+    (0..n).any(|i| records::program_at(t, i).kind == INTERRUPT)
 }
 
 // What counts as height for the work area: two levels more where there are interrupts.
@@ -84,7 +62,7 @@ pub fn levels_from(h: usize, interrupts: bool) -> usize
     requires { h ≤ 256 }
     ensures { result ≡ h + cond interrupts 2 0 }
 {
-    if interrupts { h + 2 } else { h }
+    h + if interrupts { 2 } else { 0 }
 }
 
 // The words of one frame.

@@ -7,6 +7,7 @@ use mathlib.Core.Bool.{Bool, false, ◌||◌}
 use mathlib.Core.List.{List}
 use lib.Bits.{bit_or}
 use lib.ListN.{get_or}
+use Rattle.std.specs.List.{fold, range_with_len}
 use Rattle.records.specs.declared.Formula.{Formula}
 use Rattle.records.specs.declared.Effect.{Effect}
 use Rattle.records.specs.declared.Action.{Action}
@@ -38,10 +39,15 @@ unfolding or_from
 or_same f g zero i h = refl
 or_same f g (suc k) i h = ap₂ bit_or (or_same f g k i (λ a (l, m). h a (l, omega arith))) (h (i + k) (omega arith, omega arith))
 
--- one set more
-pub or_next : (f : ℕ → ℕ) (i : ℕ) {k n a s v : ℕ} → n ≡ suc k → a ≡ i + k → s ≡ or_from f i k → v ≡ f a → bit_or s v ≡ or_from f i n
+-- the union is what joining the sets upwards gives
+or_onward : (f : ℕ → ℕ) (a k i m n : ℕ) → m ≡ a + i → n ≡ i + k → fold (λ s q. bit_or s (f q)) (or_from f a i) (range_with_len m k) ≡ or_from f a n
 unfolding or_from
-or_next f i e h p q = ap₂ bit_or p (q ∙ ap f h) ∙ ap (or_from f i) (sym e)
+or_onward f a zero i m n e h = let l : i ≡ n = omega arith in ap (or_from f a) l
+or_onward f a (suc k) i m n e h = rw e (or_onward f a k (suc i) (a + i + 1) n (omega arith) (omega arith))
+
+pub or_fold : (f : ℕ → ℕ) (i k : ℕ) → fold (λ s q. bit_or s (f q)) 0 (range_with_len i k) ≡ or_from f i k
+unfolding or_from
+or_fold f i k = or_onward f i k 0 i k (omega arith) (omega arith)
 
 module _ (t : List ℕ) (n : ℕ) (low : LowerFormulas t n) where
   -- the entries below k

@@ -30,11 +30,8 @@ pub fn sets_of(formulas: &[u8], n: usize) -> [u32; FORMULAS]
     ensures { result ≡ sets_of formulas.now n }
 {
     let mut sets = [0u32; FORMULAS];
-    let mut i = 0;
-    while i < n {
-        let r = names_at(formulas, i, &sets);
-        sets[i] = r;
-        i += 1;
+    for i in 0..n {
+        sets[i] = names_at(formulas, i, &sets);
     }
     sets
 }
@@ -43,13 +40,7 @@ pub fn sets_of(formulas: &[u8], n: usize) -> [u32; FORMULAS]
 pub fn union_of(sets: &[u32], n: usize) -> u32
     ensures { result ≡ union_of sets.now n }
 {
-    let mut union = 0;
-    let mut q = 0;
-    while q < n {
-        union = union | records::number_in(sets, q, 0);
-        q += 1;
-    }
-    union
+    (0..n).fold(0, |union, q| union | records::value_in(sets, q, 0))
 }
 
 // What the conditions of a range of effects name, whether they hold or not.
@@ -57,15 +48,9 @@ fn conditions_in(effects: &[u8], first: usize, count: usize, sets: &[u32]) -> u3
     requires { 4 * (first + count) ≤ length effects.now }
     ensures { result ≡ conditions_by effects.now sets.now first count }
 {
-    let end = first + count;
-    let mut union = 0;
-    let mut i = first;
-    while i < end {
-        let e = records::effect_at(effects, i);
-        union = union | records::number_in(sets, e.condition, 0);
-        i += 1;
-    }
-    union
+    (first..first + count).fold(0, |union, i| {
+        union | records::value_in(sets, records::effect_at(effects, i).condition, 0)
+    })
 }
 
 // What an action's precondition and the conditions of its effects name.
@@ -73,7 +58,7 @@ fn action_set(effects: &[u8], r: Action, sets: &[u32]) -> u32
     requires { 4 * (r.first + r.count) ≤ length effects.now }
     ensures { result ≡ action_set_by effects.now sets.now r }
 {
-    records::number_in(sets, r.precondition, 0) | conditions_in(effects, r.first, r.count, sets)
+    records::value_in(sets, r.precondition, 0) | conditions_in(effects, r.first, r.count, sets)
 }
 
 // What the precondition of each of the first n actions and the conditions of its effects name.
@@ -82,10 +67,8 @@ pub fn action_sets(effects: &[u8], actions: &[u8], n: usize, sets: &[u32]) -> [u
     ensures { result ≡ action_sets_of effects.now actions.now sets.now n }
 {
     let mut unions = [0u32; ACTIONS];
-    let mut a = 0;
-    while a < n {
+    for a in 0..n {
         unions[a] = action_set(effects, records::action_at(actions, a), sets);
-        a += 1;
     }
     unions
 }

@@ -1,7 +1,7 @@
 // The rule of each table's records, and the lowest record of a table that breaks it.
-#![tactic(auto)]
+#![tactic(auto, unfolding(crate::specs::Rules::fluent_ok, crate::specs::Rules::effect_ok, crate::specs::Rules::action_ok, records::specs::Records::fluent_at))]
 
-ghost use Rattle.std.specs.Prelude.{◌≡◌, ◌+◌, ◌*◌, ◌≤◌, ◌<◌, length};
+ghost use Rattle.std.specs.Prelude.{◌≡◌, ℕ, ◌+◌, ◌*◌, ◌≤◌, ◌<◌, Bool, length};
 ghost use Rattle.records.specs.Bytes.{limit16};
 ghost use Rattle.records.specs.Records.{fluent_at};
 ghost use Rattle.records.specs.Lowest.{lowest};
@@ -53,19 +53,25 @@ fn effects_ok(fluents: &[u8], nf: usize, nq: usize, t: &[u8], i: usize) -> bool
     effect_ok(nf, nq, size_of(fluents, r.fluent), r)
 }
 
+// The lowest number below n at which a rule fails, or n.
+fn lowest<F: Fn(usize) -> bool>(n: usize, holds: F) -> usize
+    requires { (i : ℕ) → i < n → F.pre holds i }
+    ensures { (ok : ℕ → Bool) → ((i : ℕ) (b : Bool) → i < n → F.post holds i b → b ≡ ok i) → result ≡ lowest ok n }
+{
+    for i in 0..n {
+        if !holds(i) {
+            return i;
+        }
+    }
+    n
+}
+
 // The lowest faulty fluent of a table of n, or n.
 pub fn fluents(t: &[u8], n: usize) -> usize
     requires { 2 * n ≤ length t.now }
     ensures { result ≡ lowest (fluents_ok t.now) n }
 {
-    let mut i = 0;
-    while i < n {
-        if !fluent_ok(records::fluent_at(t, i)) {
-            return i;
-        }
-        i += 1;
-    }
-    i
+    lowest(n, |i| fluent_ok(records::fluent_at(t, i)))
 }
 
 // The lowest faulty formula of a table of n, or n.
@@ -73,14 +79,7 @@ pub fn formulas(fluents: &[u8], nf: usize, t: &[u8], n: usize) -> usize
     requires { 6 * n ≤ length t.now }
     ensures { result ≡ lowest (formulas_ok fluents.now nf t.now) n }
 {
-    let mut i = 0;
-    while i < n {
-        if !formulas_ok(fluents, nf, t, i) {
-            return i;
-        }
-        i += 1;
-    }
-    i
+    lowest(n, |i| formulas_ok(fluents, nf, t, i))
 }
 
 // The lowest faulty effect of a table of n, or n.
@@ -88,14 +87,7 @@ pub fn effects(fluents: &[u8], nf: usize, nq: usize, t: &[u8], n: usize) -> usiz
     requires { 4 * n ≤ length t.now }
     ensures { result ≡ lowest (effects_ok fluents.now nf nq t.now) n }
 {
-    let mut i = 0;
-    while i < n {
-        if !effects_ok(fluents, nf, nq, t, i) {
-            return i;
-        }
-        i += 1;
-    }
-    i
+    lowest(n, |i| effects_ok(fluents, nf, nq, t, i))
 }
 
 // The lowest faulty action of a table of n, or n.
@@ -103,14 +95,7 @@ pub fn actions(nq: usize, ne: usize, t: &[u8], n: usize) -> usize
     requires { 6 * n ≤ length t.now }
     ensures { result ≡ lowest (actions_ok nq ne t.now) n }
 {
-    let mut i = 0;
-    while i < n {
-        if !action_ok(nq, ne, records::action_at(t, i)) {
-            return i;
-        }
-        i += 1;
-    }
-    i
+    lowest(n, |i| action_ok(nq, ne, records::action_at(t, i)))
 }
 
 // The lowest faulty program record of a table of n, or n.
@@ -118,12 +103,7 @@ pub fn programs(nq: usize, na: usize, t: &[u8], n: usize) -> usize
     requires { 8 * n ≤ length t.now }
     ensures { result ≡ lowest (programs_ok nq na t.now) n }
 {
-    let mut i = 0;
-    while i < n {
-        if !kinds::programs::program_ok(nq, na, i, records::program_at(t, i)) {
-            return i;
-        }
-        i += 1;
-    }
-    i
+    lowest(n, |i| {
+        kinds::programs::program_ok(nq, na, i, records::program_at(t, i))
+    })
 }

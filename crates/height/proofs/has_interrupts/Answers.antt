@@ -1,28 +1,17 @@
--- The loop keeps the invariant of Scan for records that are no interrupt. Assumes nothing.
-use mathlib.Core.Path.{sym, subst}
-use Prim.Native.Nat.{ℕ, ◌<◌, ◌≤◌}
-use borrow.Author.Tests.{lt-ltb, le-ltb}
-use Rattle.records.proofs.Scan.{start, more, found, done}
-use Rattle.height.specs.Height.{interrupts}
-use Rattle.std.proofs.lemmas.Bool.{not_from_true}
-use Rattle.std.proofs.lemmas.Bool.{not_from_false}
+-- `any` tries each number below n, and Levels has what that finds. Assumes nothing.
+use mathlib.Core.Path.{refl, ◌∙◌}
+use native.Mathlib.Nat.{sub-zero}
+use borrow.Author.Tests.{tests}
+use lib.Dec.{eqb}
+use Prim.Native.Nat.{ℕ}
+use Rattle.std.proofs.Common.{rules}
+use Rattle.std.proofs.lemmas.Iterator.{YieldsList-from_range}
+use Rattle.std.proofs.lemmas.Iterator.Search.{any_from_yields_List}
+use Rattle.records.specs.Records.{program_at}
+use Rattle.height.proofs.Levels.{any_is}
 use Rattle.height.proofs.has_interrupts.Goals as goal
 
-pub loop-i-init : goal.loop-i-init
-loop-i-init c = start _ _
-
-pub returns-then-not-is_plain : goal.returns-then-not-is_plain
-unfolding interrupts
-returns-then-not-is_plain c =
-    let e = found _ c.loop-i.invariant c.loop-i-test.true c.is_plain.ensures (not_from_false _ c.if-not-is_plain.true) in
-    sym (lt-ltb _ _ (subst (λ (i : ℕ). i < c.args.n) e c.loop-i-test.true))
-
-pub loop-i-preserved : goal.loop-i-preserved
-loop-i-preserved c =
-    more _ c.loop-i.invariant c.loop-i-test.true c.is_plain.ensures (not_from_true _ c.if-not-is_plain.false)
-
 pub returns : goal.returns
-unfolding interrupts
 returns c =
-    let e = done _ c.loop-i.invariant c.loop-i-test.false in
-    sym (le-ltb _ _ (subst (λ (i : ℕ). c.args.n ≤ i) e c.loop-i-test.false))
+    any_from_yields_List (λ (i : ℕ). eqb (program_at c.args.t.now i).kind 11) _ _ _ c.any.ensures.ran (YieldsList-from_range 0 _ _ refl (sub-zero _)) (λ x b q k. search (rules, tests))
+    ∙ any_is (program_at c.args.t.now) c.args.n

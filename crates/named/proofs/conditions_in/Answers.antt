@@ -1,27 +1,18 @@
--- The loop joins the sets of the conditions upwards: so far it has the union of those before i. Assumes nothing.
-use mathlib.Core.Path.{◌≡◌, ◌∙◌, ap}
-use Prim.Native.Nat.{◌-◌}
-use native.Mathlib.Nat.{sub_self}
+-- The sets of the conditions are joined upwards. Assumes nothing.
+use mathlib.Core.Path.{refl, ◌∙◌}
+use Prim.Native.Nat.{ℕ}
 use native.Mathlib.Omega.{arith}
+use lib.Bits.{bit_or}
 use lib.ListN.{get_or}
-use Rattle.records.specs.declared.Effect.{Effect}
-use Rattle.named.specs.Tables.{or_from, conditions_by}
-use Rattle.named.proofs.Tables.{or_next}
+use Rattle.std.proofs.Common.{rules}
+use Rattle.std.proofs.lemmas.Iterator.{YieldsList-from_range}
+use Rattle.std.proofs.lemmas.Iterator.Consumers.{fold_from_yields_List}
+use Rattle.records.specs.Records.{effect_at}
+use Rattle.named.proofs.Tables.{or_fold}
 use Rattle.named.proofs.conditions_in.Goals as goal
-
-pub loop-i-init : goal.loop-i-init
-unfolding or_from
-loop-i-init c = (omega arith, omega arith, rw sub_self)
-
-pub loop-i-preserved : goal.loop-i-preserved
-loop-i-preserved c = (
-  omega arith,
-  omega arith,
-  or_next _ _ (omega arith) (omega arith) c.loop-i.invariant.2 (c.number_in-union.ensures ∙ ap (λ (e : Effect). get_or c.args.sets.now e.condition 0)
-      c.effect_at-e.ensures.record),
-)
 
 pub returns : goal.returns
 returns c =
-    let e : c.loop-i.i - c.args.first ≡ c.args.count = omega arith in
-    c.loop-i.invariant.2 ∙ ap (conditions_by c.args.effects.now c.args.sets.now c.args.first) e
+    let set = λ (e : ℕ). get_or c.args.sets.now (effect_at c.args.effects.now e).condition 0 in
+    fold_from_yields_List _ (λ s e. bit_or s (set e)) 0 _ c.fold.ensures.ran (YieldsList-from_range c.args.first _ c.args.count refl (omega arith)) (λ a x b q k. search rules)
+    ∙ or_fold set c.args.first c.args.count

@@ -1,18 +1,17 @@
--- The loop joins the sets upwards: so far it has the union of the first q. Assumes nothing.
-use mathlib.Core.Path.{refl, ◌∙◌, ap}
-use native.Mathlib.Nat.{le_antisymm}
-use native.Mathlib.Omega.{arith}
-use Rattle.named.specs.Tables.{or_from, union_of}
-use Rattle.named.proofs.Tables.{or_next}
+-- The sets are joined upwards. Assumes nothing.
+use mathlib.Core.Path.{refl, ◌∙◌}
+use Prim.Native.Nat.{ℕ}
+use native.Mathlib.Nat.{sub-zero}
+use lib.Bits.{bit_or}
+use lib.ListN.{get_or}
+use Rattle.std.proofs.Common.{rules}
+use Rattle.std.proofs.lemmas.Iterator.{YieldsList-from_range}
+use Rattle.std.proofs.lemmas.Iterator.Consumers.{fold_from_yields_List}
+use Rattle.named.proofs.Tables.{or_fold}
 use Rattle.named.proofs.union_of.Goals as goal
-
-pub loop-q-init : goal.loop-q-init
-unfolding or_from
-loop-q-init c = (omega arith, refl)
-
-pub loop-q-preserved : goal.loop-q-preserved
-loop-q-preserved c = (omega arith, or_next _ 0 (omega arith) (omega arith) c.loop-q.invariant.1 c.number_in-union.ensures)
 
 pub returns : goal.returns
 returns c =
-    c.loop-q.invariant.1 ∙ ap (union_of c.args.sets.now) (le_antisymm c.loop-q.invariant.0 c.loop-q-test.false)
+    let set = λ (q : ℕ). get_or c.args.sets.now q 0 in
+    fold_from_yields_List _ (λ s q. bit_or s (set q)) 0 _ c.fold.ensures.ran (YieldsList-from_range 0 _ _ refl (sub-zero _)) (λ a x b q k. search rules)
+    ∙ or_fold set 0 c.args.n
