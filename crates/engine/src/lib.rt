@@ -5,7 +5,7 @@
 
 ghost use Rattle.std.specs.Prelude.{◌≡◌, ℕ, ◌+◌, ◌*◌, ◌%◌, ◌^◌, ◌<◌, ◌≤◌, true, false, List, length, slice_index};
 ghost use Rattle.sheet.specs.Layout.{layout_of};
-ghost use Rattle.sheet.specs.Inspection.{Of};
+ghost use Rattle.sheet.specs.Inspection.{words_required};
 ghost use Rattle.records.specs.Records.{ProgramTable};
 ghost use Rattle.kinds.specs.Programs.{final_by};
 ghost use Rattle.golog.specs.World.{after};
@@ -33,7 +33,7 @@ ghost use Rattle.engine.specs.Turns.{Turns};
 use ends::Totals;
 use golog::State;
 use records::Program;
-use sheet::Inspection;
+use sheet::Sheet;
 use state::{Evaluated, Possibility};
 use steps::{Setting, Turn};
 
@@ -94,14 +94,10 @@ fn initial(fluents: &[u8], n: usize) -> State
 }
 
 // The sheet's initial state.
-pub fn initial_of(s: &[u8], found: Inspection) -> State
-    requires { Of s.now found }
+pub fn initial_of(s: &Sheet) -> State
     ensures { result ≡ initial_of s.now }
 {
-    let l = found.layout;
-    let a = l.fluents;
-    let b = l.formulas;
-    initial(&s[a..b], l.f)
+    initial(s.fluents(), s.found().layout.f)
 }
 
 // The record that runs, of n records.
@@ -113,31 +109,25 @@ fn top_of(n: usize, interrupts: bool) -> usize
 }
 
 // Puts what runs at first, whatever the state, into frame 0 of a work area that is as long as required.
-pub fn put_first(work: &mut [u32], s: &[u8], found: Inspection)
-    requires { Of s.now found × (length work.old ≡ found.words) }
+pub fn put_first(work: &mut [u32], s: &Sheet)
+    requires { (length work.old ≡ words_required s.now) }
     ensures frame { Frame s.now (bound_of s.now) work.new 0 (first_of s.now).0 }
     ensures places { length work.new ≡ length work.old }
 {
-    let l = found.layout;
-    words::put_node(work, height::HEADER, 1, top_of(l.p, found.interrupts), 1);
+    let found = s.found();
+    let top = top_of(found.layout.p, found.interrupts);
+    words::put_node(work, height::HEADER, words::LEAF, top, 1);
 }
 
 // The actions that records perform and whose effects may contradict each other in some state.
-fn may_conflict_of(s: &[u8], found: Inspection) -> [u32; state::exclusion::LIST]
-    requires { Of s.now found }
+fn may_conflict_of(s: &Sheet) -> [u32; state::exclusion::LIST]
     ensures { ListsMayConflict s.now result }
 {
-    let l = found.layout;
-    let formulas = l.formulas;
-    let effects = l.effects;
-    let actions = l.actions;
-    let programs = l.programs;
-    let end = l.end;
-    let performed = leaves::performed(&s[programs..end], l.p);
+    let performed = leaves::performed(s.programs(), s.found().layout.p);
     let may_conflict = state::exclusion::may_conflict(
-        &s[formulas..effects],
-        &s[effects..actions],
-        &s[actions..programs],
+        s.formulas(),
+        s.effects(),
+        s.actions(),
         &performed,
     );
     state::exclusion::listed(&may_conflict)
@@ -145,18 +135,17 @@ fn may_conflict_of(s: &[u8], found: Inspection) -> [u32; state::exclusion::LIST]
 
 // Fills in once what depends on the sheet alone: which records may be final in some state, which depend on it, how far each is from its
 // end, and which actions' effects may contradict each other.
-pub fn prepare(flags: &mut [bool], numbers: &mut [u32], s: &[u8], found: Inspection)
-    requires { Of s.now found × (length flags.old ≡ flag_places) × (length numbers.old ≡ number_places) × ((i : ℕ) → slice_index numbers.old i ≡ 0) }
+pub fn prepare(flags: &mut [bool], numbers: &mut [u32], s: &Sheet)
+    requires { (length flags.old ≡ flag_places) × (length numbers.old ≡ number_places) × ((i : ℕ) → slice_index numbers.old i ≡ 0) }
     ensures { Prepared s.now flags.new numbers.new }
 {
-    let l = found.layout;
-    let a = l.programs;
-    let b = l.end;
-    let t = &s[a..b];
-    let endable = leaves::bounds(t, l.p, found.interrupts, true);
-    let skips = leaves::skips(t, l.p, found.interrupts, &endable);
-    let distances = leaves::distances(t, l.p, found.interrupts);
-    let listed = may_conflict_of(s, found);
+    let found = s.found();
+    let n = found.layout.p;
+    let programs = s.programs();
+    let endable = leaves::bounds(programs, n, found.interrupts, true);
+    let skips = leaves::skips(programs, n, found.interrupts, &endable);
+    let distances = leaves::distances(programs, n, found.interrupts);
+    let listed = may_conflict_of(s);
     flags[..leaves::RECORDS].copy_from_slice(&endable);
     numbers[..leaves::SKIPS].copy_from_slice(&skips);
     numbers[leaves::SKIPS..MAY_CONFLICT].copy_from_slice(&distances);
@@ -244,25 +233,22 @@ fn mark_finals(
 }
 
 // Fills in what the formulas say in a state, and which records are final, in the tables for depth d.
-pub fn judge(flags: &mut [bool], numbers: &[u32], s: &[u8], found: Inspection, st: State, d: usize)
-    requires { Of s.now found × Prepared s.now flags.old numbers.now }
+pub fn judge(flags: &mut [bool], numbers: &[u32], s: &Sheet, st: State, d: usize)
+    requires { Prepared s.now flags.old numbers.now }
     ensures tables { Judged s.now st d flags.new numbers.now }
     ensures written { Only (truths_from d) set_flags flags.old flags.new }
 {
+    let found = s.found();
     let l = found.layout;
-    let formulas = l.formulas;
-    let effects = l.effects;
-    let programs = l.programs;
-    let end = l.end;
     let from = flags_from(d);
     let to = from + sheet::MOST_FORMULAS;
-    state::fill_truths(&s[formulas..effects], l.q, st, &mut flags[from..to]);
+    state::fill_truths(s.formulas(), l.q, st, &mut flags[from..to]);
     // every record is as it may be, unless that depends on the state
     flags.copy_within(..leaves::RECORDS, to);
     mark_finals(
         flags,
         from,
-        &s[programs..end],
+        s.programs(),
         l.p,
         found.interrupts,
         &numbers[..leaves::SKIPS],
@@ -275,42 +261,34 @@ pub fn is_final(
     flags: &mut [bool],
     numbers: &[u32],
     work: &[u32],
-    s: &[u8],
-    found: Inspection,
+    s: &Sheet,
     st: State,
     d: usize,
 ) -> bool
-    requires of { Of s.now found × Prepared s.now flags.old numbers.now }
+    requires prepared { Prepared s.now flags.old numbers.now }
     requires by_index { (left : ℕ) × (p : Prog) × Frame s.now left work.now d p }
     ensures answer { (left : ℕ) (p : Prog) → Frame s.now left work.now d p → result ≡ is_final s.now (p, st) }
     ensures tables { Prepared s.now flags.new numbers.now }
     ensures written { Filled d d flags.old flags.new numbers.now numbers.now }
 {
-    judge(flags, numbers, s, found, st, d);
-    ends::final_rest(finals_at(flags, d), work, d * found.frame + height::HEADER)
+    judge(flags, numbers, s, st, d);
+    let at = d * s.found().frame + height::HEADER;
+    ends::final_rest(finals_at(flags, d), work, at)
 }
 
 // What each formula of the sheet names: made once, since it does not depend on the state.
-pub fn formula_sets(s: &[u8], found: Inspection) -> [u32; named::FORMULAS]
-    requires { Of s.now found }
+pub fn formula_sets(s: &Sheet) -> [u32; named::FORMULAS]
     ensures { FormulasNamed s.now result }
 {
-    let l = found.layout;
-    let start = l.formulas;
-    let end = l.effects;
-    named::sets_of(&s[start..end], l.q)
+    named::sets_of(s.formulas(), s.found().layout.q)
 }
 
 // What the precondition of each action and the conditions of its effects name, where `sets` has what each formula does.
-pub fn action_sets(s: &[u8], found: Inspection, sets: &[u32]) -> [u32; named::ACTIONS]
-    requires { Of s.now found × FormulasNamed s.now sets.now }
+pub fn action_sets(s: &Sheet, sets: &[u32]) -> [u32; named::ACTIONS]
+    requires { FormulasNamed s.now sets.now }
     ensures { ActionsNamed s.now result }
 {
-    let l = found.layout;
-    let effects = l.effects;
-    let actions = l.actions;
-    let programs = l.programs;
-    named::action_sets(&s[effects..actions], &s[actions..programs], l.a, sets)
+    named::action_sets(s.effects(), s.actions(), s.found().layout.a, sets)
 }
 
 // Evaluates formula q in the state that was judged at depth d, where `sets` has what each formula names.
@@ -324,92 +302,63 @@ pub fn evaluate(flags: &[bool], sets: &[u32], d: usize, q: usize) -> Evaluated
 // Whether action a is in conflict, by the truths for depth d, and no other.
 fn only_conflicted(
     flags: &[bool],
-    s: &[u8],
-    found: Inspection,
+    s: &Sheet,
     d: usize,
     a: usize,
 ) -> [bool; state::conflicts::ACTIONS]
-    requires { Of s.now found × (length flags.now ≡ flag_places) × (a < found.layout.a) }
+    requires { (length flags.now ≡ flag_places) × (a < (layout_of s.now).a) }
     ensures { ConflictOf s.now (truths_at d flags.now) a result }
 {
-    let l = found.layout;
-    let effects = l.effects;
-    let actions = l.actions;
-    let programs = l.programs;
-    let r = records::action_at(&s[actions..programs], a);
+    let r = records::action_at(s.actions(), a);
     let mut conflicted = [false; state::conflicts::ACTIONS];
-    conflicted[a] = state::conflicts::is_in_conflict(&s[effects..actions], r, truths_at(flags, d));
+    conflicted[a] = state::conflicts::is_in_conflict(s.effects(), r, truths_at(flags, d));
     conflicted
 }
 
 // A possible-check of action a in the state that was judged at depth d, where `sets` has what each action names.
-pub fn possible_check(
-    flags: &[bool],
-    sets: &[u32],
-    s: &[u8],
-    found: Inspection,
-    d: usize,
-    a: usize,
-) -> Possibility
-    requires { Of s.now found × (length flags.now ≡ flag_places) × (a < found.layout.a) }
+pub fn possible_check(flags: &[bool], sets: &[u32], s: &Sheet, d: usize, a: usize) -> Possibility
+    requires { (length flags.now ≡ flag_places) × (a < (layout_of s.now).a) }
     ensures { (numbers : List ℕ) (st : State) → Judged s.now st d flags.now numbers → ActionsNamed s.now sets.now
         → result ≡ possibility s.now st a }
 {
-    let l = found.layout;
-    let actions = l.actions;
-    let programs = l.programs;
-    let conflicted = only_conflicted(flags, s, found, d, a);
-    state::possible_check(
-        &s[actions..programs],
-        truths_at(flags, d),
-        &conflicted,
-        sets,
-        a,
-    )
+    let conflicted = only_conflicted(flags, s, d, a);
+    state::possible_check(s.actions(), truths_at(flags, d), &conflicted, sets, a)
 }
 
 // Which of the listed actions are in conflict, by the truths for depth d.
 fn conflicted_at(
     flags: &[bool],
     numbers: &[u32],
-    s: &[u8],
-    found: Inspection,
+    s: &Sheet,
     d: usize,
 ) -> [bool; state::conflicts::ACTIONS]
-    requires { Of s.now found × Prepared s.now flags.now numbers.now }
+    requires { Prepared s.now flags.now numbers.now }
     ensures { ConflictedAt s.now d flags.now numbers.now result }
 {
-    let l = found.layout;
-    let effects = l.effects;
-    let actions = l.actions;
-    let programs = l.programs;
     state::conflicts::in_conflict(
-        &s[effects..actions],
-        &s[actions..programs],
+        s.effects(),
+        s.actions(),
         &numbers[MAY_CONFLICT..COUNTS],
         truths_at(flags, d),
     )
 }
 
 // Fills in how many transitions each record has in a state, in the tables for depth d.
-fn tally(numbers: &mut [u32], flags: &[bool], s: &[u8], found: Inspection, st: State, d: usize)
-    requires { Of s.now found × Judged s.now st d flags.now numbers.old }
+fn tally(numbers: &mut [u32], flags: &[bool], s: &Sheet, st: State, d: usize)
+    requires { Judged s.now st d flags.now numbers.old }
     ensures tables { Surveyed s.now st d flags.now numbers.new }
     ensures written { Only (counts_from d) most_records numbers.old numbers.new }
 {
-    let l = found.layout;
-    let actions = l.actions;
-    let programs = l.programs;
-    let end = l.end;
+    let found = s.found();
     let first = counts_from(d);
     let last = first + leaves::RECORDS;
-    let conflicted = conflicted_at(flags, numbers, s, found, d);
+    let conflicted = conflicted_at(flags, numbers, s, d);
     leaves::tallies(
         &mut numbers[first..last],
-        &s[programs..end],
-        l.p,
+        s.programs(),
+        found.layout.p,
         found.interrupts,
-        &s[actions..programs],
+        s.actions(),
         truths_at(flags, d),
         &conflicted,
         st.running,
@@ -452,21 +401,21 @@ pub fn survey(
     flags: &mut [bool],
     numbers: &mut [u32],
     work: &[u32],
-    s: &[u8],
-    found: Inspection,
+    s: &Sheet,
     st: State,
     d: usize,
 ) -> Findings
-    requires of { Of s.now found × Prepared s.now flags.old numbers.old }
+    requires prepared { Prepared s.now flags.old numbers.old }
     requires by_index { (left : ℕ) × (p : Prog) × Frame s.now left work.now d p }
     ensures answer { (left : ℕ) (p : Prog) → Frame s.now left work.now d p → Tells s.now (p, st) result }
     ensures tables { Surveyed s.now st d flags.new numbers.new }
     ensures written { Filled d d flags.old flags.new numbers.old numbers.new }
 {
-    judge(flags, numbers, s, found, st, d);
-    tally(numbers, flags, s, found, st, d);
+    judge(flags, numbers, s, st, d);
+    tally(numbers, flags, s, st, d);
     count_survey(numbers);
-    let totals = total(flags, numbers, work, d, d * found.frame + height::HEADER);
+    let at = d * s.found().frame + height::HEADER;
+    let totals = total(flags, numbers, work, d, at);
     Findings {
         done: totals.done,
         soon: totals.soon,
@@ -478,26 +427,16 @@ pub fn survey(
 }
 
 // The state after a transition, where `truths` has what the formulas say in the state before it.
-fn state_after(s: &[u8], found: Inspection, truths: &[bool], entry: u32, st: State) -> State
-    requires of { Of s.now found × AreTruths (world_of s.now) st (layout_of s.now).q truths.now }
+fn state_after(s: &Sheet, truths: &[bool], entry: u32, st: State) -> State
+    requires truths { AreTruths (world_of s.now) st (layout_of s.now).q truths.now }
     requires known { Known (IsAction s.now) (move_of entry) }
     ensures { result ≡ after (world_of s.now) (move_of entry) st }
 {
     if entry == steps::TEST {
         return st;
     }
-    let l = found.layout;
-    let effects = l.effects;
-    let actions = l.actions;
-    let programs = l.programs;
-    state::perform(
-        &s[effects..actions],
-        &s[actions..programs],
-        l.f,
-        truths,
-        entry as usize,
-        st,
-    )
+    let n = s.found().layout.f;
+    state::perform(s.effects(), s.actions(), n, truths, entry as usize, st)
 }
 
 // Whether nothing is ahead of a cursor.
@@ -513,26 +452,23 @@ fn lay_next(
     work: &mut [u32],
     flags: &[bool],
     numbers: &[u32],
-    s: &[u8],
-    found: Inspection,
+    s: &Sheet,
     st: State,
     d: usize,
     k: Cursor,
 ) -> Turn
-    requires { Of s.now found × Surveyed s.now st d flags.now numbers.now × CanGoOn s.now st work.old d k }
+    requires { Surveyed s.now st d flags.now numbers.now × CanGoOn s.now st work.old d k }
     ensures { Turns s.now st d k work.old work.new result }
 {
-    let l = found.layout;
-    let programs = l.programs;
-    let end = l.end;
+    let found = s.found();
     let v = Setting {
-        n: l.p,
+        n: found.layout.p,
         interrupts: found.interrupts,
         running: st.running,
     };
     let at = d * found.frame + height::HEADER;
     steps::step_rest(
-        &s[programs..end],
+        s.programs(),
         v,
         truths_at(flags, d),
         finals_at(flags, d),
@@ -549,23 +485,22 @@ pub fn next(
     work: &mut [u32],
     flags: &[bool],
     numbers: &[u32],
-    s: &[u8],
-    found: Inspection,
+    s: &Sheet,
     st: State,
     d: usize,
     k: Cursor,
 ) -> Option<Taken>
-    requires { Of s.now found × Surveyed s.now st d flags.now numbers.now × CanGoOn s.now st work.old d k }
+    requires { Surveyed s.now st d flags.now numbers.now × CanGoOn s.now st work.old d k }
     ensures { GoesOn s.now st d k work.old work.new result }
 {
     if k.end <= k.next {
         return None;
     }
-    let turn = lay_next(work, flags, numbers, s, found, st, d, k);
+    let turn = lay_next(work, flags, numbers, s, st, d, k);
     let Turn::Made { entry, size: _ } = turn else {
         return None;
     };
-    let state = state_after(s, found, truths_at(flags, d), entry, st);
+    let state = state_after(s, truths_at(flags, d), entry, st);
     Some(Taken {
         entry,
         state,

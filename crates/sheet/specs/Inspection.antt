@@ -30,6 +30,10 @@ inspected_in s l (Err why) = Err why
 abbrev pub inspect_of : List ℕ → Result Inspection Refusal
 inspect_of s = inspected_in s (layout_of s) (check_of s)
 
+-- the words of work that an accepted sheet asks for
+abbrev pub words_required : List ℕ → ℕ
+words_required s = (inspection_in s (layout_of s)).words
+
 -- it was found of the sheet s, which is accepted
 pub record Of (s : List ℕ) (i : Inspection) : Type 0 where
   pub accepted : Accepts s
