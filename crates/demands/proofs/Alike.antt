@@ -4,11 +4,10 @@ use mathlib.Core.Path.{◌≡◌, refl, ◌∙◌, ap}
 use mathlib.Core.List.{List}
 use Prim.Native.Nat.{ℕ}
 use Rattle.sheet.specs.Layout.{layout_of}
-use Rattle.sheet.specs.Check.{check_of}
-use Rattle.sheet.specs.declared.Checked.{Checked}
-use Rattle.sheet.specs.declared.Checked.TheVariants.{Accepted, Refused}
+use Rattle.sheet.specs.Check.{check_of, Checked}
 use Rattle.demands.specs.Decoded.{bound_of}
 use Rattle.demands.specs.Planning.{verdict_of, accepts_of, answer, planned_from, plan_of, replied, replayed_from, replay_of}
+use Rattle.std.specs.Prelude.{Ok, Err}
 
 pub record AnsweredAlike (s s' : List ℕ) : Type 0 where
   pub check : check_of s' ≡ check_of s
@@ -19,12 +18,12 @@ pub record AnsweredAlike (s s' : List ℕ) : Type 0 where
 
 module _ {s s' : List ℕ} (same : AnsweredAlike s s') where
   planned_same : (c : Checked) → planned_from s' c ≡ planned_from s c
-  planned_same (Accepted w u) = ap answer same.verdict
-  planned_same (Refused why) = refl
+  planned_same (Ok a) = ap answer same.verdict
+  planned_same (Err why) = refl
 
   replayed_same : (h : List ℕ) (c : Checked) → replayed_from s' h c ≡ replayed_from s h c
-  replayed_same h (Accepted w u) = ap replied (same.accepted h)
-  replayed_same h (Refused why) = refl
+  replayed_same h (Ok a) = ap replied (same.accepted h)
+  replayed_same h (Err why) = refl
 
   -- the same plan, or the same number and place
   pub plan_same : plan_of s' ≡ plan_of s

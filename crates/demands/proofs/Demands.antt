@@ -25,13 +25,11 @@ use Rattle.runs.proofs.Guided.{accepts_iff}
 use Rattle.golog.specs.World.{World}
 use Rattle.golog.specs.Transitions.{Configuration}
 use Rattle.golog.proofs.Exact.{steps_exact, final_exact}
-use Rattle.sheet.specs.Check.{Accepts, check_of}
-use Rattle.sheet.specs.declared.Checked.TheVariants.{Accepted}
+use Rattle.sheet.specs.Check.{Accepts, check_of, accepted_with}
 use Rattle.sheet.proofs.Accepted.{trailed}
 use Rattle.demands.specs.Decoded.{world_of, first_of, bound_of, levels_of}
 use Rattle.demands.specs.Planning.{Goes, Ends, transitions_in, is_final_in, RunEndsFinal, HistoryOfRun, NoPlanAtAll, NoPlanWithinBound, NoRunEndsFinal, RunOf, FirstPlan}
-use Rattle.demands.specs.Planning.{refused_by}
-use Rattle.demands.specs.Planning.{verdict_of, accepts_of, PlanAnswer, found, answer, planned_from, plan_of, ReplayAnswer, replied, replayed_from, replay_of}
+use Rattle.demands.specs.Planning.{refused_by, verdict_of, accepts_of, PlanAnswer, found, answer, planned_from, plan_of, ReplayAnswer, replied, replayed_from, replay_of}
 use Rattle.demands.specs.Raised.{SameButBound, with_bound}
 use Rattle.demands.proofs.Tables.{all_same, first_same}
 use Rattle.demands.proofs.Raised.{tables_same, accepted_too, bound_alone, bound_put}
@@ -216,10 +214,10 @@ module _ (s : List ℕ) (accepted : Accepts s) (d : ℕ) where
   raised_alone = let long = (trailed s accepted).long in (bound_alone s long d, bound_put s long d)
 
   -- "D 0–64": it is accepted too, with the figure for d
-  pub raised_accepted : d ≤ 64 → check_of (with_bound s d) ≡ Accepted (work_words (levels_of s) d) accepted.1
+  pub raised_accepted : d ≤ 64 → check_of (with_bound s d) ≡ accepted_with (work_words (levels_of s) d) accepted.1
   raised_accepted small =
       let e = raised_alone.1 in
-      accepted_too s (with_bound s d) accepted raised_alone.0 (omega arith) ∙ ap (λ (b : ℕ). Accepted (work_words (levels_of s) b) accepted.1) e
+      accepted_too s (with_bound s d) accepted raised_alone.0 (omega arith) ∙ ap (λ (b : ℕ). accepted_with (work_words (levels_of s) b) accepted.1) e
 
   module _ (raised : bound_of s ≤ d) (small : d ≤ 64) where
     higher : bound_of s ≤ bound_of (with_bound s d)

@@ -10,8 +10,7 @@ use Rattle.records.specs.Bytes.{part, le16}
 use Rattle.height.specs.Work.{work_words}
 use Rattle.sheet.specs.Trailer.{trailer_in, trailer_of}
 use Rattle.sheet.specs.Layout.{layout_in, layout_of, fluents_in}
-use Rattle.sheet.specs.Check.{Accepts, check_of}
-use Rattle.sheet.specs.declared.Checked.TheVariants.{Accepted}
+use Rattle.sheet.specs.Check.{Accepts, check_of, accepted_with}
 use Rattle.sheet.proofs.Accepted.{trailed, trailed_checked, laid}
 use Rattle.sheet.proofs.Parts.{part_byte, byte_same, part_same}
 use Rattle.sheet.proofs.Tables.{SameTables, sizes_same, figured, figure_of, checked_alike}
@@ -79,7 +78,7 @@ module _ (s s' : List ℕ) (accepted : Accepts s) (but : SameButBound s s') wher
       }
 
   -- and the sheet is accepted, with the figure for its bound and the same union
-  pub accepted_too : bound_of s' ≤ 64 → check_of s' ≡ Accepted (work_words (levels_of s) (bound_of s')) accepted.1
+  pub accepted_too : bound_of s' ≤ 64 → check_of s' ≡ accepted_with (work_words (levels_of s) (bound_of s')) accepted.1
   accepted_too small =
       trailed_checked s' (trailed_too s s' but.len (bound_of s') trailer accepted small)
       ∙ checked_alike (sizes_same tables_same)

@@ -5,8 +5,7 @@ use Rattle.std.specs.Prelude.{ℕ, zero, suc, ◌+◌, ◌*◌, true, false, ◌
 use mathlib.Core.List.{List, [], ◌∷◌, ◌++◌, flatten}
 use Rattle.records.specs.Records.{formula_at, effect_at, action_at}
 use Rattle.named.specs.Named.{formula_set, action_set}
-use Rattle.sheet.specs.Check.{refused, check_of}
-use Rattle.sheet.specs.declared.Checked.TheVariants.{Accepted}
+use Rattle.sheet.specs.Check.{refused, check_of, accepted_with}
 use Rattle.demands.specs.Planning.{refused_by, found, replied, plan_of, replay_of}
 
 -- each proposition of a list holds
@@ -153,7 +152,7 @@ rows =
     -- 2 "act 1, D 5: 13"
     ∷ (plan_of (sheet_of 5 (act 1 ∷ [])) ≡ refused_by 13)
     -- 3 "star(act 0); act 1, D 2: found 2 2, history 0 1"; "work 273"
-    ∷ ((plan_of case3 ≡ found (0 ∷ 1 ∷ []) 2) × (check_of case3 ≡ Accepted 273 3))
+    ∷ ((plan_of case3 ≡ found (0 ∷ 1 ∷ []) 2) × (check_of case3 ≡ accepted_with 273 3))
     -- 4 "The same, D 1: 14"
     ∷ (plan_of (sheet_of 1 star_then_act) ≡ refused_by 14)
     -- 5 "test 3, D 0: 14; D 1: found 0 1"
@@ -296,9 +295,9 @@ named =
     -- "the union for its precondition and its effects' conditions": under true fluent 0, under formula 4, which need not hold, fluent 1
     ∷ ((set_with [] ≡ 4) × (set_with (effect_if 0 0 1 ∷ []) ≡ 4) × (set_with (effect_if 0 0 1 ∷ effect_if 4 1 1 ∷ []) ≡ 13))
     -- "the union over its formula table"
-    ∷ ((check_of (sheet (replicate 4 (3 ∷ 0 ∷ [])) every [] [] (nil ∷ []) 0) ≡ Accepted 67 13) × (check_of (sheet_beside 0 2 star_then_act) ≡ Accepted 273 3))
+    ∷ ((check_of (sheet (replicate 4 (3 ∷ 0 ∷ [])) every [] [] (nil ∷ []) 0) ≡ accepted_with 67 13) × (check_of (sheet_beside 0 2 star_then_act) ≡ accepted_with 273 3))
     -- another initial value of a fluent outside it: the same
-    ∷ ((check_of (sheet_beside 2 2 star_then_act) ≡ Accepted 273 3)
+    ∷ ((check_of (sheet_beside 2 2 star_then_act) ≡ accepted_with 273 3)
     × (plan_of (sheet_beside 0 2 star_then_act) ≡ found (0 ∷ 1 ∷ []) 2)
     × (plan_of (sheet_beside 2 2 star_then_act) ≡ found (0 ∷ 1 ∷ []) 2)
     × (replay_of (sheet_beside 0 2 star_then_act) (1 ∷ []) ≡ replied false)
@@ -321,9 +320,9 @@ stars (suc h) = stars h ++ (star h ∷ [])
 abbrev pub edges : List (Type 0)
 edges =
     -- "33 fluents 2, 32 pass"
-    ((check_of (fluents_sheet 33) ≡ refused 2 0) × (check_of (fluents_sheet 32) ≡ Accepted 67 0))
+    ((check_of (fluents_sheet 33) ≡ refused 2 0) × (check_of (fluents_sheet 32) ≡ accepted_with 67 0))
     -- "D 65 gives 2, 64 passes"
-    ∷ ((check_of (sheet_of 65 (nil ∷ [])) ≡ refused 2 0) × (check_of (sheet_of 64 (nil ∷ [])) ≡ Accepted 4355 3))
+    ∷ ((check_of (sheet_of 65 (nil ∷ [])) ≡ refused 2 0) × (check_of (sheet_of 64 (nil ∷ [])) ≡ accepted_with 4355 3))
     -- "height 17 gives 9, 16 passes"
-    ∷ ((check_of (sheet_of 1 (stars 17)) ≡ refused 9 0) × (check_of (sheet_of 1 (stars 16)) ≡ Accepted 326 3))
+    ∷ ((check_of (sheet_of 1 (stars 17)) ≡ refused 9 0) × (check_of (sheet_of 1 (stars 16)) ≡ accepted_with 326 3))
     ∷ []

@@ -1,6 +1,6 @@
 -- To be believed: what the demands say of a sheet's runs. And planning and replay on bytes, computed: the sheet is checked, then searched;
 -- that they answer by those runs is proved in proofs/Demands.antt. Assumes nothing.
-use Rattle.std.specs.Prelude.{ℕ, Bool, List}
+use Rattle.std.specs.Prelude.{ℕ, Bool, List, Ok, Err}
 use Rattle.std.proofs.Math.Option.{Option}
 use Rattle.golog.specs.World.{World}
 use Rattle.golog.specs.Transitions.{Configuration, final, transitions}
@@ -10,10 +10,8 @@ use Rattle.runs.specs.Search.{Verdict, plan, nothing, more}
 use Rattle.runs.specs.First.{IsFirst}
 use Rattle.runs.specs.Earliest.{first_plan}
 use Rattle.runs.specs.Guide.{accepts}
-use Rattle.sheet.specs.Check.{refusal_of, check_of}
+use Rattle.sheet.specs.Check.{refusal_of, check_of, Checked}
 use Rattle.sheet.specs.declared.Refusal.{Refusal}
-use Rattle.sheet.specs.declared.Checked.{Checked}
-use Rattle.sheet.specs.declared.Checked.TheVariants.{Accepted, Refused}
 use Rattle.demands.specs.Decoded.{world_of, first_of, bound_of}
 
 -- the paper's relation between configurations, and which are final
@@ -82,8 +80,8 @@ answer nothing = refused_by 13
 answer more = refused_by 14
 
 abbrev pub planned_from : List ℕ → Checked → PlanAnswer
-planned_from s (Accepted w u) = answer (verdict_of s)
-planned_from s (Refused why) = refused why
+planned_from s (Ok a) = answer (verdict_of s)
+planned_from s (Err why) = refused why
 
 unfoldable pub plan_of : List ℕ → PlanAnswer
 plan_of s = planned_from s (check_of s)
@@ -94,8 +92,8 @@ pub data ReplayAnswer : Type 0 where
   refused : (why : Refusal) → ReplayAnswer
 
 abbrev pub replayed_from : List ℕ → List ℕ → Checked → ReplayAnswer
-replayed_from s h (Accepted w u) = replied (accepts_of s h)
-replayed_from s h (Refused why) = refused why
+replayed_from s h (Ok a) = replied (accepts_of s h)
+replayed_from s h (Err why) = refused why
 
 unfoldable pub replay_of : List ℕ → List ℕ → ReplayAnswer
 replay_of s h = replayed_from s h (check_of s)

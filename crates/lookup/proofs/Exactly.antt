@@ -9,31 +9,28 @@ use native.Mathlib.Omega.{arith}
 use borrow.Author.Tests.{ltb-false, le-ltb}
 use lib.Dec.{ltb}
 use Rattle.sheet.specs.Layout.{layout_of}
-use Rattle.sheet.specs.Check.{check_of, number_of, place_of}
+use Rattle.sheet.specs.Check.{check_of, number_of, place_of, Checked, accepted_with}
 use Rattle.sheet.specs.Causes.{Cause, First}
 use Rattle.sheet.proofs.Rising.{By, wider, sooner}
 use Rattle.sheet.proofs.Exactly.{answered_by}
 use Rattle.sheet.proofs.Numbers.{Numbered, numbered, caused}
 use Rattle.sheet.proofs.Called.{number_exactly, no_number_exactly}
-use Rattle.sheet.specs.declared.Checked.{Checked}
-use Rattle.sheet.specs.declared.Checked.TheVariants as checked
-use Rattle.lookup.specs.LookUp.{looked_in, looked_up, look_of, look_number, look_place}
+use Rattle.lookup.specs.LookUp.{Looked, looked_in, looked_up, look_of, look_number, look_place}
 use Rattle.lookup.specs.Causes.{LookCause}
-use Rattle.lookup.specs.declared.Looked.{Looked}
-use Rattle.lookup.specs.declared.Looked.TheVariants as looked
+use Rattle.std.specs.Prelude.{Ok, Err}
 
 -- the answer by its number and place alone
 abbrev seen : Looked → Checked
-seen (looked.Found m i) = checked.Accepted 0 0
-seen (looked.Refused why) = checked.Refused why
+seen (Ok r) = accepted_with 0 0
+seen (Err why) = Err why
 
 seen_number : (a : Looked) → look_number a ≡ number_of (seen a)
-seen_number (looked.Found m i) = refl
-seen_number (looked.Refused why) = refl
+seen_number (Ok r) = refl
+seen_number (Err why) = refl
 
 seen_place : (a : Looked) → look_place a ≡ place_of (seen a)
-seen_place (looked.Found m i) = refl
-seen_place (looked.Refused why) = refl
+seen_place (Ok r) = refl
+seen_place (Err why) = refl
 
 module _ (s : List ℕ) (x : ℕ) where
   beyond : (ltb x (layout_of s).f ≡ false) ↔ ((layout_of s).f ≤ x)
@@ -43,11 +40,11 @@ module _ (s : List ℕ) (x : ℕ) where
   Twelve k p = (k ≡ 12) × (p ≡ 0) × ((layout_of s).f ≤ x)
 
   -- 12, where the check accepts, whatever table the fluent is looked up in
-  own_answered : (figure union : ℕ) → By Twelve (seen (looked_up s x (checked.Accepted figure union)))
+  own_answered : (figure union : ℕ) → By Twelve (seen (looked_up s x (accepted_with figure union)))
   unfolding looked_in
   own_answered figure union = go (ltb x (layout_of s).f) refl
     where
-      go : (b : Bool) → ltb x (layout_of s).f ≡ b → By Twelve (seen (looked_up s x (checked.Accepted figure union)))
+      go : (b : Bool) → ltb x (layout_of s).f ≡ b → By Twelve (seen (looked_up s x (accepted_with figure union)))
       go true e = rw (e, looked_in) (λ k p (a, b, l). false≢true (sym (beyond.1 l) ∙ e))
       go false e = rw (e, looked_in) ((refl, refl, beyond.0 e), λ j q l c. omega (arith, c.0), λ q c. c.1)
 
@@ -56,8 +53,8 @@ module _ (s : List ℕ) (x : ℕ) where
   look_answered = go (check_of s) (answered_by s) (numbered s)
     where
       go : (c : Checked) → By (Cause s) c → Numbered c → By (LookCause s x) (seen (looked_up s x c))
-      go (checked.Accepted w u) none n = wider (Cause s) Twelve none (seen (looked_up s x (checked.Accepted w u))) (own_answered w u)
-      go (checked.Refused r) by n = sooner (Cause s) Twelve 9 r.number r.place n.1 (λ j q c. omega (arith, c.0)) by
+      go (Ok a) none n = wider (Cause s) Twelve none (seen (looked_up s x (accepted_with a.words a.names))) (own_answered a.words a.names)
+      go (Err r) by n = sooner (Cause s) Twelve 9 r.number r.place n.1 (λ j q c. omega (arith, c.0)) by
 
   some : (k p : ℕ) → LookCause s x k p → 1 ≤ k
   some k p = ⊎_elim (λ c. (caused s k p c).0) (λ c. omega (arith, c.0))

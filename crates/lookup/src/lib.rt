@@ -4,31 +4,18 @@
 ghost use Rattle.std.specs.Prelude.{◌≡◌, ◌*◌, ◌≤◌, length};
 ghost use Rattle.lookup.specs.LookUp.{looked_in};
 
-use sheet::Refusal;
-
-// What a look-up answers: a fluent's domain size and initial value, or why there is none.
-#[derive(Clone, Copy)]
-pub enum Looked {
-    Found { size: usize, initial: usize },
-    Refused { why: Refusal },
-}
+use records::Fluent;
+use sheet::{Cause, Refusal};
 
 // Fluent x of a table of n.
-pub fn look_in(fluents: &[u8], n: usize, x: usize) -> Looked
+#[tactic(auto, unfolding(crate::specs::LookUp::looked_in))]
+pub fn look_in(fluents: &[u8], n: usize, x: usize) -> Result<Fluent, Refusal>
     requires { 2 * n ≤ length fluents.now }
     ensures { result ≡ looked_in fluents.now n x }
 {
     if x < n {
-        let r = records::fluent_at(fluents, x);
-        return Looked::Found {
-            size: r.size,
-            initial: r.initial,
-        };
-    }
-    Looked::Refused {
-        why: Refusal {
-            number: 12,
-            place: 0,
-        },
+        Ok(records::fluent_at(fluents, x))
+    } else {
+        Err(Refusal::from(Cause::NoFluent))
     }
 }
