@@ -12,3 +12,4 @@ pub mod Going
 pub mod Telling
 pub mod Made
 pub mod Named
+pub mod Opened

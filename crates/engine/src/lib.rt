@@ -5,6 +5,7 @@
 
 ghost use Rattle.std.specs.Prelude.{◌≡◌, ℕ, ◌+◌, ◌*◌, ◌%◌, ◌^◌, ◌<◌, ◌≤◌, true, false, List, length, slice_index};
 ghost use Rattle.sheet.specs.Layout.{layout_of};
+ghost use Rattle.sheet.specs.Check.{Accepts};
 ghost use Rattle.sheet.specs.Inspection.{words_required};
 ghost use Rattle.records.specs.Records.{ProgramTable};
 ghost use Rattle.kinds.specs.Programs.{final_by};
@@ -458,7 +459,8 @@ fn lay_next(
     k: Cursor,
 ) -> Turn
     requires { Surveyed s.now st d flags.now numbers.now × CanGoOn s.now st work.old d k }
-    ensures { Turns s.now st d k work.old work.new result }
+    ensures turns { Turns s.now st d k work.old work.new result }
+    ensures accepted { Accepts s.now }
 {
     let found = s.found();
     let v = Setting {

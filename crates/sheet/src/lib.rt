@@ -403,10 +403,11 @@ impl<'a> Sheet<'a> {
         &self.bytes[l.effects..l.actions]
     }
 
-    #[tactic(auto, using(crate::proofs::Found::ordered, crate::proofs::Found::actions_from))]
+    #[tactic(auto, using(crate::proofs::Found::ordered, crate::proofs::Found::actions_from, crate::proofs::Found::accepted_from))]
     pub fn actions(&self) -> &'a [u8]
         ensures table { result.now ≡ actions_in self.now (layout_of self.now) }
         ensures long { 6 * (layout_of self.now).a ≤ length result.now }
+        ensures accepted { Accepts self.now }
     {
         let l = self.found.layout;
         &self.bytes[l.actions..l.programs]

@@ -1,23 +1,22 @@
 -- The sets are those of the sheet's formulas, by the law of Named. Assumes nothing.
-use Rattle.std.proofs.Common.{arith}
-use Rattle.sheet.proofs.Parts.{in_order, formulas_long}
+use Rattle.std.proofs.Common.{ap, arith}
+use Rattle.sheet.specs.Layout.{formulas_in}
+use Rattle.sheet.specs.declared.Layout.{Layout}
 use Rattle.sheet.proofs.Found.{in_sheet}
 use Rattle.engine.proofs.Named.{formulas_lower, formulas_named}
+use Rattle.engine.proofs.Opened.{of_layout}
 use Rattle.engine.proofs.formula_sets.Goals as goal
-
-pub slice_bounds-sets_of-count : goal.slice_bounds-sets_of-count
-slice_bounds-sets_of-count c = (in_order (in_sheet c.requires)).formulas
-
-pub slice_bounds-sets_of-start : goal.slice_bounds-sets_of-start
-slice_bounds-sets_of-start c = let o = in_order (in_sheet c.requires) in omega arith
-
-pub slice_bounds-sets_of-end : goal.slice_bounds-sets_of-end
-slice_bounds-sets_of-end c = let o = in_order (in_sheet c.requires) in omega arith
 
 pub sets_of-requires : goal.sets_of-requires
 sets_of-requires c =
-    let O = c.requires in
-    (formulas_long _ _ (in_sheet O), (in_sheet O).q, formulas_lower O)
+    let O = c.found.ensures.of in
+    let s = c.args.s.now in
+    let e = ap (λ (l : Layout). l.q) O.layout_is in
+    let low = formulas_lower O in
+    (omega (arith, e, c.formulas.ensures.long), (in_sheet O).q, rw (of_layout O (λ (l : Layout). formulas_in s l) c.formulas.ensures.table) low)
 
 pub returns : goal.returns
-returns c = formulas_named c.requires c.sets_of.ensures
+returns c =
+    let O = c.found.ensures.of in
+    let s = c.args.s.now in
+    formulas_named O (rw (of_layout O (λ (l : Layout). formulas_in s l) c.formulas.ensures.table) at c.sets_of.ensures)

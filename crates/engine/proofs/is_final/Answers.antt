@@ -9,22 +9,22 @@ use Rattle.engine.proofs.Windows.{only_same}
 use Rattle.engine.proofs.Telling.{final_told}
 use Rattle.engine.proofs.is_final.Goals as goal
 
-pub overflow_mul-d : goal.overflow_mul-d
-overflow_mul-d c =
-    omega (arith, frame_by c.requires.of.0 c.args.d, c.requires.by_index.2.roomy.inside, c.requires.by_index.2.roomy.small)
+pub overflow_mul-at : goal.overflow_mul-at
+overflow_mul-at c =
+    omega (arith, frame_by c.found.ensures.of c.args.d, c.requires.by_index.2.roomy.inside, c.requires.by_index.2.roomy.small)
 
-pub overflow_add-d : goal.overflow_add-d
-overflow_add-d c =
-    omega (arith, frame_by c.requires.of.0 c.args.d, c.requires.by_index.2.roomy.inside, c.requires.by_index.2.roomy.small)
+pub overflow_add-at : goal.overflow_add-at
+overflow_add-at c =
+    omega (arith, frame_by c.found.ensures.of c.args.d, c.requires.by_index.2.roomy.inside, c.requires.by_index.2.roomy.small)
 
 pub final_rest-requires : goal.final_rest-requires
 final_rest-requires c =
-    subst (λ (o : ℕ). Stands c.args.work.now (o + header)) (sym (frame_by c.requires.of.0 c.args.d)) (frame_holds c.requires.by_index.2)
+    subst (λ (o : ℕ). Stands c.args.work.now (o + header)) (sym (frame_by c.found.ensures.of c.args.d)) (frame_holds c.requires.by_index.2)
 
 pub returns-clause-answer : goal.returns-clause-answer
 returns-clause-answer c =
-    let O = c.requires.of.0 in
-    let P = c.requires.of.1 in
+    let O = c.found.ensures.of in
+    let P = c.requires.prepared in
     let d = c.args.d in
     let J = c.judge.ensures.tables in
     λ left p F. c.final_rest.ensures F.rest (subst (λ (o : ℕ). At F.rest c.args.work.now (o + header)) (sym (frame_by O d)) F.words_are)
@@ -38,7 +38,7 @@ returns-clause-tables c =
 
 pub returns-clause-written : goal.returns-clause-written
 returns-clause-written c =
-    let P = c.requires.of.1 in
+    let P = c.requires.prepared in
     let d = c.args.d in
     let n = c.judge.auto.flags in
     filled d P.flags_long P.numbers_long c.judge.ensures.written n (only_same _) refl

@@ -1,59 +1,43 @@
 -- Truths first, then the records that may be final, then those in doubt: the tables are those of the state. Assumes nothing.
 use Rattle.std.proofs.Common.{◌≡◌, ℕ, ◌+◌, ◌-◌, ◌≤◌, Bool, true, List, length, get_or, sym, refl, ap, ◌∙◌, subst, subst₂, arith, length-take-le}
 use borrow.Rule.Slice.PartMut.{put_mid, same_len_mid}
-use Rattle.kinds.specs.Formulas.{LowerFormulas}
-use Rattle.sheet.specs.Layout.{formulas_in}
+use Rattle.sheet.specs.Layout.{formulas_in, programs_in}
 use Rattle.sheet.specs.declared.Layout.{Layout}
-use Rattle.sheet.proofs.Lower.{lower_formulas}
 use Rattle.leaves.specs.Endable.{FinalsKnown}
 use Rattle.engine.specs.Tables.{window, Only, endable_in, truths_from, finals_from, truths_at, finals_at}
-use Rattle.sheet.proofs.Parts.{in_order, formulas_long, programs_long}
+use Rattle.sheet.proofs.Parts.{formulas_long}
 use Rattle.sheet.proofs.Found.{in_sheet}
 use Rattle.engine.proofs.Tables.{truths_long, endable_kept}
 use Rattle.engine.proofs.Windows.{window_at, window_at_long, only_in, only_then, only_put, only_copied, window_copied, window_put, window_before}
 use Rattle.engine.proofs.Judging.{runs, many, runs_lower, runs_plain, formulas_plain, skips_by, truths_told, judged}
+use Rattle.engine.proofs.Named.{formulas_lower}
+use Rattle.engine.proofs.Opened.{of_layout}
 use Rattle.engine.proofs.judge.Goals as goal
-
-pub slice_bounds-fill_truths-count : goal.slice_bounds-fill_truths-count
-slice_bounds-fill_truths-count c = (in_order (in_sheet c.requires.0)).formulas
-
-pub slice_bounds-fill_truths-start : goal.slice_bounds-fill_truths-start
-slice_bounds-fill_truths-start c = let o = in_order (in_sheet c.requires.0) in omega arith
-
-pub slice_bounds-fill_truths-end : goal.slice_bounds-fill_truths-end
-slice_bounds-fill_truths-end c = let o = in_order (in_sheet c.requires.0) in omega arith
 
 pub fill_truths-requires : goal.fill_truths-requires
 fill_truths-requires c =
-    let O = c.requires.0 in
+    let O = c.found-found.ensures.of in
     let s = c.args.s.now in
-    let f = in_sheet O in
     let x = c.flags_from-from.result in
     let T = window_at x (truths_from c.args.d) (x + 512) 512 c.args.flags.now c.flags_from-from.ensures.0 (omega arith) in
-    let low = subst (λ (l : Layout). LowerFormulas (formulas_in s l) l.q) (sym O.layout_is) (lower_formulas s O.accepted) in
+    let formulas = of_layout O (λ (l : Layout). formulas_in s l) c.formulas.ensures.table in
     record {
-      n_in_bounds = (formulas_long s _ f, omega (arith, f.q, ap length T, truths_long c.requires.1 c.args.d));
-      lower_formulas = (low, formulas_plain O);
+      n_in_bounds = (
+        rw formulas (formulas_long s _ (in_sheet O)),
+        omega (arith, (in_sheet O).q, ap length T, truths_long c.requires c.args.d),
+      );
+      lower_formulas = rw formulas (formulas_lower O, formulas_plain O);
     }
 
-pub slice_bounds-mark_finals-count : goal.slice_bounds-mark_finals-count
-slice_bounds-mark_finals-count c = (in_order (in_sheet c.requires.0)).programs
-
-pub slice_bounds-mark_finals-start : goal.slice_bounds-mark_finals-start
-slice_bounds-mark_finals-start c = let o = in_order (in_sheet c.requires.0) in omega arith
-
 pub slice_bounds-mark_finals-end : goal.slice_bounds-mark_finals-end
-slice_bounds-mark_finals-end c = (in_order (in_sheet c.requires.0)).end
-
-pub slice_bounds-mark_finals-end-2 : goal.slice_bounds-mark_finals-end-2
-slice_bounds-mark_finals-end-2 c =
-    sym (length-take-le 261 c.args.numbers.now (omega (arith, c.requires.1.numbers_long)))
+slice_bounds-mark_finals-end c =
+    sym (length-take-le 261 c.args.numbers.now (omega (arith, c.requires.numbers_long)))
 
 pub mark_finals-requires : goal.mark_finals-requires
 mark_finals-requires c =
-    let O = c.requires.0 in
-    let P = c.requires.1 in
-    let r = programs_long _ _ (in_sheet O) in
+    let O = c.found-found.ensures.of in
+    let P = c.requires in
+    let programs = of_layout O (λ (l : Layout). programs_in c.args.s.now l) c.programs.ensures.table in
     let flags = c.args.flags.now in
     let x = c.flags_from-from.result in
     let fits : x + 772 ≤ length flags = omega (arith, c.flags_from-from.ensures.1, P.flags_long) in
@@ -65,15 +49,15 @@ mark_finals-requires c =
     let finals = ap (window (x + 512) 260) c.copy_within.ensures.after ∙ copied ∙ endable_kept (omega (arith, c.flags_from-from.ensures.0)) first in
     let n = c.copy_within.ensures.len ∙ n₁ in
     record {
-      program_table = (r, omega (arith, n));
-      all_lower = (runs_lower O, runs_plain O);
-      skips = skips_by O P _ _ finals refl;
+      program_table = (rw (ap (λ (l : Layout). l.p) O.layout_is) c.programs.ensures.long, omega (arith, n));
+      all_lower = rw programs (runs_lower O, runs_plain O);
+      skips = rw programs (skips_by O P _ _ finals refl);
     }
 
 pub returns : goal.returns
 returns c =
-    let O = c.requires.0 in
-    let P = c.requires.1 in
+    let O = c.found-found.ensures.of in
+    let P = c.requires in
     let d = c.args.d in
     let st = c.args.st in
     let flags = c.args.flags.now in
@@ -93,20 +77,22 @@ returns c =
     let S : Only (x + 512) 260 flags₁ flags₂ = subst (Only (x + 512) 260 flags₁) (sym after) (only_copied 260 (x + 512) flags₁ (omega (arith, n₁))) in
     let copied = ap (window (x + 512) 260) after ∙ window_copied 260 (x + 512) flags₁ (omega (arith, n₁)) in
     let M = c.mark_finals.ensures in
+    let programs = of_layout O (λ (l : Layout). programs_in c.args.s.now l) c.programs.ensures.table in
+    let formulas = of_layout O (λ (l : Layout). formulas_in c.args.s.now l) c.formulas.ensures.table in
     let K : Only (truths_from d) 772 flags flags₃ =
     subst (λ (o : ℕ). Only o 772 flags flags₃) ex
     (only_then (only_in (omega arith) (omega arith) K₁) (only_then (only_in (omega arith) (omega arith) S) (only_in (omega arith) (omega arith) M.written))) in
     let finals : (l : List Bool) → window (x + 512) 260 l ≡ finals_at d l = λ l. let e : x + 512 ≡ finals_from d = omega arith in ap (λ (o : ℕ). window o 260 l) e in
     let truths : (l : List Bool) → window x 512 l ≡ truths_at d l = λ l. ap (λ (o : ℕ). window o 512 l) ex in
     let same = window_before M.written n₃ x 512 (omega arith) (omega (arith, n₁, n₂)) ∙ window_before S n₂ x 512 (omega arith) (omega (arith, n₁)) in
-    let told = sym (truths flags₃) ∙ same ∙ window_put x (x + 512) 512 flags said (omega arith) (omega arith) long ∙ c.fill_truths.ensures in
+    let told = sym (truths flags₃) ∙ same ∙ window_put x (x + 512) 512 flags said (omega arith) (omega arith) long ∙ (rw formulas at c.fill_truths.ensures) in
     let before : endable_in flags₁ ≡ endable_in flags = endable_kept (omega arith) K₁ in
     record {
       tables = judged O P st d flags₃ (n₃ ∙ n₂ ∙ n₁) K
           (truths_told O st _ told)
-          (subst₂ (λ (t f : List Bool). FinalsKnown (runs c.args.s.now c.args.found.layout c.args.found.interrupts)
-          (many c.args.found.layout c.args.found.interrupts) t st.running f)
-          (truths flags₃) (finals flags₃) M.finals)
+          (subst₂ (λ (t f : List Bool). FinalsKnown (runs c.args.s.now c.found-found.result.layout c.found-found.result.interrupts)
+          (many c.found-found.result.layout c.found-found.result.interrupts) t st.running f)
+          (truths flags₃) (finals flags₃) (rw programs at M.finals))
           (λ i l. ap (λ (y : List Bool). get_or y i true) (sym (finals flags₃)) ∙ M.behind i l ∙ ap (λ (y : List Bool). get_or y i true) (copied ∙ before));
       written = K;
     }

@@ -7,13 +7,13 @@ use Rattle.engine.proofs.Tables.{filled, filled_then, counted, counted_filled}
 use Rattle.engine.proofs.Telling.{tells}
 use Rattle.engine.proofs.survey.Goals as goal
 
-pub overflow_mul-d : goal.overflow_mul-d
-overflow_mul-d c =
-    omega (arith, frame_by c.requires.of.0 c.args.d, c.requires.by_index.2.roomy.inside, c.requires.by_index.2.roomy.small)
+pub overflow_mul-at : goal.overflow_mul-at
+overflow_mul-at c =
+    omega (arith, frame_by c.found.ensures.of c.args.d, c.requires.by_index.2.roomy.inside, c.requires.by_index.2.roomy.small)
 
-pub overflow_add-d : goal.overflow_add-d
-overflow_add-d c =
-    omega (arith, frame_by c.requires.of.0 c.args.d, c.requires.by_index.2.roomy.inside, c.requires.by_index.2.roomy.small)
+pub overflow_add-at : goal.overflow_add-at
+overflow_add-at c =
+    omega (arith, frame_by c.found.ensures.of c.args.d, c.requires.by_index.2.roomy.inside, c.requires.by_index.2.roomy.small)
 
 pub total-totals-requires : goal.total-totals-requires
 total-totals-requires c =
@@ -21,14 +21,14 @@ total-totals-requires c =
     let F = c.requires.by_index.2 in (
       S.prepared.flags_long,
       S.prepared.numbers_long,
-      subst (λ (o : ℕ). Stands c.args.work.now (o + header)) (sym (frame_by c.requires.of.0 c.args.d)) (frame_holds F),
+      subst (λ (o : ℕ). Stands c.args.work.now (o + header)) (sym (frame_by c.found.ensures.of c.args.d)) (frame_holds F),
       F.roomy.small,
     )
 
 pub returns : goal.returns
 returns c =
-    let O = c.requires.of.0 in
-    let P = c.requires.of.1 in
+    let O = c.found.ensures.of in
+    let P = c.requires.prepared in
     let d = c.args.d in
     let long = c.tally.ensures.tables.prepared.numbers_long in
     let S = counted c.count_survey.ensures.written c.count_survey.auto.numbers long c.tally.ensures.tables in

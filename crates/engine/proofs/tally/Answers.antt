@@ -3,63 +3,50 @@ use Rattle.std.proofs.Common.{◌≡◌, ℕ, ◌+◌, ◌-◌, ◌≤◌, Bool,
 use borrow.Rule.Slice.PartMut.{put_mid, same_len_mid}
 use Rattle.leaves.specs.Tallies.{Tallied}
 use Rattle.leaves.specs.Endable.{Tallyable}
-use Rattle.sheet.specs.Layout.{actions_in}
+use Rattle.sheet.specs.Layout.{actions_in, programs_in}
+use Rattle.sheet.specs.declared.Layout.{Layout}
 use Rattle.engine.specs.Tables.{window, Only, truths_at, counts_from, counts_at}
-use Rattle.sheet.proofs.Parts.{in_order, programs_long}
+use Rattle.sheet.proofs.Parts.{programs_long}
 use Rattle.sheet.proofs.Found.{in_sheet}
 use Rattle.engine.proofs.Tables.{counts_long}
 use Rattle.engine.proofs.Windows.{window_at, only_put, window_put}
 use Rattle.engine.proofs.Judging.{runs, many, tallyable, surveyed}
+use Rattle.engine.proofs.Opened.{of_layout}
 use Rattle.engine.proofs.tally.Goals as goal
 
 pub conflicted_at-conflicted-requires : goal.conflicted_at-conflicted-requires
-conflicted_at-conflicted-requires c =
-    (c.requires.0, c.requires.1.prepared)
-
-pub slice_bounds-tallies-count-2 : goal.slice_bounds-tallies-count-2
-slice_bounds-tallies-count-2 c = (in_order (in_sheet c.requires.0)).programs
-
-pub slice_bounds-tallies-start-2 : goal.slice_bounds-tallies-start-2
-slice_bounds-tallies-start-2 c = let o = in_order (in_sheet c.requires.0) in omega arith
-
-pub slice_bounds-tallies-end-2 : goal.slice_bounds-tallies-end-2
-slice_bounds-tallies-end-2 c = (in_order (in_sheet c.requires.0)).end
-
-pub slice_bounds-tallies-count-3 : goal.slice_bounds-tallies-count-3
-slice_bounds-tallies-count-3 c = (in_order (in_sheet c.requires.0)).actions
-
-pub slice_bounds-tallies-start-3 : goal.slice_bounds-tallies-start-3
-slice_bounds-tallies-start-3 c = let o = in_order (in_sheet c.requires.0) in omega arith
-
-pub slice_bounds-tallies-end-3 : goal.slice_bounds-tallies-end-3
-slice_bounds-tallies-end-3 c = let o = in_order (in_sheet c.requires.0) in omega arith
+conflicted_at-conflicted-requires c = c.requires.prepared
 
 pub tallies-requires : goal.tallies-requires
 tallies-requires c =
-    let O = c.requires.0 in
-    let J = c.requires.1 in
+    let O = c.found-found.ensures.of in
+    let J = c.requires in
     let d = c.args.d in
     let s = c.args.s.now in
-    let l = c.args.found.layout in
-    let b = c.args.found.interrupts in
+    let l = c.found-found.result.layout in
+    let b = c.found-found.result.interrupts in
     let numbers = c.args.numbers.now in
     let y = c.counts_from-first.result in
     let N = window_at y (counts_from d) (y + 260) 260 numbers c.counts_from-first.ensures.0 (omega arith) in
+    let programs = of_layout O (λ (l : Layout). programs_in s l) c.programs.ensures.table in
+    let actions = of_layout O (λ (l : Layout). actions_in s l) c.actions.ensures.table in
     let r = programs_long _ _ (in_sheet O) in
     record {
-      program_table = (r, ap length N ∙ counts_long J.prepared d);
-      tallyable = subst₂ (λ (t f : List Bool). Tallyable (runs s l b) (many l b) (actions_in s l) t c.args.st.running f) (sym c.truths_at.ensures) (sym c.finals_at.ensures) (tallyable O J);
+      program_table = (rw programs r, ap length N ∙ counts_long J.prepared d);
+      tallyable = rw (programs, actions)
+          (subst₂ (λ (t f : List Bool). Tallyable (runs s l b) (many l b) (actions_in s l) t c.args.st.running f) (sym c.truths_at.ensures) (sym c.finals_at.ensures)
+          (tallyable O J));
     }
 
 pub returns : goal.returns
 returns c =
-    let O = c.requires.0 in
-    let J = c.requires.1 in
+    let O = c.found-found.ensures.of in
+    let J = c.requires in
     let d = c.args.d in
     let st = c.args.st in
     let s = c.args.s.now in
-    let l = c.args.found.layout in
-    let b = c.args.found.interrupts in
+    let l = c.found-found.result.layout in
+    let b = c.found-found.result.interrupts in
     let flags = c.args.flags.now in
     let numbers = c.args.numbers.now in
     let y = c.counts_from-first.result in
@@ -72,7 +59,10 @@ returns c =
     let K : Only (counts_from d) 260 numbers new = subst (λ (o : ℕ). Only o 260 numbers new) ey (only_put y (y + 260) 260 numbers counts (omega arith) fits long) in
     let e : counts_at d new ≡ counts = subst (λ (o : ℕ). window o 260 new ≡ counts) ey (window_put y (y + 260) 260 numbers counts (omega arith) fits long) in
     let conflicted = c.conflicted_at-conflicted.result in
-    let told = subst₂ (λ (t : List Bool) (k : List ℕ). Tallied (runs s l b) (many l b) (actions_in s l) t conflicted st.running k counts) c.truths_at.ensures N c.tallies.ensures.counts in
+    let programs = of_layout O (λ (l : Layout). programs_in s l) c.programs.ensures.table in
+    let actions = of_layout O (λ (l : Layout). actions_in s l) c.actions.ensures.table in
+    let counted = rw (programs, actions) at c.tallies.ensures.counts in
+    let told = subst₂ (λ (t : List Bool) (k : List ℕ). Tallied (runs s l b) (many l b) (actions_in s l) t conflicted st.running k counts) c.truths_at.ensures N counted in
     record {
       tables = surveyed O J new conflicted (same_len_mid y (y + 260 - y) numbers counts c.tallies.auto.counts) K c.conflicted_at-conflicted.ensures
           (subst (λ (k : List ℕ). Tallied (runs s l b) (many l b) (actions_in s l) (truths_at d flags) conflicted st.running (counts_at d numbers) k) (sym e) told);
