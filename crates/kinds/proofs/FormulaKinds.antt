@@ -32,7 +32,6 @@ formula_of kind x a b = record { kind = kind; x = x; a = a; b = b }
 
 -- a kind has one number, and no other number stands for it
 pub kind_number : (k : Kind) → kind_of (number_of k) ≡ Some k
-unfolding kind_of
 kind_number True = refl
 kind_number False = refl
 kind_number HasValue = refl
@@ -46,7 +45,6 @@ kind_number ForSome = refl
 kind_number ForEvery = refl
 
 by_number : (n : ℕ) → MatchOption (kind_of n) ⊤ (λ k. n ≡ number_of k)
-unfolding kind_of
 by_number = by_kind (λ n. MatchOption (kind_of n) ⊤ (λ k. n ≡ number_of k)) refl refl refl refl refl refl refl refl refl refl refl (λ k. tt)
 
 pub number_is : (n : ℕ) {k : Kind} → kind_of n ≡ Some k → n ≡ number_of k

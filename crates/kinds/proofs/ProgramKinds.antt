@@ -34,7 +34,6 @@ record_of kind a b c = record { kind = kind; a = a; b = b; c = c }
 
 -- a kind has one number, and no other number stands for it
 pub kind_number : (k : Kind) → kind_of (number_of k) ≡ Some k
-unfolding kind_of
 kind_number Nil = refl
 kind_number Act = refl
 kind_number Test = refl
@@ -50,7 +49,6 @@ kind_number Interrupt = refl
 kind_number Pick = refl
 
 by_number : (n : ℕ) → MatchOption (kind_of n) ⊤ (λ k. n ≡ number_of k)
-unfolding kind_of
 by_number = by_kind (λ n. MatchOption (kind_of n) ⊤ (λ k. n ≡ number_of k)) refl refl refl refl refl refl refl refl refl refl refl refl refl (λ k. tt)
 
 pub number_is : (n : ℕ) {k : Kind} → kind_of n ≡ Some k → n ≡ number_of k

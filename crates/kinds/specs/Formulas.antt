@@ -12,7 +12,7 @@ use Rattle.kinds.specs.declared.formulas.Field.{Field}
 use Rattle.kinds.specs.declared.formulas.Field.TheVariants.{Unused, Fluent, Value, Limit, Lower, Placeholder, Choices}
 
 -- the kind of a number, and its number
-unfoldable pub kind_of : ℕ → Option Kind
+abbrev pub kind_of : ℕ → Option Kind
 kind_of number =
     get_or
     (

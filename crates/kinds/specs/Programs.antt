@@ -11,7 +11,7 @@ use Rattle.kinds.specs.declared.programs.Field.{Field}
 use Rattle.kinds.specs.declared.programs.Field.TheVariants.{Unused, Action, Formula, Record, Choices, Placeholder}
 
 -- the kind of a number, and its number
-unfoldable pub kind_of : ℕ → Option Kind
+abbrev pub kind_of : ℕ → Option Kind
 kind_of number =
     get_or
     (

@@ -1,5 +1,3 @@
-#![tactic(auto, unfolding(crate::specs::Formulas::kind_of, crate::specs::Formulas::field_x, crate::specs::Formulas::field_a, crate::specs::Formulas::field_b, crate::specs::Formulas::formula_ok, crate::specs::Truth::truth_of, crate::specs::Sets::set_of))]
-
 // What each kind of formula is (specs/Formulas.antt), says (specs/Truth.antt) and names (specs/Names.antt, specs/Sets.antt): a function for each column that is asked for.
 ghost use Rattle.std.specs.Prelude.{◌≡◌, T};
 ghost use Rattle.kinds.specs.Truth.{truth_of};
@@ -58,22 +56,26 @@ pub enum Field {
 }
 
 // Whether it asks that a fluent has a value.
+#[tactic(auto, unfolding(crate::specs::Formulas::field_a))]
 pub fn asks_value(kind: usize) -> bool
     ensures { result ≡ asks_value kind }
 {
     kind_of(kind) == Some(Kind::HasValue)
 }
 
+#[tactic(auto, unfolding(crate::specs::Formulas::field_x))]
 fn field_x(kind: usize) -> Field
     ensures { result ≡ field_x kind }
 {
     match kind_of(kind) {
-        Some(Kind::HasValue | Kind::LessThan | Kind::EqualValues | Kind::EqualsPlaceholder) => Field::Fluent,
+        Some(Kind::HasValue | Kind::LessThan | Kind::EqualValues | Kind::EqualsPlaceholder) =>
+            Field::Fluent,
         Some(Kind::ForSome | Kind::ForEvery) => Field::Choices,
         _ => Field::Unused,
     }
 }
 
+#[tactic(auto, unfolding(crate::specs::Formulas::field_a))]
 fn field_a(kind: usize) -> Field
     ensures { result ≡ field_a kind }
 {
@@ -87,6 +89,7 @@ fn field_a(kind: usize) -> Field
     }
 }
 
+#[tactic(auto, unfolding(crate::specs::Formulas::field_b))]
 fn field_b(kind: usize) -> Field
     ensures { result ≡ field_b kind }
 {
@@ -112,9 +115,10 @@ fn field_ok(nf: usize, size: usize, i: usize, field: Field, x: usize) -> bool
 }
 
 // The last kind of formula that a sheet has.
-const LAST_KIND: usize = 7;
+const LAST_KIND: usize = Kind::Or as usize;
 
 // Whether formula i keeps its rule, where there are nf fluents and size is the domain size of fluent x.
+#[tactic(auto, unfolding(crate::specs::Formulas::formula_ok))]
 pub fn formula_ok(nf: usize, size: usize, i: usize, r: Formula) -> bool
     ensures { result ≡ formula_ok nf size i r }
 {
@@ -125,6 +129,7 @@ pub fn formula_ok(nf: usize, size: usize, i: usize, r: Formula) -> bool
 }
 
 // What a formula without placeholders says of values, where `lower` has what the lower ones say.
+#[tactic(auto, unfolding(crate::specs::Truth::truth_of))]
 pub fn truth_of(r: Formula, values: &[u8], lower: &[bool]) -> bool
     requires { T (is_plain r.kind) }
     ensures { result ≡ truth_of r values.now lower.now }
@@ -135,8 +140,10 @@ pub fn truth_of(r: Formula, values: &[u8], lower: &[bool]) -> bool
         Some(Kind::LessThan) => records::byte_in(values, r.x) < r.a,
         Some(Kind::EqualValues) => records::byte_in(values, r.x) == records::byte_in(values, r.a),
         Some(Kind::Not) => !records::value_in(lower, r.a, false),
-        Some(Kind::And) => records::value_in(lower, r.a, false) & records::value_in(lower, r.b, false),
-        Some(Kind::Or) => records::value_in(lower, r.a, false) | records::value_in(lower, r.b, false),
+        Some(Kind::And) => records::value_in(lower, r.a, false)
+            & records::value_in(lower, r.b, false),
+        Some(Kind::Or) => records::value_in(lower, r.a, false)
+            | records::value_in(lower, r.b, false),
         _ => false,
     }
 }
@@ -152,6 +159,7 @@ fn bit(x: usize) -> u32
 }
 
 // The set of the fluents that a formula names, bit x for fluent x, where `lower` has the sets of the lower ones.
+#[tactic(auto, unfolding(crate::specs::Sets::set_of))]
 pub fn names_of(r: Formula, lower: &[u32]) -> u32
     ensures { result ≡ set_of r lower.now }
 {
@@ -159,7 +167,8 @@ pub fn names_of(r: Formula, lower: &[u32]) -> u32
         Some(Kind::HasValue | Kind::LessThan | Kind::EqualsPlaceholder) => bit(r.x),
         Some(Kind::EqualValues) => bit(r.x) | bit(r.a),
         Some(Kind::Not | Kind::ForSome | Kind::ForEvery) => records::value_in(lower, r.a, 0),
-        Some(Kind::And | Kind::Or) => records::value_in(lower, r.a, 0) | records::value_in(lower, r.b, 0),
+        Some(Kind::And | Kind::Or) => records::value_in(lower, r.a, 0)
+            | records::value_in(lower, r.b, 0),
         _ => 0,
     }
 }

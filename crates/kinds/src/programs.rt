@@ -1,9 +1,7 @@
-#![tactic(auto, unfolding(crate::specs::Programs::kind_of, crate::specs::Programs::field_a, crate::specs::Programs::field_b, crate::specs::Programs::field_c, crate::specs::Programs::program_ok, crate::specs::Programs::final_of, crate::specs::Programs::final_by, crate::specs::Programs::final_bound_of, crate::specs::Programs::final_bound_by, crate::specs::Programs::uses_a, crate::specs::Programs::tag_a, crate::specs::Programs::loops, crate::specs::Programs::tag_b, crate::specs::Programs::count_of, crate::specs::Programs::count_by, crate::specs::Programs::first_by, crate::specs::Programs::distance_of, crate::specs::Programs::distance_by))]
-
 // What each kind of program record is and does (specs/Programs.antt, whose columns have a place for each kind): a function for each
 // column that is asked for. Tables are read in the arms, so that a kind reads no more than it uses.
-ghost use Rattle.std.specs.Prelude.{◌≡◌, true, not, cond, ◌&&◌, ◌||◌, ◌+◌, ◌^◌, ◌<◌, min, get_or};
-ghost use Rattle.kinds.specs.Programs.{kind_of, field_a, field_b, field_c, field_ok, program_ok, is_record, has_a, has_b, acts};
+ghost use Rattle.std.specs.Prelude.{◌≡◌, true, not, cond, ◌&&◌, ◌||◌, ◌+◌, ◌^◌, ◌<◌, get_or};
+ghost use Rattle.kinds.specs.Programs.{kind_of, field_a, field_b, field_c, field_ok, program_ok, has_a, has_b, acts};
 ghost use Rattle.kinds.specs.Programs.{final_by, final_bound_by, distance_by, has_own, uses_a, tag_a, loops, tag_b, count_by, first_by};
 
 use records::Program;
@@ -49,6 +47,7 @@ pub fn kind_of(number: usize) -> Option<Kind>
 }
 
 // What a field of a program record is: an action, a formula, a lower record, how many values are chosen from, a placeholder.
+// Kept: (d) one enum for the fields of formulas and of program records would have roles that only one of them has, each with a test in both.
 #[derive(Clone, Copy, Debug, PartialEq, Eq)]
 pub enum Field {
     Unused,
@@ -59,6 +58,7 @@ pub enum Field {
     Placeholder,
 }
 
+#[tactic(auto, unfolding(crate::specs::Programs::field_a))]
 fn field_a(kind: usize) -> Field
     ensures { result ≡ field_a kind }
 {
@@ -71,15 +71,18 @@ fn field_a(kind: usize) -> Field
     }
 }
 
+#[tactic(auto, unfolding(crate::specs::Programs::field_b))]
 fn field_b(kind: usize) -> Field
     ensures { result ≡ field_b kind }
 {
     match kind_of(kind) {
-        Some(Kind::Sequence | Kind::Choice | Kind::If | Kind::Together | Kind::Over | Kind::Pick) => Field::Record,
+        Some(Kind::Sequence | Kind::Choice | Kind::If | Kind::Together | Kind::Over | Kind::Pick) =>
+            Field::Record,
         _ => Field::Unused,
     }
 }
 
+#[tactic(auto, unfolding(crate::specs::Programs::field_c))]
 fn field_c(kind: usize) -> Field
     ensures { result ≡ field_c kind }
 {
@@ -104,9 +107,10 @@ fn field_ok(nq: usize, na: usize, i: usize, field: Field, x: usize) -> bool
 }
 
 // The last kind of program record that a sheet has.
-const LAST_KIND: usize = 11;
+const LAST_KIND: usize = Kind::Interrupt as usize;
 
 // Whether program record i keeps its rule, where there are nq formulas and na actions.
+#[tactic(auto, unfolding(crate::specs::Programs::program_ok))]
 pub fn program_ok(nq: usize, na: usize, i: usize, r: Program) -> bool
     ensures { result ≡ program_ok nq na i r }
 {
@@ -130,6 +134,7 @@ pub fn has_b(kind: usize) -> bool
 }
 
 // Whether it performs an action.
+#[tactic(auto, unfolding(crate::specs::Programs::field_a))]
 pub fn acts(kind: usize) -> bool
     ensures { result ≡ acts kind }
 {
@@ -137,6 +142,7 @@ pub fn acts(kind: usize) -> bool
 }
 
 // Whether it has a transition of its own, and so no other.
+#[tactic(auto, unfolding(crate::specs::Programs::field_a))]
 pub fn has_own(kind: usize) -> bool
     ensures { result ≡ has_own kind }
 {
@@ -162,6 +168,7 @@ fn choice(h: bool, fa: bool, fb: bool) -> bool
 }
 
 // Whether a record is final, by what the formulas say and by what is tabled of lower records.
+#[tactic(auto, unfolding(crate::specs::Programs::final_of, crate::specs::Programs::final_by))]
 pub fn final_by(r: Program, truths: &[bool], running: bool, finals: &[bool]) -> bool
     ensures { result ≡ final_by r truths.now running finals.now }
 {
@@ -174,7 +181,8 @@ pub fn final_by(r: Program, truths: &[bool], running: bool, finals: &[bool]) -> 
             records::value_in(finals, r.a, true),
             records::value_in(finals, r.b, true),
         ),
-        Some(Kind::While) => !records::value_in(truths, r.c, false) | records::value_in(finals, r.a, true),
+        Some(Kind::While) => !records::value_in(truths, r.c, false)
+            | records::value_in(finals, r.a, true),
         Some(Kind::Interrupt) => {
             !running | records::value_in(truths, r.c, false) & records::value_in(finals, r.a, true)
         }
@@ -184,6 +192,7 @@ pub fn final_by(r: Program, truths: &[bool], running: bool, finals: &[bool]) -> 
 }
 
 // By what is tabled of lower records: with `most`, whether a record may be final in some state; without, whether it is in every one.
+#[tactic(auto, unfolding(crate::specs::Programs::final_bound_of, crate::specs::Programs::final_bound_by))]
 pub fn final_bound_by(r: Program, most: bool, marks: &[bool]) -> bool
     ensures { result ≡ final_bound_by r most marks.now }
 {
@@ -200,11 +209,19 @@ pub fn final_bound_by(r: Program, most: bool, marks: &[bool]) -> bool
 }
 
 // Whether the transitions of part a are among a record's own, where h says whether its c holds.
+#[tactic(auto, unfolding(crate::specs::Programs::uses_a))]
 pub fn uses_a(kind: usize, h: bool, running: bool) -> bool
     ensures { result ≡ uses_a kind h running }
 {
     match kind_of(kind) {
-        Some(Kind::Sequence | Kind::Choice | Kind::Star | Kind::Together | Kind::Over | Kind::Iteration) => true,
+        Some(
+            Kind::Sequence
+            | Kind::Choice
+            | Kind::Star
+            | Kind::Together
+            | Kind::Over
+            | Kind::Iteration,
+        ) => true,
         Some(Kind::If | Kind::While) => h,
         Some(Kind::Interrupt) => running & h,
         _ => false,
@@ -212,6 +229,7 @@ pub fn uses_a(kind: usize, h: bool, running: bool) -> bool
 }
 
 // The kind of the construct that what part a leaves stands in; 0 where it stands alone.
+#[tactic(auto, unfolding(crate::specs::Programs::tag_a))]
 pub fn tag_a(kind: usize) -> u32
     ensures { result ≡ tag_a kind }
 {
@@ -224,13 +242,18 @@ pub fn tag_a(kind: usize) -> u32
 }
 
 // Whether the record itself stands beside what part a leaves, and not its part b.
+#[tactic(auto, unfolding(crate::specs::Programs::loops))]
 pub fn loops(kind: usize) -> bool
     ensures { result ≡ loops kind }
 {
-    matches!(kind_of(kind), Some(Kind::Star | Kind::While | Kind::Iteration | Kind::Interrupt))
+    matches!(
+        kind_of(kind),
+        Some(Kind::Star | Kind::While | Kind::Iteration | Kind::Interrupt)
+    )
 }
 
 // The kind of the construct that what part b leaves stands in; 0 where it stands alone.
+#[tactic(auto, unfolding(crate::specs::Programs::tag_b))]
 pub fn tag_b(kind: usize) -> u32
     ensures { result ≡ tag_b kind }
 {
@@ -245,7 +268,11 @@ pub fn tag_b(kind: usize) -> u32
 fn part(counts: &[u32], a: usize, goes: bool) -> u64
     ensures { (result ≡ cond goes (get_or counts.now a 0) 0) × (result < 2 ^ 32) }
 {
-    if goes { u64::from(records::value_in(counts, a, 0)) } else { 0 }
+    if goes {
+        u64::from(records::value_in(counts, a, 0))
+    } else {
+        0
+    }
 }
 
 // How many parts a and b have, those of b where they count.
@@ -263,6 +290,7 @@ fn either(counts: &[u32], a: usize, b: usize, first: bool) -> u64
 }
 
 // How many transitions a record has, where `can` says whether its action is possible: its own, and those of the parts that it uses.
+#[tactic(auto, unfolding(crate::specs::Programs::count_of, crate::specs::Programs::count_by))]
 pub fn count_by(
     r: Program,
     can: bool,
@@ -288,6 +316,7 @@ pub fn count_by(
 }
 
 // How many of them are those of its part a: they come first.
+#[tactic(auto, unfolding(crate::specs::Programs::first_by))]
 pub fn first_by(r: Program, truths: &[bool], running: bool, counts: &[u32]) -> usize
     ensures { (result ≡ first_by r truths.now running counts.now) × (result < 2 ^ 32) }
 {
@@ -295,21 +324,15 @@ pub fn first_by(r: Program, truths: &[bool], running: bool, counts: &[u32]) -> u
     part(counts, r.a, goes) as usize
 }
 
-// The lesser of what is tabled of two parts.
-fn lesser(table: &[u32], a: usize, b: usize) -> u64
-    ensures { result ≡ min (get_or table.now a 0) (get_or table.now b 0) }
-{
-    part(table, a, true).min(part(table, b, true))
-}
-
 // How far a record is from its end at least, in transitions and whatever the states, by what is tabled of lower records.
+#[tactic(auto, unfolding(crate::specs::Programs::distance_of, crate::specs::Programs::distance_by))]
 pub fn distance_by(r: Program, distances: &[u32]) -> u64
     ensures { result ≡ distance_by r distances.now }
 {
     match kind_of(r.kind) {
         Some(Kind::Act | Kind::Test) => 1,
         Some(Kind::Sequence | Kind::Together | Kind::Over) => both_if(distances, r.a, r.b, true),
-        Some(Kind::Choice | Kind::If) => lesser(distances, r.a, r.b),
+        Some(Kind::Choice | Kind::If) => part(distances, r.a, true).min(part(distances, r.b, true)),
         Some(Kind::Pick) => part(distances, r.b, true),
         _ => 0,
     }
