@@ -1,4 +1,6 @@
 -- What holds of each of the kinds 0 to 10, and of those past them, holds of every kind of formula. Assumes nothing.
+use native.Mathlib.Omega.{arith}
+use Rattle.std.proofs.lemmas.Grind.{common_steps}
 use mathlib.Core.Path.{◌≡◌, refl}
 use Prim.Native.Nat.{ℕ, zero, suc}
 use Rattle.std.specs.Bool.{⊤}
@@ -32,20 +34,10 @@ formula_of kind x a b = record { kind = kind; x = x; a = a; b = b }
 
 -- a kind has one number, and no other number stands for it
 pub kind_number : (k : Kind) → kind_of (number_of k) ≡ Some k
-kind_number True = refl
-kind_number False = refl
-kind_number HasValue = refl
-kind_number LessThan = refl
-kind_number EqualValues = refl
-kind_number Not = refl
-kind_number And = refl
-kind_number Or = refl
-kind_number EqualsPlaceholder = refl
-kind_number ForSome = refl
-kind_number ForEvery = refl
+kind_number k = grind (arith, common_steps)
 
 by_number : (n : ℕ) → MatchOption (kind_of n) ⊤ (λ k. n ≡ number_of k)
-by_number = by_kind (λ n. MatchOption (kind_of n) ⊤ (λ k. n ≡ number_of k)) refl refl refl refl refl refl refl refl refl refl refl (λ k. tt)
+by_number n = grind (arith, common_steps)
 
 pub number_is : (n : ℕ) {k : Kind} → kind_of n ≡ Some k → n ≡ number_of k
 number_is n e = rw e at (by_number n)

@@ -1,4 +1,6 @@
 -- What holds of each of the kinds 0 to 12, and of those past them, holds of every kind of program record. Assumes nothing.
+use native.Mathlib.Omega.{arith}
+use Rattle.std.proofs.lemmas.Grind.{common_steps}
 use mathlib.Core.Path.{◌≡◌, refl}
 use Prim.Native.Nat.{ℕ, zero, suc}
 use Rattle.std.specs.Bool.{⊤}
@@ -34,22 +36,10 @@ record_of kind a b c = record { kind = kind; a = a; b = b; c = c }
 
 -- a kind has one number, and no other number stands for it
 pub kind_number : (k : Kind) → kind_of (number_of k) ≡ Some k
-kind_number Nil = refl
-kind_number Act = refl
-kind_number Test = refl
-kind_number Sequence = refl
-kind_number Choice = refl
-kind_number Star = refl
-kind_number If = refl
-kind_number While = refl
-kind_number Together = refl
-kind_number Over = refl
-kind_number Iteration = refl
-kind_number Interrupt = refl
-kind_number Pick = refl
+kind_number k = grind (arith, common_steps)
 
 by_number : (n : ℕ) → MatchOption (kind_of n) ⊤ (λ k. n ≡ number_of k)
-by_number = by_kind (λ n. MatchOption (kind_of n) ⊤ (λ k. n ≡ number_of k)) refl refl refl refl refl refl refl refl refl refl refl refl refl (λ k. tt)
+by_number n = grind (arith, common_steps)
 
 pub number_is : (n : ℕ) {k : Kind} → kind_of n ≡ Some k → n ≡ number_of k
 number_is n e = rw e at (by_number n)
