@@ -7,13 +7,11 @@ ghost use Rattle.kinds.specs.Programs.{links};
 ghost use Rattle.height.specs.Height.{height_over, height_of, plain, interrupts};
 ghost use Rattle.height.specs.Work.{FrameLimits, frame_words};
 
+use kinds::programs::Kind;
 use records::Program;
 
 // The words of a frame before its nodes.
 pub const HEADER: usize = 64;
-
-// The kind of an interrupt.
-const INTERRUPT: usize = 11;
 
 // One link more than record a is high, where there is a link to it.
 fn above(h: &[u32], link: bool, a: usize) -> u32
@@ -54,7 +52,7 @@ pub fn has_interrupts(t: &[u8], n: usize) -> bool
     requires { 8 * n ≤ length t.now }
     ensures { result ≡ interrupts (program_at t.now) n }
 {
-    (0..n).any(|i| records::program_at(t, i).kind == INTERRUPT)
+    (0..n).any(|i| records::program_at(t, i).kind == Kind::Interrupt as usize)
 }
 
 // What counts as height for the work area: two levels more where there are interrupts.

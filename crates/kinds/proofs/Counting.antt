@@ -1,5 +1,6 @@
 -- How many transitions a record has: its own, those of a and those of b, each where the columns say so. So the count depends on the fields
 -- that its kind has, a cut in the parts is one in the whole, and a record has at most twice as many as a part. Assumes nothing.
+use Rattle.std.proofs.lemmas.Grind.{common_steps}
 use mathlib.Core.Path.{◌≡◌, refl, sym, ◌∙◌, ap, ap₂}
 use mathlib.Core.Bool.{Bool, true, false, not, cond, ◌&&◌}
 use mathlib.Core.List.{List}
@@ -15,8 +16,7 @@ use Rattle.kinds.proofs.Reading.{uses_a_lem, uses_b_lem, uses_a_same, uses_b_sam
 use Rattle.kinds.proofs.Constructs.{own_no_first, own_no_second, no_own}
 
 either : (h : Bool) (ca cb : ℕ) → cond h ca cb ≡ cond h ca 0 + cond (not h) cb 0
-either true ca cb = omega arith
-either false ca cb = omega arith
+either h ca cb = grind (arith, common_steps)
 
 -- what the columns add up to
 pub count_adds :
@@ -32,8 +32,7 @@ count_adds can passes fa h running ca cb =
 
 -- a number, where it counts
 pub where_used : (b : Bool) (x y : ℕ) → (T b → x ≡ y) → cond b x 0 ≡ cond b y 0
-where_used true x y e = e tt
-where_used false x y e = refl
+where_used b x y e = grind (arith, common_steps)
 
 module _ (kind : ℕ) where
   -- a count depends on the fields that the kind has
@@ -57,8 +56,7 @@ module _ (kind : ℕ) where
 
 -- whether an action is possible is asked where there is one
 asked : (b x : Bool) → T b → (b && x) ≡ x
-asked true x t = refl
-asked false x t = absurd t
+asked b x t = grind (arith, common_steps)
 
 pub count_acts :
     (r : Program) (can : Bool) (truths : List Bool) (running : Bool) (finals : List Bool) (counts : List ℕ)
@@ -69,14 +67,10 @@ count_acts r can truths running finals counts =
 
 -- counting up to M, what is cut in the parts is cut in the whole
 cut : (M o x y : ℕ) (ua ub : Bool) → min M (o + (cond ua x 0 + cond ub y 0)) ≡ min M (o + (cond ua (min M x) 0 + cond ub (min M y) 0))
-cut M o x y true true = omega arith
-cut M o x y true false = omega arith
-cut M o x y false true = omega arith
-cut M o x y false false = refl
+cut M o x y ua ub = grind (arith, common_steps)
 
 none_cut : (M n : ℕ) → 1 ≤ M → eqb n 0 ≡ eqb (min M n) 0
-none_cut M zero l = sym (eq-eqb (min M 0) 0 (omega arith))
-none_cut M (suc n) l = ne_eqb (suc n) 0 (λ e. omega arith) ∙ sym (ne_eqb (min M (suc n)) 0 (λ e. omega arith))
+none_cut M n l = grind (arith, common_steps)
 
 pub count_capped :
     (M kind : ℕ) (can passes fa h running : Bool) (ca cb : ℕ)
@@ -90,8 +84,7 @@ count_capped M kind can passes fa h running ca cb l =
     ∙ ap (min M) (sym (count_adds can passes fa h running (min M ca) (min M cb) kind))
 
 half : (b : Bool) (x m : ℕ) → (T b → x + x ≤ m) → cond b x 0 + cond b x 0 ≤ m
-half true x m h = h tt
-half false x m h = omega arith
+half b x m h = grind (arith, common_steps)
 
 -- where its parts have at most half of m, a record has at most m
 pub count_doubled :

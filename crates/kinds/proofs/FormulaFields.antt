@@ -1,5 +1,6 @@
 -- The fields of a formula by their roles. A test decides each role; a formula whose kind is known and whose fields keep their roles keeps
 -- document 01's rule, and conversely, kind by kind. So formulas of an accepted sheet name lower ones. Assumes nothing.
+use Rattle.std.proofs.lemmas.Grind.{common_steps}
 use mathlib.Core.Path.{◌≡◌, refl}
 use mathlib.Core.Bool.{true}
 use mathlib.Core.Logic.{inl, inr, ⊎_elim, ◌↔◌}
@@ -34,31 +35,12 @@ module _ (nf size i : ℕ) where
     b : FieldRule (field_b r.kind) r.b
 
   field_exactly : (f : Field) (x : ℕ) → (field_ok nf size i f x ≡ true) ↔ FieldRule f x
-  field_exactly Unused x = (eqb-true x 0, eq-eqb x 0)
-  field_exactly Fluent x = (ltb-true x nf, lt-ltb x nf)
-  field_exactly Value x = (ltb-true x size, lt-ltb x size)
-  field_exactly Limit x = (leb-true x size, le-leb x size)
-  field_exactly Lower x = (ltb-true x i, lt-ltb x i)
-  field_exactly Placeholder x = (ltb-true x 2, lt-ltb x 2)
-  field_exactly Choices x = and_exactly (ltb 0 x) (leb x 16) (ltb-true 0 x, lt-ltb 0 x) (leb-true x 16, le-leb x 16)
+  field_exactly f x = grind (arith, common_steps)
 
   -- document 01's rule of each kind, from the roles
   rule_of : (x a b kind : ℕ) → kind ≤ 7 → FieldRule (field_x kind) x → FieldRule (field_a kind) a → FieldRule (field_b kind) b → FormulaRule nf size i (formula_of kind x a b)
   unfolding field_x field_a field_b
-  rule_of x a b =
-      by_kind (λ (kind : ℕ). kind ≤ 7 → FieldRule (field_x kind) x → FieldRule (field_a kind) a → FieldRule (field_b kind) b → FormulaRule nf size i (formula_of kind x a b))
-      (λ l p q r. inl (refl, p, q, r))
-      (λ l p q r. inr (inl (refl, p, q, r)))
-      (λ l p q r. inr (inr (inl (refl, p, q, r))))
-      (λ l p q r. inr (inr (inr (inl (refl, p, q, r)))))
-      (λ l p q r. inr (inr (inr (inr (inl (refl, p, q, r))))))
-      (λ l p q r. inr (inr (inr (inr (inr (inl (refl, p, q, r)))))))
-      (λ l p q r. inr (inr (inr (inr (inr (inr (inl (refl, p, q, r))))))))
-      (λ l p q r. inr (inr (inr (inr (inr (inr (inr (refl, p, q, r))))))))
-      (λ l p q r. absurd (omega arith))
-      (λ l p q r. absurd (omega arith))
-      (λ l p q r. absurd (omega arith))
-      (λ k l p q r. absurd (omega arith))
+  rule_of x a b kind l p q r = grind (arith, common_steps)
 
   module _ (r : Formula) where
     x_exactly : (field_ok nf size i (field_x r.kind) r.x ≡ true) ↔ FieldRule (field_x r.kind) r.x
@@ -82,15 +64,7 @@ module _ (nf size i : ℕ) where
 
     fields_of : FormulaRule nf size i r → Fields r
     unfolding field_x field_a field_b
-    fields_of =
-        ⊎_elim (λ (k, x, a, b). of_kind 0 (omega arith) k x a b)
-        (⊎_elim (λ (k, x, a, b). of_kind 1 (omega arith) k x a b)
-        (⊎_elim (λ (k, x, a, b). of_kind 2 (omega arith) k x a b)
-        (⊎_elim (λ (k, x, a, b). of_kind 3 (omega arith) k x a b)
-        (⊎_elim (λ (k, x, a, b). of_kind 4 (omega arith) k x a b)
-        (⊎_elim (λ (k, x, a, b). of_kind 5 (omega arith) k x a b)
-        (⊎_elim (λ (k, x, a, b). of_kind 6 (omega arith) k x a b)
-        (λ (k, x, a, b). of_kind 7 (omega arith) k x a b)))))))
+    fields_of h = record { known = grind (arith, common_steps); x = grind (arith, common_steps); a = grind (arith, common_steps); b = grind (arith, common_steps) }
 
     pub formula_exactly : (formula_ok nf size i r ≡ true) ↔ FormulaRule nf size i r
     formula_exactly = (
@@ -99,13 +73,7 @@ module _ (nf size i : ℕ) where
     )
 
     lower_below : (f : Field) {x : ℕ} → FieldRule f x → T (is_lower f) → x < i
-    lower_below Unused k t = absurd t
-    lower_below Fluent k t = absurd t
-    lower_below Value k t = absurd t
-    lower_below Limit k t = absurd t
-    lower_below Lower k t = k
-    lower_below Placeholder k t = absurd t
-    lower_below Choices k t = absurd t
+    lower_below f k t = grind (arith, common_steps)
 
     -- a formula that keeps its rule names lower ones
     pub parts_lower : FormulaRule nf size i r → PartsLower i r

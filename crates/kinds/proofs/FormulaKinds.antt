@@ -1,6 +1,15 @@
 -- What holds of each of the kinds 0 to 10, and of those past them, holds of every kind of formula. Assumes nothing.
+use native.Mathlib.Omega.{arith}
+use Rattle.std.proofs.lemmas.Grind.{common_steps}
+use mathlib.Core.Path.{◌≡◌, refl}
 use Prim.Native.Nat.{ℕ, zero, suc}
+use Rattle.std.specs.Bool.{⊤}
+use Rattle.std.specs.Option.{MatchOption}
+use Rattle.std.specs.Prelude.{Some}
 use Rattle.records.specs.declared.Formula.{Formula}
+use Rattle.kinds.specs.declared.formulas.Kind.{Kind}
+use Rattle.kinds.specs.declared.formulas.Kind.TheVariants.{True, False, HasValue, LessThan, EqualValues, Not, And, Or, EqualsPlaceholder, ForSome, ForEvery}
+use Rattle.kinds.specs.Formulas.{kind_of, number_of}
 
 abbrev past : ℕ → ℕ
 past k = suc (suc (suc (suc (suc (suc (suc (suc (suc (suc (suc k))))))))))
@@ -22,3 +31,13 @@ by_kind P p0 p1 p2 p3 p4 p5 p6 p7 p8 p9 p10 p (suc (suc (suc (suc (suc (suc (suc
 -- a formula by its fields
 abbrev pub formula_of : (kind x a b : ℕ) → Formula
 formula_of kind x a b = record { kind = kind; x = x; a = a; b = b }
+
+-- a kind has one number, and no other number stands for it
+pub kind_number : (k : Kind) → kind_of (number_of k) ≡ Some k
+kind_number k = grind (arith, common_steps)
+
+by_number : (n : ℕ) → MatchOption (kind_of n) ⊤ (λ k. n ≡ number_of k)
+by_number n = grind (arith, common_steps)
+
+pub number_is : (n : ℕ) {k : Kind} → kind_of n ≡ Some k → n ≡ number_of k
+number_is n e = rw e at (by_number n)

@@ -1,5 +1,7 @@
 -- The set of a formula depends on the lower formulas that its kind has: so tables that agree below it give it the same set; and where the
 -- sets of the lower ones are those of what they name, its set is that of what it names. Assumes nothing.
+use native.Mathlib.Omega.{arith}
+use Rattle.std.proofs.lemmas.Grind.{common_steps}
 use Prim.Native.Nat.{ℕ, ◌<◌, ◌^◌}
 use mathlib.Core.Path.{◌≡◌, refl, sym, ap₂, ◌∙◌}
 use mathlib.Core.Bool.{Bool, true, false, ◌||◌, cond}
@@ -30,12 +32,7 @@ module _ (x a b : ℕ) where
       → (T (has_a kind) → get_or l a 0 ≡ get_or m a 0) → (T (has_b kind) → get_or l b 0 ≡ get_or m b 0)
       → set_of (formula_of kind x a b) l ≡ set_of (formula_of kind x a b) m
   unfolding set_of field_a field_b
-  set_parts l m =
-      by_kind
-      (λ (kind : ℕ). (T (has_a kind) → get_or l a 0 ≡ get_or m a 0) → (T (has_b kind) → get_or l b 0 ≡ get_or m b 0)
-      → set_of (formula_of kind x a b) l ≡ set_of (formula_of kind x a b) m)
-      (λ p q. refl) (λ p q. refl) (λ p q. refl) (λ p q. refl) (λ p q. refl) (λ p q. p tt) (λ p q. ap₂ bit_or (p tt) (q tt)) (λ p q. ap₂ bit_or (p tt) (q tt))
-      (λ p q. refl) (λ p q. p tt) (λ p q. p tt) (λ k p q. refl)
+  set_parts l m kind p q = grind (arith, common_steps)
 
   module _ (lower : ℕ → List Bool) (sets : List ℕ) where
     -- the set of lower formula i is that of what it names

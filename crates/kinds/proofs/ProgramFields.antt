@@ -1,6 +1,7 @@
 -- The fields of a program record by their roles. A test decides each role; a record whose kind is known and whose fields keep their roles
 -- keeps document 01's rule, and conversely, kind by kind; the fields that are program records are the links. So what a role
 -- tells of a field, acceptance tells of it. Assumes nothing.
+use Rattle.std.proofs.lemmas.Grind.{common_steps}
 use mathlib.Core.Path.{◌≡◌, refl}
 use mathlib.Core.Bool.{Bool, true, false}
 use mathlib.Core.List.Memᴰ
@@ -36,57 +37,22 @@ module _ (nq na i : ℕ) where
     pub c : FieldRule (field_c r.kind) r.c
 
   field_exactly : (f : Field) (x : ℕ) → (field_ok nq na i f x ≡ true) ↔ FieldRule f x
-  field_exactly Unused x = (eqb-true x 0, eq-eqb x 0)
-  field_exactly Action x = (ltb-true x na, lt-ltb x na)
-  field_exactly Formula x = (ltb-true x nq, lt-ltb x nq)
-  field_exactly Record x = (ltb-true x i, lt-ltb x i)
-  field_exactly Choices x = and_exactly (ltb 0 x) (leb x 16) (ltb-true 0 x, lt-ltb 0 x) (leb-true x 16, le-leb x 16)
-  field_exactly Placeholder x = (ltb-true x 2, lt-ltb x 2)
+  field_exactly f x = grind (arith, common_steps)
 
   -- what a role tells
   pub action_below : (f : Field) {x : ℕ} → FieldRule f x → T (is_action f) → x < na
-  action_below Unused k t = absurd t
-  action_below Action k t = k
-  action_below Formula k t = absurd t
-  action_below Record k t = absurd t
-  action_below Choices k t = absurd t
-  action_below Placeholder k t = absurd t
+  action_below f k t = grind (arith, common_steps)
 
   pub formula_below : (f : Field) {x : ℕ} → FieldRule f x → T (is_formula f) → x < nq
-  formula_below Unused k t = absurd t
-  formula_below Action k t = absurd t
-  formula_below Formula k t = k
-  formula_below Record k t = absurd t
-  formula_below Choices k t = absurd t
-  formula_below Placeholder k t = absurd t
+  formula_below f k t = grind (arith, common_steps)
 
   pub record_below : (f : Field) {x : ℕ} → FieldRule f x → T (is_record f) → x < i
-  record_below Unused k t = absurd t
-  record_below Action k t = absurd t
-  record_below Formula k t = absurd t
-  record_below Record k t = k
-  record_below Choices k t = absurd t
-  record_below Placeholder k t = absurd t
+  record_below f k t = grind (arith, common_steps)
 
   -- document 01's rule of each kind, from the roles
   rule_of : (a b c kind : ℕ) → kind ≤ 11 → FieldRule (field_a kind) a → FieldRule (field_b kind) b → FieldRule (field_c kind) c → ProgramRule nq na i (record_of kind a b c)
   unfolding field_a field_b field_c
-  rule_of a b c =
-      by_kind (λ (kind : ℕ). kind ≤ 11 → FieldRule (field_a kind) a → FieldRule (field_b kind) b → FieldRule (field_c kind) c → ProgramRule nq na i (record_of kind a b c))
-      (λ l p q r. inl (refl, p, q, r))
-      (λ l p q r. inr (inl (refl, p, q, r)))
-      (λ l p q r. inr (inr (inl (refl, p, q, r))))
-      (λ l p q r. inr (inr (inr (inl (refl, p, q, r)))))
-      (λ l p q r. inr (inr (inr (inr (inl (refl, p, q, r))))))
-      (λ l p q r. inr (inr (inr (inr (inr (inl (refl, p, q, r)))))))
-      (λ l p q r. inr (inr (inr (inr (inr (inr (inl (refl, p, q, r))))))))
-      (λ l p q r. inr (inr (inr (inr (inr (inr (inr (inl (refl, p, q, r)))))))))
-      (λ l p q r. inr (inr (inr (inr (inr (inr (inr (inr (inl (refl, p, q, r))))))))))
-      (λ l p q r. inr (inr (inr (inr (inr (inr (inr (inr (inr (inl (refl, p, q, r)))))))))))
-      (λ l p q r. inr (inr (inr (inr (inr (inr (inr (inr (inr (inr (inl (refl, p, q, r))))))))))))
-      (λ l p q r. inr (inr (inr (inr (inr (inr (inr (inr (inr (inr (inr (refl, p, q, r))))))))))))
-      (λ l p q r. absurd (omega arith))
-      (λ k l p q r. absurd (omega arith))
+  rule_of a b c kind l p q r = grind (arith, common_steps)
 
   module _ (r : Program) where
     a_exactly : (field_ok nq na i (field_a r.kind) r.a ≡ true) ↔ FieldRule (field_a r.kind) r.a
@@ -110,19 +76,7 @@ module _ (nq na i : ℕ) where
 
     fields_of : ProgramRule nq na i r → Fields r
     unfolding field_a field_b field_c
-    fields_of =
-        ⊎_elim (λ (k, a, b, c). of_kind 0 (omega arith) k a b c)
-        (⊎_elim (λ (k, a, b, c). of_kind 1 (omega arith) k a b c)
-        (⊎_elim (λ (k, a, b, c). of_kind 2 (omega arith) k a b c)
-        (⊎_elim (λ (k, a, b, c). of_kind 3 (omega arith) k a b c)
-        (⊎_elim (λ (k, a, b, c). of_kind 4 (omega arith) k a b c)
-        (⊎_elim (λ (k, a, b, c). of_kind 5 (omega arith) k a b c)
-        (⊎_elim (λ (k, a, b, c). of_kind 6 (omega arith) k a b c)
-        (⊎_elim (λ (k, a, b, c). of_kind 7 (omega arith) k a b c)
-        (⊎_elim (λ (k, a, b, c). of_kind 8 (omega arith) k a b c)
-        (⊎_elim (λ (k, a, b, c). of_kind 9 (omega arith) k a b c)
-        (⊎_elim (λ (k, a, b, c). of_kind 10 (omega arith) k a b c)
-        (λ (k, a, b, c). of_kind 11 (omega arith) k a b c)))))))))))
+    fields_of h = record { known = grind (arith, common_steps); a = grind (arith, common_steps); b = grind (arith, common_steps); c = grind (arith, common_steps) }
 
     pub program_exactly : (program_ok nq na i r ≡ true) ↔ ProgramRule nq na i r
     program_exactly = (
@@ -133,8 +87,7 @@ module _ (nq na i : ℕ) where
 -- a link stands in the list where its field is a program record
 module _ (r : Program) where
   in_link : (b : Bool) (a : ℕ) (more : List ℕ) {j : ℕ} → Memᴰ j (link_if b a more) → (T b × (j ≡ a)) ⊎ Memᴰ j more
-  in_link true a more k = ⊎_elim (λ e. inl (tt, e)) inr (Memᴰ.cases_cons k)
-  in_link false a more k = inr k
+  in_link b a more k = grind (arith, common_steps)
 
   here : (b : Bool) (a : ℕ) (more : List ℕ) {j : ℕ} → T b → j ≡ a → Memᴰ j (link_if b a more)
   here true a more t e = Memᴰ.head e
@@ -166,31 +119,23 @@ links_lower nq na i r f j k =
 -- the kinds with two parts, with part a alone, with part b alone
 a_parts : (kind : ℕ) → T (has_a kind) → TwoParts kind ⊎ OnePart kind
 unfolding field_a
-a_parts =
-    by_kind (λ (kind : ℕ). T (has_a kind) → TwoParts kind ⊎ OnePart kind)
-    (λ t. absurd t) (λ t. absurd t) (λ t. absurd t) (λ t. inl (inl refl)) (λ t. inl (inr (inl refl))) (λ t. inr (inl refl)) (λ t. inl (inr (inr (inl refl))))
-    (λ t. inr (inr (inl refl))) (λ t. inl (inr (inr (inr (inl refl))))) (λ t. inl (inr (inr (inr (inr refl))))) (λ t. inr (inr (inr (inl refl))))
-    (λ t. inr (inr (inr (inr refl)))) (λ t. absurd t) (λ k t. absurd t)
+a_parts kind t = grind (arith, common_steps)
 
 b_parts : (kind : ℕ) → T (has_b kind) → TwoParts kind ⊎ PartB kind
 unfolding field_b
-b_parts =
-    by_kind (λ (kind : ℕ). T (has_b kind) → TwoParts kind ⊎ PartB kind)
-    (λ t. absurd t) (λ t. absurd t) (λ t. absurd t) (λ t. inl (inl refl)) (λ t. inl (inr (inl refl))) (λ t. absurd t) (λ t. inl (inr (inr (inl refl))))
-    (λ t. absurd t) (λ t. inl (inr (inr (inr (inl refl))))) (λ t. inl (inr (inr (inr (inr refl))))) (λ t. absurd t) (λ t. absurd t) (λ t. inr refl)
-    (λ k t. absurd t)
+b_parts kind t = grind (arith, common_steps)
 
 two_parts : (kind : ℕ) → TwoParts kind → T (has_a kind) × T (has_b kind)
 unfolding field_a field_b
-two_parts kind = ⊎_elim (λ e. rw e (tt, tt)) (⊎_elim (λ e. rw e (tt, tt)) (⊎_elim (λ e. rw e (tt, tt)) (⊎_elim (λ e. rw e (tt, tt)) (λ e. rw e (tt, tt)))))
+two_parts kind t = grind (arith, common_steps)
 
 one_part : (kind : ℕ) → OnePart kind → T (has_a kind)
 unfolding field_a
-one_part kind = ⊎_elim (λ e. rw e tt) (⊎_elim (λ e. rw e tt) (⊎_elim (λ e. rw e tt) (λ e. rw e tt)))
+one_part kind t = grind (arith, common_steps)
 
 part_b : (kind : ℕ) → PartB kind → T (has_b kind)
 unfolding field_b
-part_b kind e = rw e tt
+part_b kind t = grind (arith, common_steps)
 
 -- the links listed are those of the rules
 pub link_exactly : (r : Program) (j : ℕ) → Memᴰ j (links r) ↔ Link r j

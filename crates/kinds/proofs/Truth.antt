@@ -1,5 +1,6 @@
 -- What a formula says depends on the values that it asks for and on what it reads of other formulas: so values and tables that agree there
 -- give it the same truth. A formula without placeholders reads lower ones only. Assumes nothing.
+use Rattle.std.proofs.lemmas.Grind.{common_steps}
 use Prim.Native.Nat.{ℕ, ◌<◌}
 use native.Mathlib.Omega.{arith}
 use mathlib.Core.Path.{◌≡◌, refl}
@@ -40,14 +41,7 @@ module _ (x a b : ℕ) where
       → T (is_plain kind) → (T (has_a kind) → a < i) → (T (has_b kind) → b < i)
       → Reads (formula_of kind x a b) j → j < i
   unfolding field_a field_b Reads
-  lower_read i j =
-      by_kind (λ (kind : ℕ). T (is_plain kind) → (T (has_a kind) → a < i) → (T (has_b kind) → b < i) → Reads (formula_of kind x a b) j → j < i)
-      (λ t p q h. absurd h) (λ t p q h. absurd h) (λ t p q h. absurd h) (λ t p q h. absurd h) (λ t p q h. absurd h)
-      (λ t p q h. at h (p tt)) (λ t p q. ⊎_elim (λ h. at h (p tt)) (λ h. at h (q tt))) (λ t p q. ⊎_elim (λ h. at h (p tt)) (λ h. at h (q tt)))
-      (λ t p q h. absurd h) (λ t p q h. absurd t) (λ t p q h. absurd t) (λ k t p q h. absurd h)
-    where
-      at : {c : ℕ} → c ≡ j → c < i → j < i
-      at e l = omega arith
+  lower_read i j kind t p q h = grind (arith, common_steps)
 
 pub truth_depends :
     (r : Formula) (v v' : List ℕ) (l m : List Bool)

@@ -2,12 +2,37 @@
 -- value a, 3 fluent x is less than a, 4 fluents x and a have equal values, 5 not a, 6 a and b, 7 a or b, 8 fluent x equals placeholder a,
 -- 9, 10 for some, for every value below x in placeholder b, a. That these roles are document 01's rule is proved in
 -- proofs/FormulaFields.antt. The functions of these names are in src/formulas.rt. Assumes nothing.
-use Rattle.std.specs.Prelude.{ℕ, ◌<◌, ◌⊎◌, ◌≡◌, Bool, true, false, ◌&&◌, List, [], ◌∷◌, T, eqb, ltb, leb, get_or}
+use Rattle.std.specs.Prelude.{ℕ, ◌<◌, ◌⊎◌, ◌≡◌, Bool, true, false, ◌&&◌, List, [], ◌∷◌, T, eqb, ltb, leb, get_or, Option, Some, None}
 use Rattle.records.specs.Records.{formula_at}
 use Rattle.records.specs.Placeholders.{put_in}
 use Rattle.records.specs.declared.Formula.{Formula}
+use Rattle.kinds.specs.declared.formulas.Kind.{Kind}
+use Rattle.kinds.specs.declared.formulas.Kind.TheVariants.{True, False, HasValue, LessThan, EqualValues, Not, And, Or, EqualsPlaceholder, ForSome, ForEvery}
 use Rattle.kinds.specs.declared.formulas.Field.{Field}
 use Rattle.kinds.specs.declared.formulas.Field.TheVariants.{Unused, Fluent, Value, Limit, Lower, Placeholder, Choices}
+
+-- the kind of a number, and its number
+abbrev pub kind_of : ℕ → Option Kind
+kind_of number =
+    get_or
+    (
+    Some True ∷ Some False ∷ Some HasValue ∷ Some LessThan ∷ Some EqualValues ∷ Some Not ∷ Some And ∷ Some Or
+    ∷ Some EqualsPlaceholder ∷ Some ForSome ∷ Some ForEvery ∷ []
+    )
+    number None
+
+abbrev pub number_of : Kind → ℕ
+number_of True = 0
+number_of False = 1
+number_of HasValue = 2
+number_of LessThan = 3
+number_of EqualValues = 4
+number_of Not = 5
+number_of And = 6
+number_of Or = 7
+number_of EqualsPlaceholder = 8
+number_of ForSome = 9
+number_of ForEvery = 10
 
 -- what x, a and b are
 unfoldable pub field_x : ℕ → Field

@@ -3,10 +3,37 @@
 -- fields' roles are document 01's rule is proved in proofs/ProgramFields.antt; that no kind does more, or less, than the columns say, in
 -- remaining/proofs/Same.antt. Of 12 the columns say what it is with one value; what it does with each is said there. The functions of these
 -- names are in src/programs.rt. Assumes nothing.
-use Rattle.std.specs.Prelude.{ℕ, ◌+◌, min, Bool, true, false, not, cond, ◌&&◌, ◌||◌, List, [], ◌∷◌, eqb, ltb, leb, get_or}
+use Rattle.std.specs.Prelude.{ℕ, ◌+◌, min, Bool, true, false, not, cond, ◌&&◌, ◌||◌, List, [], ◌∷◌, eqb, ltb, leb, get_or, Option, Some, None}
 use Rattle.records.specs.declared.Program.{Program}
+use Rattle.kinds.specs.declared.programs.Kind.{Kind}
+use Rattle.kinds.specs.declared.programs.Kind.TheVariants.{Nil, Act, Test, Sequence, Choice, Star, If, While, Together, Over, Iteration, Interrupt, Pick}
 use Rattle.kinds.specs.declared.programs.Field.{Field}
 use Rattle.kinds.specs.declared.programs.Field.TheVariants.{Unused, Action, Formula, Record, Choices, Placeholder}
+
+-- the kind of a number, and its number
+abbrev pub kind_of : ℕ → Option Kind
+kind_of number =
+    get_or
+    (
+    Some Nil ∷ Some Act ∷ Some Test ∷ Some Sequence ∷ Some Choice ∷ Some Star ∷ Some If ∷ Some While ∷ Some Together ∷ Some Over
+    ∷ Some Iteration ∷ Some Interrupt ∷ Some Pick ∷ []
+    )
+    number None
+
+abbrev pub number_of : Kind → ℕ
+number_of Nil = 0
+number_of Act = 1
+number_of Test = 2
+number_of Sequence = 3
+number_of Choice = 4
+number_of Star = 5
+number_of If = 6
+number_of While = 7
+number_of Together = 8
+number_of Over = 9
+number_of Iteration = 10
+number_of Interrupt = 11
+number_of Pick = 12
 
 -- what a, b and c are
 unfoldable pub field_a : ℕ → Field

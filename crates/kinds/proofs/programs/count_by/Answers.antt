@@ -1,55 +1,40 @@
--- In each arm the kind is known, so the column has one entry there, which the arm computes; the kinds that no arm names have 0. Assumes nothing.
-use mathlib.Core.Path.{◌≡◌, refl}
-use Prim.Native.Nat.{ℕ}
-use mathlib.Core.Logic.{inl, inr, ⊎_elim}
+-- In these arms, which choose by a test, the kind has its number, and the column has one entry there. Assumes nothing.
+use mathlib.Core.Bool.{Bool, true, false, cond}
+use mathlib.Core.Path.{◌≡◌, refl, ◌∙◌}
+use mir.Val.{bool_byte}
+use Rattle.kinds.specs.declared.programs.Kind.TheVariants.{Act, Test, Sequence, If, While, Over, Interrupt}
 use Rattle.kinds.specs.Programs.{count_of, count_by}
-use Rattle.kinds.proofs.ProgramKinds.{by_kind, record_of}
+use Rattle.kinds.proofs.ProgramKinds.{number_is}
 use Rattle.kinds.proofs.programs.count_by.Goals as goal
 
-pub returns-in-1 : goal.returns-in-1
-unfolding count_by count_of
-returns-in-1 c = rw c.in-1.is cc
+one_if : (b : Bool) → bool_byte b ≡ cond b 1 0
+one_if true = refl
+one_if false = refl
 
-pub returns-in-2 : goal.returns-in-2
+pub returns-in-Some-Act : goal.returns-in-Some-Act
 unfolding count_by count_of
-returns-in-2 c = rw c.in-2.is cc
+returns-in-Some-Act c = rw (number_is c.args.r.kind {k = Act} (cc)) (c.from.ensures ∙ one_if _)
 
-pub returns-in-3 : goal.returns-in-3
+pub returns-in-Some-Test : goal.returns-in-Some-Test
 unfolding count_by count_of
-returns-in-3 c = rw c.in-3.is cc
+returns-in-Some-Test c = rw (number_is c.args.r.kind {k = Test} (cc)) (rw c.value_in.ensures at (c.from-in-Some-Test.ensures ∙ one_if _))
 
-pub returns-in-4 : goal.returns-in-4
+pub returns-in-Some-Sequence : goal.returns-in-Some-Sequence
 unfolding count_by count_of
-returns-in-4 c = ⊎_elim (λ e. rw e cc) (λ e. rw e cc) c.in-4.is
+returns-in-Some-Sequence c = rw (number_is c.args.r.kind {k = Sequence} (cc)) (rw c.value_in-in-Some-Sequence.ensures at c.both_if.ensures)
 
-pub returns-in-5 : goal.returns-in-5
+pub returns-in-Some-If : goal.returns-in-Some-If
 unfolding count_by count_of
-returns-in-5 c = ⊎_elim (λ e. rw e cc) (λ e. rw e cc) c.in-5.is
+returns-in-Some-If c = rw (number_is c.args.r.kind {k = If} (cc)) (rw c.value_in-in-Some-If.ensures at c.either.ensures)
 
-pub returns-in-6 : goal.returns-in-6
+pub returns-in-Some-While : goal.returns-in-Some-While
 unfolding count_by count_of
-returns-in-6 c = rw c.in-6.is cc
+returns-in-Some-While c = rw (number_is c.args.r.kind {k = While} (cc)) (rw c.value_in-in-Some-While.ensures at c.part-in-Some-While.ensures.0)
 
-pub returns-in-7 : goal.returns-in-7
+pub returns-in-Some-Over : goal.returns-in-Some-Over
 unfolding count_by count_of
-returns-in-7 c = rw c.in-7.is cc
+returns-in-Some-Over c = rw (number_is c.args.r.kind {k = Over} (cc)) (rw c.value_in-in-Some-Over.ensures at c.both_if-in-Some-Over.ensures)
 
-pub returns-in-9 : goal.returns-in-9
+pub returns-in-Some-Interrupt : goal.returns-in-Some-Interrupt
 unfolding count_by count_of
-returns-in-9 c = rw c.in-9.is cc
-
-pub returns-in-11 : goal.returns-in-11
-unfolding count_by count_of
-returns-in-11 c = rw c.in-11.is cc
-
-pub returns-in_default : goal.returns-in_default
-unfolding count_by count_of
-returns-in_default c =
-    let a = c.args in
-    let r = c.in_default.in_default-own.rest in
-    by_kind (λ (k : ℕ). a.r.kind ≡ k → 0 ≡ count_by (record_of k a.r.a a.r.b a.r.c) a.can a.truths.now a.running a.finals.now a.counts.now)
-    (λ e. refl) (λ e. absurd (r.0.0.0.0.0.0.0.0.1 e)) (λ e. absurd (r.0.0.0.0.0.0.0.1 e)) (λ e. absurd (r.0.0.0.0.0.0.1 e))
-    (λ e. absurd (r.0.0.0.0.0.1 (inl e))) (λ e. absurd (r.0.0.0.0.1 (inl e))) (λ e. absurd (r.0.0.0.1 e)) (λ e. absurd (r.0.0.1 e))
-    (λ e. absurd (r.0.0.0.0.0.1 (inr e))) (λ e. absurd (r.0.1 e)) (λ e. absurd (r.0.0.0.0.1 (inr e))) (λ e. absurd (r.1 e)) (λ e. refl)
-    (λ k e. refl)
-    a.r.kind refl
+returns-in-Some-Interrupt c = rw (number_is c.args.r.kind {k = Interrupt} (cc)) (rw c.value_in-in-Some-Interrupt.ensures at c.part-in-Some-Interrupt.ensures.0)
