@@ -1,11 +1,12 @@
 -- The steps of a check in rising order, and what its tests tell. Assumes nothing.
 use mathlib.Core.Path.{◌≡◌, refl, ◌∙◌, ap}
-use mathlib.Core.Bool.{Bool, true, false, ◌&&◌}
+use mathlib.Core.Bool.{Bool, true, false}
 use mathlib.Core.List.{List}
 use mathlib.Core.Logic.{◌↔◌}
 use Prim.Native.Nat.{ℕ, ◌+◌, ◌≤◌, ◌<◌, ◌-◌}
 use native.Mathlib.Omega.{arith}
 use borrow.Author.Tests.{lt-ltb, le-ltb, le-leb, eq-eqb, ne_eqb, leb-true, eqb-true}
+use Rattle.std.proofs.lemmas.Bool.Decides.{nat_tests}
 use lib.ListN.{length}
 use lib.Dec.{leb, eqb}
 use Rattle.records.proofs.Truth.{and_left, and_right}
@@ -14,20 +15,9 @@ use Rattle.height.specs.Height.{height_of}
 use Rattle.height.specs.Work.{levels, work_words}
 use Rattle.sheet.specs.Trailer.{trailer_of, limits_ok, WithinLimits, record_bytes, distance_ok}
 use Rattle.sheet.specs.Layout.{layout_in, LaidOut, programs_in}
-use Rattle.sheet.specs.Check.{refused, refused_at, names_in, height_checked, records_checked, trailer_checked, check_of, Checked, accepted_with}
+use Rattle.sheet.specs.Check.{refused, names_in, height_checked, records_checked, trailer_checked, check_of, Checked, accepted_with}
 use Rattle.sheet.specs.declared.Trailer.{Trailer}
 use Rattle.sheet.specs.declared.Layout.{Layout}
-
-module _ (number i j n : ℕ) (next : Checked) (e : i ≡ j) where
-  -- the record at i is faulty: the answer is its number and place
-  pub faulty : i < n → refused number i ≡ refused_at number j n next
-  unfolding refused_at
-  faulty l = rw (← e) (simp (lt-ltb i n l))
-
-  -- no record is faulty: the answer is what comes next
-  pub clear : {x : Checked} → n ≤ i → x ≡ next → x ≡ refused_at number j n next
-  unfolding refused_at
-  clear l r = rw (← e) (simp (le-ltb i n l) r)
 
 module _ (s : List ℕ) (l : Layout) (h : ℕ) (e : h ≡ height_of (program_at (programs_in s l)) l.p) where
   pub too_high : 16 < h → refused 9 0 ≡ height_checked s l
@@ -41,28 +31,15 @@ module _ (s : List ℕ) (l : Layout) (h : ℕ) (e : h ≡ height_of (program_at 
 pub within : (t : Trailer) → limits_ok t ≡ true → WithinLimits t
 unfolding limits_ok
 within t h =
-    let l₁ : Bool = leb 1 t.f in
-    let l₂ : Bool = l₁ && leb t.f 32 in
-    let l₃ : Bool = l₂ && leb t.q 512 in
-    let l₄ : Bool = l₃ && leb t.e 512 in
-    let l₅ : Bool = l₄ && leb t.a 64 in
-    let l₆ : Bool = l₅ && leb 1 t.p in
-    let l₇ : Bool = l₆ && leb t.p 256 in
-    let e₇ = and_left l₇ (leb t.d 64) h in
-    let e₆ = and_left l₆ (leb t.p 256) e₇ in
-    let e₅ = and_left l₅ (leb 1 t.p) e₆ in
-    let e₄ = and_left l₄ (leb t.a 64) e₅ in
-    let e₃ = and_left l₃ (leb t.e 512) e₄ in
-    let e₂ = and_left l₂ (leb t.q 512) e₃ in
     record {
-      some_fluent = leb-true _ _ (and_left l₁ (leb t.f 32) e₂);
-      f = leb-true _ _ (and_right l₁ (leb t.f 32) e₂);
-      q = leb-true _ _ (and_right l₂ (leb t.q 512) e₃);
-      e = leb-true _ _ (and_right l₃ (leb t.e 512) e₄);
-      a = leb-true _ _ (and_right l₄ (leb t.a 64) e₅);
-      some_record = leb-true _ _ (and_right l₅ (leb 1 t.p) e₆);
-      p = leb-true _ _ (and_right l₆ (leb t.p 256) e₇);
-      d = leb-true _ _ (and_right l₇ (leb t.d 64) h);
+      some_fluent = grind (arith, nat_tests);
+      f = grind (arith, nat_tests);
+      q = grind (arith, nat_tests);
+      e = grind (arith, nat_tests);
+      a = grind (arith, nat_tests);
+      some_record = grind (arith, nat_tests);
+      p = grind (arith, nat_tests);
+      d = grind (arith, nat_tests);
     }
 
 pub limits_exactly : (t : Trailer) → (limits_ok t ≡ true) ↔ WithinLimits t

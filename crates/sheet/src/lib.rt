@@ -1,11 +1,11 @@
 // The sheet: its trailer, its five tables as parts, the nine checks, and the notes.
 #![tactic(auto)]
 
-ghost use Rattle.std.specs.Prelude.{◌≡◌, ◌+◌, ◌*◌, ◌≤◌, length, Err, IfOk, IfErr};
+ghost use Rattle.std.specs.Prelude.{◌≡◌, ℕ, ◌+◌, ◌*◌, ◌≤◌, length, Err, IfOk, IfErr};
 ghost use Rattle.records.specs.Records.{ProgramTable};
 ghost use Rattle.sheet.specs.Trailer.{trailer_of, limits_ok, WithinLimits, record_bytes, distance_ok};
 ghost use Rattle.sheet.specs.Layout.{layout_in, layout_of, LaidOut, fluents_in, formulas_in, effects_in, actions_in, programs_in};
-ghost use Rattle.sheet.specs.Check.{Checked, names_in, cause_number, refusal_of, tables_checked, height_checked, check_of, Accepts, number_of, place_of};
+ghost use Rattle.sheet.specs.Check.{Checked, names_in, cause_number, refusal_of, refused_at, tables_checked, height_checked, check_of, Accepts, number_of, place_of};
 ghost use Rattle.sheet.specs.Inspection.{unless, inspection_in, inspected_in, inspect_of, Of};
 ghost use Rattle.sheet.specs.Notes.{notes_of};
 
@@ -145,23 +145,15 @@ pub fn read_trailer(s: &[u8]) -> Trailer
     let end = s.len();
     let start = end - TRAILER;
     let t = &s[start..end];
-    let f = records::read16(t, 0);
-    let q = records::read16(t, 2);
-    let e = records::read16(t, 4);
-    let a = records::read16(t, 6);
-    let p = records::read16(t, 8);
-    let d = records::read16(t, 10);
-    let distance = records::read32(t, 12);
-    let magic = records::read16(t, 16);
     Trailer {
-        f,
-        q,
-        e,
-        a,
-        p,
-        d,
-        distance,
-        magic,
+        f: records::read16(t, 0),
+        q: records::read16(t, 2),
+        e: records::read16(t, 4),
+        a: records::read16(t, 6),
+        p: records::read16(t, 8),
+        d: records::read16(t, 10),
+        distance: records::read32(t, 12),
+        magic: records::read16(t, 16),
     }
 }
 
@@ -217,39 +209,43 @@ fn lay_out(t: Trailer, room: usize) -> Layout
     }
 }
 
+// Refuses record i of a table of n, unless it is past the end.
+fn unless_faulty(cause: Cause, i: usize, n: usize) -> Result<(), Refusal>
+    ensures { (j : ℕ) (next : Checked) → i ≡ j → unless result next ≡ refused_at (cause_number cause) j n next }
+{
+    if i < n {
+        return Err(Refusal::at(cause, i));
+    }
+    Ok(())
+}
+
 // The first table with a record that breaks its rule, and the lowest such record.
 fn check_tables(s: &[u8], l: Layout) -> Result<(), Refusal>
     requires { LaidOut l (length s.now) }
     ensures { (next : Checked) → unless result next ≡ tables_checked s.now l next }
 {
-    let at_fluents = l.fluents;
-    let at_formulas = l.formulas;
-    let at_effects = l.effects;
-    let at_actions = l.actions;
-    let at_programs = l.programs;
-    let end = l.end;
-    let sizes = &s[at_fluents..at_formulas];
-    let a = rules::fluents(sizes, l.f);
-    if a < l.f {
-        return Err(Refusal::at(Cause::Fluent, a));
-    }
-    let b = rules::formulas(sizes, l.f, &s[at_formulas..at_effects], l.q);
-    if b < l.q {
-        return Err(Refusal::at(Cause::Formula, b));
-    }
-    let c = rules::effects(sizes, l.f, l.q, &s[at_effects..at_actions], l.e);
-    if c < l.e {
-        return Err(Refusal::at(Cause::Effect, c));
-    }
-    let d = rules::actions(l.q, l.e, &s[at_actions..at_programs], l.a);
-    if d < l.a {
-        return Err(Refusal::at(Cause::Action, d));
-    }
-    let e = rules::programs(l.q, l.a, &s[at_programs..end], l.p);
-    if e < l.p {
-        return Err(Refusal::at(Cause::Program, e));
-    }
-    Ok(())
+    let sizes = &s[l.fluents..l.formulas];
+    unless_faulty(Cause::Fluent, rules::fluents(sizes, l.f), l.f)?;
+    unless_faulty(
+        Cause::Formula,
+        rules::formulas(sizes, l.f, &s[l.formulas..l.effects], l.q),
+        l.q,
+    )?;
+    unless_faulty(
+        Cause::Effect,
+        rules::effects(sizes, l.f, l.q, &s[l.effects..l.actions], l.e),
+        l.e,
+    )?;
+    unless_faulty(
+        Cause::Action,
+        rules::actions(l.q, l.e, &s[l.actions..l.programs], l.a),
+        l.a,
+    )?;
+    unless_faulty(
+        Cause::Program,
+        rules::programs(l.q, l.a, &s[l.programs..l.end], l.p),
+        l.p,
+    )
 }
 
 // What is found where every record keeps its rule, unless the program is too high.
@@ -258,9 +254,7 @@ fn measure(s: &[u8], l: Layout) -> Result<Inspection, Refusal>
     requires { LaidOut l (length s.now) }
     ensures { result ≡ inspected_in s.now l (height_checked s.now l) }
 {
-    let start = l.programs;
-    let end = l.end;
-    let programs = &s[start..end];
+    let programs = &s[l.programs..l.end];
     let h = height::height(programs, l.p);
     if MOST_HEIGHT < h {
         return Err(Refusal::from(Cause::Height));

@@ -8,33 +8,33 @@ use native.Mathlib.Omega.{arith}
 use lib.ListN.{length, get_or, drop, length-drop}
 use lib.Seq.{get_or-take, length-take-le}
 use lib.Dec.{ltb}
-use borrow.Author.Tests.{lt-ltb, le-ltb, ne_eqb}
+use borrow.Author.Tests.{lt-ltb, le-ltb}
 use denote.Ref.{Bor}
 use Rattle.records.specs.Bytes.{part}
 use Rattle.records.specs.Records.{fluent_at}
 use Rattle.sheet.specs.Trailer.{trailer_of}
 use Rattle.sheet.specs.Layout.{layout_of, layout_in, fluents_in}
-use Rattle.sheet.specs.Check.{refusal_of, check_of}
-use Rattle.sheet.specs.declared.Checked.{Checked}
-use Rattle.sheet.specs.declared.Checked.TheVariants.{Accepted, Refused}
+use Rattle.std.specs.Prelude.{Ok, Err}
+use Rattle.sheet.specs.Check.{Checked, accepted_with, refusal_of, check_of}
 use Rattle.sheet.proofs.Accepted.{trailed, laid}
-use Rattle.sheet.proofs.Numbers.{Numbered, numbered}
-use Rattle.lookup.specs.LookUp.{looked_in, looked_up, look_of}
-use Rattle.lookup.specs.declared.Looked.TheVariants as looked
-use Rattle.view.specs.View.{opened_as, count_from, found_from, view_of, view_with, found_in}
+use Rattle.lookup.specs.LookUp.{Looked, looked_in, looked_up, look_of}
+use Rattle.view.specs.View.{opened_as, count_from, found_at, found_from, view_of, found_in}
+
+abbrev fluent : (size initial : ℕ) → Looked
+fluent size initial = Ok (record { size = size; initial = initial })
 
 -- two tables whose first n records are the same
 same_in : (t u : List ℕ) (n x : ℕ) → ((j : ℕ) → j < 2 * n → get_or t j 0 ≡ get_or u j 0) → looked_in t n x ≡ looked_in u n x
 unfolding looked_in fluent_at
 same_in t u n x same =
     elim (dec_lt x n) [
-      | yes l ↦ simp (lt-ltb x n l) (ap₂ looked.Found (same (2 * x) (omega arith)) (same (2 * x + 1) (omega arith)))
+      | yes l ↦ simp (lt-ltb x n l) (ap₂ fluent (same (2 * x) (omega arith)) (same (2 * x + 1) (omega arith)))
       | no l ↦ let g : n ≤ x = omega arith in simp (le-ltb x n g)
     ]
 
 module _ (s : List ℕ) (at : ℕ) where
   -- past the end there is no fluent
-  pub past_end : (x : ℕ) → length s < at → looked.Refused (refusal_of 12 0) ≡ looked_in (part s at (length s)) (count_from s at) x
+  pub past_end : (x : ℕ) → length s < at → Err (refusal_of 12 0) ≡ looked_in (part s at (length s)) (count_from s at) x
   unfolding looked_in count_from
   past_end x l =
       let none : (length s - at) / 2 ≡ 0 = omega arith in
@@ -46,9 +46,9 @@ module _ (s : List ℕ) (at : ℕ) where
       simp (few, le-ltb x 0 (omega arith))
 
   -- the bytes from the offset on hold the fluents counted
-  pub table_long : {k : ℕ} → k ≡ count_from s at → at ≤ length s → 2 * k ≤ length (part s at (length s))
+  pub table_long : (k : ℕ) → k ≡ count_from s at → at ≤ length s → 2 * k ≤ length (part s at (length s))
   unfolding count_from
-  table_long {k} e l =
+  table_long k e l =
       let half : k ≤ (length s - at) / 2 =
       elim (dec_lt (length s) 18) [
         | yes h ↦ rw e (simp (lt-ltb (length s) 18 h) (omega arith))
@@ -58,7 +58,7 @@ module _ (s : List ℕ) (at : ℕ) where
       length-take-le (length s - at) (drop at s) (let d = length-drop at s in omega (arith, d)) in
       rw long (omega arith)
 
-module _ (s : List ℕ) (w u x : ℕ) (e : check_of s ≡ Accepted w u) where
+module _ (s : List ℕ) (w u x : ℕ) (e : check_of s ≡ accepted_with w u) where
   -- the bytes from the table on hold as many fluents as the trailer counts
   whole : count_from s (layout_of s).fluents ≡ (layout_of s).f
   unfolding count_from layout_of layout_in
@@ -69,8 +69,8 @@ module _ (s : List ℕ) (w u x : ℕ) (e : check_of s ≡ Accepted w u) where
       omega (arith, l.at_formulas, l.at_effects, l.at_actions, l.at_programs, l.at_end, l.inside) in
       simp (le-ltb (length s) 18 t.long) m
 
-  accepted : found_from s (layout_of s).fluents 0 0 x ≡ looked_in (fluents_in s (layout_of s)) (layout_of s).f x
-  unfolding found_from
+  accepted : found_at s (layout_of s).fluents x ≡ looked_in (fluents_in s (layout_of s)) (layout_of s).f x
+  unfolding found_at
   accepted =
       let l = layout_of s in
       let n : ℕ = length s in
@@ -82,14 +82,10 @@ module _ (s : List ℕ) (w u x : ℕ) (e : check_of s ≡ Accepted w u) where
       let g : j < l.formulas - l.fluents = omega (arith, f.at_formulas) in
       get_or-take (n - l.fluents) (drop l.fluents s) j 0 (omega arith) ∙ sym (get_or-take (l.formulas - l.fluents) (drop l.fluents s) j 0 g))
 
-refused : (s : List ℕ) (n p x : ℕ) → 1 ≤ n → found_from s 0 n p x ≡ looked.Refused (refusal_of n p)
-unfolding found_from
-refused s n p x l = simp (ne_eqb n 0 (λ (z : n ≡ 0). omega arith))
-
-found_as : (s : Bor (List ℕ)) (x : ℕ) (c : Checked) → check_of s.now ≡ c → Numbered c → found_in (view_with s (opened_as s.now c)) x ≡ looked_up s.now x c
-found_as s x (Accepted w u) e h = accepted s.now w u x e
-found_as s x (Refused why) e h = refused s.now why.number why.place x h.0
+found_as : (s : List ℕ) (x : ℕ) (c : Checked) → check_of s ≡ c → found_from s (opened_as s c) x ≡ looked_up s x c
+found_as s x (Ok a) e = accepted s a.words a.names x e
+found_as s x (Err why) e = refl
 
 pub found : (s : Bor (List ℕ)) (x : ℕ) → found_in (view_of s) x ≡ look_of s.now x
 unfolding look_of
-found s x = found_as s x (check_of s.now) refl (numbered s.now)
+found s x = found_as s.now x (check_of s.now) refl

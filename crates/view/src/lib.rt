@@ -2,58 +2,29 @@
 // `find`, and `look_up` stands above them.
 #![tactic(auto)]
 
-ghost use Rattle.std.specs.Prelude.{◌≡◌, min};
+ghost use Rattle.std.specs.Prelude.{◌≡◌};
 ghost use Rattle.lookup.specs.LookUp.{look_of};
-ghost use Rattle.view.specs.View.{opened_of, count_from, found_from, view_of, found_in};
+ghost use Rattle.view.specs.View.{opened_of, count_from, found_at, view_of, found_in};
 
-use lookup::Looked;
-use sheet::{Inspected, Refusal};
+use records::Fluent;
+use sheet::{Cause, Refusal};
 
-// Document 01: "a struct holding the sheet slice and table offset"; the number and the place say why a sheet was turned away, and are 0
-// where it was not.
+// Document 01: "a struct holding the sheet slice and table offset"; or, of a sheet that was turned away, why. A view that an earlier version
+// held with a number of 0 is `Ok` of its offset, and one with another number is `Err` of number and place: each finds what it found.
 #[derive(Clone, Copy)]
 pub struct View<'a> {
     pub src: &'a [u8],
-    pub at: usize,
-    pub number: u32,
-    pub place: usize,
+    pub opened: Result<usize, Refusal>,
 }
 
-// What a view holds beside the slice.
-#[derive(Clone, Copy)]
-pub struct Opened {
-    pub at: usize,
-    pub number: u32,
-    pub place: usize,
-}
-
-fn opened_of(s: &[u8]) -> Opened
+fn opened_of(s: &[u8]) -> Result<usize, Refusal>
     ensures { result ≡ opened_of s.now }
 {
-    match sheet::inspect(s) {
-        Inspected::Accepted { found } => {
-            let l = found.layout;
-            Opened {
-                at: l.fluents,
-                number: 0,
-                place: 0,
-            }
-        }
-        Inspected::Refused { why } => Opened {
-            at: 0,
-            number: why.number,
-            place: why.place,
-        },
-    }
-}
-
-fn smaller(a: usize, b: usize) -> usize
-    ensures { result ≡ min a b }
-{
-    if a < b { a } else { b }
+    Ok(sheet::inspect(s)?.layout.fluents)
 }
 
 // How many fluents stand from an offset on: no more than the trailer counts and than the bytes hold.
+#[tactic(auto, unfolding(crate::specs::View::count_from))]
 fn count_from(s: &[u8], at: usize) -> usize
     ensures { result ≡ count_from s.now at }
 {
@@ -61,30 +32,17 @@ fn count_from(s: &[u8], at: usize) -> usize
     if n < 18 {
         return 0;
     }
-    if n < at {
-        return 0;
-    }
-    let t = sheet::read_trailer(s);
-    smaller(t.f, (n - at) / 2)
+    sheet::read_trailer(s).f.min(n.saturating_sub(at) / 2)
 }
 
-// Fluent x of the table that starts at an offset, unless there is a number.
-fn find_in(s: &[u8], at: usize, number: u32, place: usize, x: usize) -> Looked
-    ensures { result ≡ found_from s.now at number place x }
+// Fluent x of the table that starts at an offset.
+#[tactic(auto, using(crate::proofs::Finding::past_end, crate::proofs::Finding::table_long), unfolding(crate::specs::View::found_at))]
+fn find_in(s: &[u8], at: usize, x: usize) -> Result<Fluent, Refusal>
+    ensures { result ≡ found_at s.now at x }
 {
-    if number != 0 {
-        return Looked::Refused {
-            why: Refusal { number, place },
-        };
-    }
     let n = s.len();
     if n < at {
-        return Looked::Refused {
-            why: Refusal {
-                number: 12,
-                place: 0,
-            },
-        };
+        return Err(Refusal::from(Cause::NoFluent));
     }
     lookup::look_in(&s[at..n], count_from(s, at), x)
 }
@@ -93,32 +51,23 @@ fn find_in(s: &[u8], at: usize, number: u32, place: usize, x: usize) -> Looked
 pub fn open<'a>(s: &'a [u8]) -> View<'a>
     ensures { result ≡ view_of s.entry }
 {
-    let o = opened_of(s);
     View {
         src: s,
-        at: o.at,
-        number: o.number,
-        place: o.place,
+        opened: opened_of(s),
     }
 }
 
 // Fluent x in a view, whatever the view holds.
-pub fn find<'a>(v: View<'a>, x: usize) -> Looked
+pub fn find<'a>(v: View<'a>, x: usize) -> Result<Fluent, Refusal>
     ensures { result ≡ found_in v.entry x }
 {
-    find_in(v.src, v.at, v.number, v.place, x)
-}
-
-// Fluent x in a view of a sheet.
-fn viewed(s: &[u8], x: usize) -> Looked
-    ensures { result ≡ found_in (view_of s.entry) x }
-{
-    find(open(s), x)
+    find_in(v.src, v.opened?, x)
 }
 
 // Fluent x of a sheet.
-pub fn look_up(s: &[u8], x: usize) -> Looked
+#[tactic(auto, using(crate::proofs::Finding::found))]
+pub fn look_up(s: &[u8], x: usize) -> Result<Fluent, Refusal>
     ensures { result ≡ look_of s.now x }
 {
-    viewed(s, x)
+    find(open(s), x)
 }

@@ -1,55 +1,48 @@
--- A table has a faulty record, after tables that have none; or no table has one. Assumes nothing.
-use mathlib.Core.Path.{refl}
+-- A table has a faulty record, after tables that have none; or the last table decides. Assumes nothing.
+use mathlib.Core.Path.{◌∙◌}
+use Rattle.std.proofs.lemmas.Result.{err_from_is_err_and}
 use Rattle.sheet.specs.Check.{tables_checked}
-use Rattle.sheet.proofs.Checking.{faulty, clear}
 use Rattle.sheet.proofs.check_tables.Goals as goal
 
-pub returns-then-a-l : goal.returns-then-a-l
+pub returns-in_err-unless_faulty : goal.returns-in_err-unless_faulty
 unfolding tables_checked
-returns-then-a-l c =
+returns-in_err-unless_faulty c =
     λ next.
-    rw c.at.ensures (faulty _ _ _ _ _ c.fluents-a.ensures c.if-a-l.true)
+    let p = err_from_is_err_and c.from_residual.result c.from_residual.ensures.1 in
+    rw (p.1, p.2) (c.in_err-unless_faulty.ensures _ _ c.fluents.ensures)
 
-pub returns-then-b-l : goal.returns-then-b-l
+pub returns-in_err-unless_faulty-2 : goal.returns-in_err-unless_faulty-2
 unfolding tables_checked
-returns-then-b-l c =
+returns-in_err-unless_faulty-2 c =
     λ next.
-    rw c.at-then-b-l.ensures
-    (clear _ _ _ _ _ c.fluents-a.ensures c.if-a-l.false (faulty _ _ _ _ _ c.formulas-b.ensures c.if-b-l.true))
+    let p = err_from_is_err_and c.from_residual-in_err-unless_faulty-2.result c.from_residual-in_err-unless_faulty-2.ensures.1 in
+    rw (p.1, p.2) (c.in_err-unless_faulty-2.ensures _ _ c.formulas.ensures ∙ c.in_ok-unless_faulty.ensures _ _ c.fluents.ensures)
 
-pub returns-then-c-l : goal.returns-then-c-l
+pub returns-in_err-unless_faulty-3 : goal.returns-in_err-unless_faulty-3
 unfolding tables_checked
-returns-then-c-l c =
+returns-in_err-unless_faulty-3 c =
     λ next.
-    rw c.at-then-c-l.ensures
-    (clear _ _ _ _ _ c.fluents-a.ensures c.if-a-l.false
-    (clear _ _ _ _ _ c.formulas-b.ensures c.if-b-l.false (faulty _ _ _ _ _ c.effects-c.ensures c.if-c-l.true)))
+    let p = err_from_is_err_and c.from_residual-in_err-unless_faulty-3.result c.from_residual-in_err-unless_faulty-3.ensures.1 in
+    rw (p.1, p.2)
+    (c.in_err-unless_faulty-3.ensures _ _ c.effects.ensures ∙ c.in_ok-unless_faulty-2.ensures _ _ c.formulas.ensures ∙ c.in_ok-unless_faulty.ensures _ _ c.fluents.ensures)
 
-pub returns-then-d-l : goal.returns-then-d-l
+pub returns-in_err-unless_faulty-4 : goal.returns-in_err-unless_faulty-4
 unfolding tables_checked
-returns-then-d-l c =
+returns-in_err-unless_faulty-4 c =
     λ next.
-    rw c.at-then-d-l.ensures
-    (clear _ _ _ _ _ c.fluents-a.ensures c.if-a-l.false
-    (clear _ _ _ _ _ c.formulas-b.ensures c.if-b-l.false
-    (clear _ _ _ _ _ c.effects-c.ensures c.if-c-l.false (faulty _ _ _ _ _ c.actions-d.ensures c.if-d-l.true))))
-
-pub returns-then-e-l : goal.returns-then-e-l
-unfolding tables_checked
-returns-then-e-l c =
-    λ next.
-    rw c.at-then-e-l.ensures
-    (clear _ _ _ _ _ c.fluents-a.ensures c.if-a-l.false
-    (clear _ _ _ _ _ c.formulas-b.ensures c.if-b-l.false
-    (clear _ _ _ _ _ c.effects-c.ensures c.if-c-l.false
-    (clear _ _ _ _ _ c.actions-d.ensures c.if-d-l.false (faulty _ _ _ _ _ c.programs-e.ensures c.if-e-l.true)))))
+    let p = err_from_is_err_and c.from_residual-in_err-unless_faulty-4.result c.from_residual-in_err-unless_faulty-4.ensures.1 in
+    rw (p.1, p.2)
+    (c.in_err-unless_faulty-4.ensures _ _ c.actions.ensures
+    ∙ c.in_ok-unless_faulty-3.ensures _ _ c.effects.ensures
+    ∙ c.in_ok-unless_faulty-2.ensures _ _ c.formulas.ensures
+    ∙ c.in_ok-unless_faulty.ensures _ _ c.fluents.ensures)
 
 pub returns : goal.returns
 unfolding tables_checked
 returns c =
     λ next.
-    clear _ _ _ _ _ c.fluents-a.ensures c.if-a-l.false
-    (clear _ _ _ _ _ c.formulas-b.ensures c.if-b-l.false
-    (clear _ _ _ _ _ c.effects-c.ensures c.if-c-l.false
-    (clear _ _ _ _ _ c.actions-d.ensures c.if-d-l.false
-    (clear _ _ _ _ _ c.programs-e.ensures c.if-e-l.false refl))))
+    c.unless_faulty-5.ensures _ next c.programs.ensures
+    ∙ c.in_ok-unless_faulty-4.ensures _ _ c.actions.ensures
+    ∙ c.in_ok-unless_faulty-3.ensures _ _ c.effects.ensures
+    ∙ c.in_ok-unless_faulty-2.ensures _ _ c.formulas.ensures
+    ∙ c.in_ok-unless_faulty.ensures _ _ c.fluents.ensures
