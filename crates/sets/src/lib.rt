@@ -179,6 +179,7 @@ fn has_bit(word: u32, at: usize) -> bool
 }
 
 // Whether environment e is in x.
+#[tactic(auto, unfolding(crate::specs::Sets::member))]
 pub fn has(x: &[u32], e: usize) -> bool
     requires { (length x.now ≡ 8) × (e < 256) }
     ensures { result ≡ member x.now e }
@@ -205,6 +206,7 @@ pub fn set_at(table: &[u32], i: usize) -> [u32; WORDS]
 }
 
 // Whether environment e is in set i of a table.
+#[tactic(auto, using(crate::proofs::Tables::member_at))]
 pub fn has_in(table: &[u32], i: usize, e: usize) -> bool
     requires { (8 * i + 8 ≤ length table.now) × (e < 256) }
     ensures { result ≡ member (set_at table.now i) e }
