@@ -137,10 +137,8 @@ pub fn fill(formulas: &[u8], n: usize, s: State, table: &mut [u32])
     ensures { Filled formulas.now s.values n table.old table.new }
 {
     let values = s.values;
-    let mut i = 0;
-    while i < n {
+    for i in 0..n {
         let set = next_set(formulas, &values, table, i);
         sets::put_set(table, i, set);
-        i += 1;
     }
 }

@@ -1,25 +1,13 @@
 -- Evaluation by the parts of a formula, and a walk by its last value and those below: lower formulas, then values left. Assumes nothing.
-use mathlib.Core.Path.{sym, subst}
 use mathlib.Core.Logic.{inl, inr}
 use native.Mathlib.Omega.{arith}
 use Rattle.kinds.specs.Formulas.{field_a, field_b}
-use Rattle.truths.specs.Held.{HoldsIn}
 use Rattle.truths.specs.Evaluated.{said_in}
 use Rattle.truths.proofs.Said.{says}
 use Rattle.truths.proofs.Composing.{no_parts, of_kind, not_set, and_set, or_set}
 use Rattle.truths.proofs.Walking.{walk_none, walk_every, walk_some}
 use Rattle.truths.proofs.Evaluating.{evaluable_lower, rule, a_lower, b_lower, evaluated}
 use Rattle.truths.proofs.+evaluate_walk.Goals as goal
-
-pub evaluate-set_at-requires : goal.evaluate-set_at-requires
-evaluate-set_at-requires t c = omega (arith, c.requires.room, c.if-i-filled.true)
-
-pub evaluate-returns-then-i-filled : goal.evaluate-returns-then-i-filled
-evaluate-returns-then-i-filled t c W s from v H =
-    subst (HoldsIn W s c.args.i) (sym c.set_at.ensures) (H c.args.i c.if-i-filled.true)
-
-pub evaluate-formula_at-r-requires : goal.evaluate-formula_at-r-requires
-evaluate-formula_at-r-requires t c = omega (arith, c.requires.long)
 
 pub evaluate-evaluate-requires : goal.evaluate-evaluate-requires
 unfolding field_a
@@ -105,21 +93,6 @@ evaluate-returns-in_default t c W s from v H = evaluated c.requires c.formula_at
 pub walk-returns-then-left-eq0 : goal.walk-returns-then-left-eq0
 walk-returns-then-left-eq0 t c W s from v H =
     walk_none (says W s c.args.a) c.args.c c.args.every (omega (arith, c.if-left-eq0.true)) c.whole.ensures
-
-pub walk-overflow_sub-v : goal.walk-overflow_sub-v
-walk-overflow_sub-v t c = omega (arith, c.if-left-eq0.false)
-
-pub walk-evaluate-inner-requires : goal.walk-evaluate-inner-requires
-walk-evaluate-inner-requires t c =
-    (omega (arith, c.decreases), c.requires.0)
-
-pub walk-given-last-requires : goal.walk-given-last-requires
-walk-given-last-requires t c =
-    (omega (arith, c.requires.1), omega (arith, c.requires.2, c.if-left-eq0.false))
-
-pub walk-walk-lower-requires : goal.walk-walk-lower-requires
-walk-walk-lower-requires t c =
-    (omega (arith, c.decreases, c.if-left-eq0.false), (c.requires.0, c.requires.1, omega (arith, c.requires.2)))
 
 pub walk-returns-then-every : goal.walk-returns-then-every
 walk-returns-then-every t c W s from v H =
