@@ -42,6 +42,7 @@ fn atom_set(r: Formula, values: &[u8]) -> [u32; sets::WORDS]
 }
 
 // The environments in which a formula holds that goes through no values, where the table has the sets of its parts.
+#[tactic(auto, unfolding(kinds::specs::Formulas::field_a, kinds::specs::Formulas::field_b))]
 fn composed_set(r: Formula, values: &[u8], table: &[u32]) -> [u32; sets::WORDS]
     requires { Composable r table.now }
     ensures { ComposedSet r values.now table.now result }
