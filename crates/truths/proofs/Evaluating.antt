@@ -41,3 +41,6 @@ pub composable : {formulas table : List ℕ} {i : ℕ} {r : Formula} → Evaluab
 composable E of few =
     let R = rule E of in
     record { unquantified = few; named = R.named; has_a = λ t. omega (arith, R.lower.0 t, E.room); has_b = λ t. omega (arith, R.lower.1 t, E.room) }
+
+-- what an evaluation asks of its parts
+pub ruleset parts = (evaluable_lower, rule, a_lower, b_lower)

@@ -59,6 +59,7 @@ fn composed_set(r: Formula, values: &[u8], table: &[u32]) -> [u32; sets::WORDS]
 // Evaluation: the environments in which formula i holds. The table has the sets of the formulas below `filled`, none if that is 0; others
 // are evaluated from their parts, which are lower, and where a quantifier is met by a walk over its values.
 #[cycle(evaluate_walk)]
+#[tactic(auto, using(crate::proofs::Evaluating::parts), unfolding(kinds::specs::Formulas::field_a, kinds::specs::Formulas::field_b))]
 fn evaluate(
     formulas: &[u8],
     values: &[u8],
