@@ -1,6 +1,6 @@
 -- What a set has: by its words, laid one after the other or all the same; and by another account of the same environments. Assumes nothing.
 use Prim.Native.Nat.{ℕ, zero, suc, ◌+◌, ◌*◌, ◌/◌, ◌%◌, ◌≤◌, ◌<◌}
-use mathlib.Core.Path.{◌≡◌, refl, sym, ap, ap₂, ◌∙◌}
+use mathlib.Core.Path.{◌≡◌, refl, ap, ap₂, ◌∙◌}
 use mathlib.Core.Bool.{Bool}
 use mathlib.Core.List.{List}
 use native.Mathlib.Omega.{arith}
@@ -14,9 +14,6 @@ use Rattle.sets.specs.Sets.{member, Has}
 
 pub has_by : {U W : ℕ → Bool} {x : List ℕ} → Has U x → ((e : ℕ) → e < 256 → U e ≡ W e) → Has W x
 has_by h same = record { len = h.len; each = λ e l. h.each e l ∙ same e l }
-
-pub has_same : {U W : ℕ → Bool} {x : List ℕ} → Has U x → Has W x → (e : ℕ) → e < 256 → U e ≡ W e
-has_same h g e l = sym (h.each e l) ∙ g.each e l
 
 -- words that a closure gave, which stays as it was
 module _ {F : Type 0} (calls : Mut F (ℕ × Unit {0}) ℕ) (f : F) (g : ℕ → ℕ) (gave : (k r : ℕ) (q : F) → Called calls f (k, tt) r q → (r ≡ g k) × (q ≡ f)) where
