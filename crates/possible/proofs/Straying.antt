@@ -1,6 +1,6 @@
 -- The laws of taking out environments in which effects that hold give values outside their fluents' domains: of one effect those in which it holds
 -- and its placeholder has reached the size, of a range one effect after the other. Assumes nothing.
-use Prim.Native.Nat.{ℕ, ◌+◌, ◌-◌, ◌*◌, ◌≤◌, ◌<◌}
+use Prim.Native.Nat.{ℕ, ◌+◌, ◌*◌, ◌≤◌, ◌<◌}
 use mathlib.Core.Path.{◌≡◌, refl, sym, ap, ap₂, ◌∙◌}
 use mathlib.Core.Bool.{Bool, true, false, not, ◌&&◌, ◌||◌, and-true, and-false}
 use mathlib.Core.List.{List}
@@ -8,24 +8,18 @@ use mathlib.Core.Logic.{⊎_elim}
 use native.Mathlib.Numerals.{add-one}
 use native.Mathlib.Omega.{arith}
 use borrow.Author.Tests.{lt-ltb}
-use lib.Dec.{ltb}
 use lib.ListN.{length}
 use Rattle.records.specs.declared.Effect.{Effect}
 use Rattle.records.specs.Records.{effect_at}
-use Rattle.records.specs.Placeholders.{look}
 use Rattle.records.specs.Some.{some_from}
 use Rattle.records.proofs.Some.{some_more}
-use Rattle.sets.specs.Sets.{member, Has, set_at}
+use Rattle.sets.specs.Sets.{member, Has}
 use Rattle.sets.proofs.Members.{has_by}
 use Rattle.golog.specs.World.{strays, straying}
 use Rattle.golog.specs.Written.{resolved}
 use Rattle.possible.specs.Written.{size_in, said_at, resolved_effect, resolved_table, strays_in, straying_in}
 use Rattle.possible.specs.Possible.{GivesValue}
-use Rattle.possible.proofs.Effects.{resolved_value, resolved_placeholder, resolved_fits, resolved_at}
-
--- a value byte from 16 on means a placeholder
-pub placeholder_few : (fluents : List ℕ) (r : Effect) → GivesValue fluents r → 16 ≤ r.value → r.value - 16 < 2
-placeholder_few fluents r gives l = ⊎_elim (λ k. omega (arith, gives.few)) (⊎_elim (λ z. omega arith) (λ z. omega arith)) gives.byte
+use Rattle.possible.proofs.Effects.{resolved_value, resolved_at}
 
 module _ (fluents table : List ℕ) (r : Effect) where
   -- where every value that it gives lies in the domain, all environments stay
@@ -41,21 +35,6 @@ module _ (fluents table : List ℕ) (r : Effect) where
   pub value_stays : GivesValue fluents r → {set : List ℕ} → length set ≡ 8 → r.value < 16 → Has (λ (e : ℕ). member set e && not (strays_in fluents table r e)) set
   value_stays gives long l =
       all_stay long (λ e small. rw (resolved_value e r.value l) (⊎_elim (λ k. k) (⊎_elim (λ z. absurd (omega arith)) (λ z. absurd (omega arith))) gives.byte))
-
-  -- or the domain has all that a placeholder may hold
-  pub wide_stays :
-      {set : List ℕ} → length set ≡ 8 → {size : ℕ} → size ≡ size_in fluents r.fluent → 16 ≤ size
-      → Has (λ (e : ℕ). member set e && not (strays_in fluents table r e)) set
-  wide_stays long z l = all_stay long (λ e small. omega (arith, resolved_fits e r.value small))
-
-  -- where its byte means a placeholder, those are taken out in which it has reached the size
-  pub placeholder_strays :
-      (set : List ℕ) {size : ℕ} {held reached out less : List ℕ} → size ≡ size_in fluents r.fluent → held ≡ set_at table r.condition → 16 ≤ r.value
-      → Has (λ (e : ℕ). not (ltb (look e (r.value - 16)) size)) reached
-      → Has (λ (e : ℕ). member held e && member reached e) out
-      → Has (λ (e : ℕ). member set e && not (member out e)) less
-      → Has (λ (e : ℕ). member set e && not (strays_in fluents table r e)) less
-  placeholder_strays set z h l R O L = has_by L (λ e small. rw (O.each e small, R.each e small, z, h, resolved_placeholder e r.value l) refl)
 
 -- one effect more
 both_out : (m p q : Bool) → (m && not p && not q) ≡ (m && not (p || q))

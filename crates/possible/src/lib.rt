@@ -41,10 +41,8 @@ fn conflict_in(effects: &[u8], first: usize, count: usize, table: &[u32], e: usi
     requires { ReadableRange effects.now table.now 32 first count × (e < 256) }
     ensures { result ≡ conflicting_in effects.now table.now first count e }
 {
-    let end = first + count;
     let mut noted = [0u16; FLUENTS];
-    let mut i = first;
-    while i < end {
+    for i in first..first + count {
         let r = records::effect_at(effects, i);
         if sets::has_in(table, r.condition, e) {
             let x = r.fluent;
@@ -54,7 +52,6 @@ fn conflict_in(effects: &[u8], first: usize, count: usize, table: &[u32], e: usi
             }
             noted[x] = given;
         }
-        i += 1;
     }
     false
 }
@@ -79,15 +76,11 @@ fn agreeing(
     ensures { Has (λ (e : ℕ). member set e && not (conflicting_in effects.now table.now first count e)) result }
 {
     let mut left = set;
-    let mut e = 0;
-    while e < ENVIRONMENTS {
-        if sets::has(&set, e) {
-            if conflict_in(effects, first, count, table, e) {
-                let less = sets::without(left, only(e));
-                left = less;
-            }
+    for e in 0..ENVIRONMENTS {
+        if sets::has(&set, e) && conflict_in(effects, first, count, table, e) {
+            let less = sets::without(left, only(e));
+            left = less;
         }
-        e += 1;
     }
     left
 }
@@ -118,16 +111,13 @@ fn inside(
     requires { ReadableRange effects.now table.now 32 first count × GiveValues fluents.now effects.now first count }
     ensures { Has (λ (e : ℕ). member set e && not (straying_in fluents.now effects.now table.now first count e)) result }
 {
-    let end = first + count;
     let mut left = set;
-    let mut i = first;
-    while i < end {
+    for i in first..first + count {
         let effect = records::effect_at(effects, i);
         if VALUES <= effect.value {
             let less = staying(fluents, effect, table, left);
             left = less;
         }
-        i += 1;
     }
     left
 }
@@ -167,13 +157,10 @@ fn new_values(
     requires { ReadableRange effects.now table.now n r.first r.count × (n ≤ 32) × (e < 256) }
     ensures { result ≡ changed (said_at table.now e) (effect_at (resolved_table e effects.now)) r values }
 {
-    let first = r.first;
-    let end = first + r.count;
     let mut new = values;
     let mut given = [false; FLUENTS];
     let mut left = n;
-    let mut i = first;
-    while i < end {
+    for i in r.first..r.first + r.count {
         let d = records::effect_at(effects, i);
         let x = d.fluent;
         if sets::has_in(table, d.condition, e) & !given[x] {
@@ -184,7 +171,6 @@ fn new_values(
                 return new;
             }
         }
-        i += 1;
     }
     new
 }
@@ -202,17 +188,13 @@ pub fn perform(
     requires { Performable effects.now actions.now table.now n entry × (n ≤ 32) }
     ensures { PerformedState effects.now actions.now table.now entry s result }
 {
-    let values = s.values;
     if golog::START <= entry {
         return State {
-            values,
             running: entry == golog::START,
+            ..s
         };
     }
     let r = records::action_at(actions, entry % ACTIONS);
-    let new = new_values(effects, r, n, table, entry / ACTIONS, values);
-    State {
-        values: new,
-        running: s.running,
-    }
+    let values = new_values(effects, r, n, table, entry / ACTIONS, s.values);
+    State { values, ..s }
 }

@@ -1,20 +1,21 @@
 -- A word has a bit exactly where it is not 0; the or of a set's words has those that one of them has. So a set has an environment exactly
 -- where that or is not 0. Assumes nothing.
-use Prim.Native.Nat.{ℕ, ◌+◌, ◌*◌, ◌/◌, ◌%◌, ◌^◌, ◌<◌}
-use native.Mathlib.Numerals.{add-one}
+use Prim.Native.Nat.{ℕ, suc, ◌+◌, ◌*◌, ◌/◌, ◌%◌, ◌^◌, ◌<◌}
 use mathlib.Core.Path.{◌≡◌, refl, sym, ap, ap₂, ◌∙◌, subst}
 use mathlib.Core.Bool.{Bool, true, false, not, ◌||◌}
-use mathlib.Core.List.{List}
+use mathlib.Core.List.{List, [], ◌∷◌, ◌++◌}
 use native.Mathlib.Omega.{arith}
 use native.Mathlib.Decide.{ℕ_discrete}
 use borrow.Author.Tests.{eq-eqb, ne_eqb}
+use borrow.Author.Rules.{rules}
 use lib.Bits.{bit_or}
 use lib.Dec.{T, eqb}
-use lib.ListN.{get_or}
+use lib.ListN.{get_or, length, length-append}
+use Rattle.std.proofs.lemmas.List.{places, get_or_append_left}
 use Rattle.records.specs.Mask.{has_bit}
 use Rattle.records.specs.Some.{some_from}
 use Rattle.records.proofs.Masks.{mask_bits, mask_same, mask_none}
-use Rattle.records.proofs.Some.{some_iff, some_more}
+use Rattle.records.proofs.Some.{some_iff, some_more, some_same}
 use Rattle.records.proofs.Truth.{true_exactly, is_false}
 use Rattle.sets.specs.Sets.{member, Gathered}
 use Rattle.sets.proofs.Bits.{bit_none, bit_or_lem}
@@ -40,20 +41,24 @@ some_bit n w l = go (ℕ_discrete w 0) (some_from (has_bit w) 0 n) refl
     go (no z) false e =
         absurd (z (sym (mask_bits n w l) ∙ mask_same (has_bit w) (λ (i : ℕ). false) n (unfound (has_bit w) n e) ∙ mask_none n))
 
+pub gathered_none : Gathered [] 0 0
+unfolding some_from
+gathered_none = record { each = λ i. bit_none i }
+
+-- one word more
+pub gathered_push : (x : List ℕ) (any word : ℕ) → Gathered x (length x) any → Gathered (x ++ word ∷ []) (length (x ++ word ∷ [])) (bit_or any word)
+gathered_push x any word G = record { each = more }
+  where
+    more : (i : ℕ) → has_bit (bit_or any word) i ≡ some_from (λ (j : ℕ). has_bit (get_or (x ++ word ∷ []) j 0) i) 0 (length (x ++ word ∷ []))
+    more i =
+        let has : ℕ → Bool = λ (j : ℕ). has_bit (get_or (x ++ word ∷ []) j 0) i in
+        let before = some_same (λ (j : ℕ). has_bit (get_or x j 0) i) has (length x) 0
+        (λ j (a, b). ap (λ (m : ℕ). has_bit m i) (sym (get_or_append_left x (word ∷ []) 0 j (omega arith)))) in
+        let last : get_or (x ++ word ∷ []) (0 + length x) 0 ≡ word = search (rules, places) in
+        let long : suc (length x) ≡ length (x ++ word ∷ []) = simp length-append (omega arith) in
+        bit_or_lem any word i ∙ ap₂ ◌||◌ (G.each i ∙ before) (ap (λ (m : ℕ). has_bit m i) (sym last)) ∙ sym (some_more has (length x) 0) ∙ ap (some_from has 0) long
+
 module _ (x : List ℕ) where
-  pub gathered_none : Gathered x 0 0
-  unfolding some_from
-  gathered_none = record { each = λ i. bit_none i }
-
-  pub gathered_more : {any k : ℕ} → Gathered x k any → Gathered x (k + 1) (bit_or any (get_or x k 0))
-  gathered_more {any} {k} G = record { each = more }
-    where
-      more : (i : ℕ) → has_bit (bit_or any (get_or x k 0)) i ≡ some_from (λ (j : ℕ). has_bit (get_or x j 0) i) 0 (k + 1)
-      more i =
-          let has : ℕ → Bool = λ (j : ℕ). has_bit (get_or x j 0) i in
-          bit_or_lem any (get_or x k 0) i ∙ ap (λ (b : Bool). b || has k) (G.each i) ∙ ap (λ (m : ℕ). some_from has 0 k || has m) (omega arith) ∙ sym (some_more has k 0)
-          ∙ ap (some_from has 0) (sym (add-one k))
-
   module _ {any : ℕ} (G : Gathered x 8 any) where
     pub no_member : any ≡ 0 → (e : ℕ) → e < 256 → member x e ≡ false
     unfolding member

@@ -1,32 +1,36 @@
 -- What a set has: by its words, laid one after the other or all the same; and by another account of the same environments. Assumes nothing.
-use Prim.Native.Nat.{ℕ, ◌+◌, ◌*◌, ◌/◌, ◌%◌, ◌≤◌, ◌<◌}
-use mathlib.Core.Path.{◌≡◌, refl, sym, ap, ap₂, ◌∙◌}
+use Prim.Native.Nat.{ℕ, zero, suc, ◌+◌, ◌*◌, ◌/◌, ◌%◌, ◌≤◌, ◌<◌}
+use mathlib.Core.Path.{◌≡◌, refl, ap, ap₂, ◌∙◌}
 use mathlib.Core.Bool.{Bool}
 use mathlib.Core.List.{List}
 use native.Mathlib.Omega.{arith}
-use lib.ListN.{length, get_or, replicate, get_or-replicate}
+use native.Mathlib.Decide.{ℕ_discrete}
+use denote.Param.Members.{Mut, Called}
+use Rattle.std.specs.Array.{IsFromFnResultFrom, IsFromFnResult}
+use lib.ListN.{get_or, replicate, get_or-replicate}
 use Rattle.records.specs.Mask.{has_bit}
-use Rattle.records.specs.Laid.{Laid}
 use Rattle.records.specs.Placeholders.{put}
 use Rattle.sets.specs.Sets.{member, Has}
 
 pub has_by : {U W : ℕ → Bool} {x : List ℕ} → Has U x → ((e : ℕ) → e < 256 → U e ≡ W e) → Has W x
 has_by h same = record { len = h.len; each = λ e l. h.each e l ∙ same e l }
 
-pub has_same : {U W : ℕ → Bool} {x : List ℕ} → Has U x → Has W x → (e : ℕ) → e < 256 → U e ≡ W e
-has_same h g e l = sym (h.each e l) ∙ g.each e l
+-- words that a closure gave, which stays as it was
+module _ {F : Type 0} (calls : Mut F (ℕ × Unit {0}) ℕ) (f : F) (g : ℕ → ℕ) (gave : (k r : ℕ) (q : F) → Called calls f (k, tt) r q → (r ≡ g k) × (q ≡ f)) where
+  words_from : (x : List ℕ) (i n k : ℕ) → IsFromFnResultFrom calls f x i n → i ≤ k → k < i + n → get_or x k 0 ≡ g k
+  words_from x i zero k all a l = absurd (omega arith)
+  words_from x i (suc n) k (q, y, is, call, rest) a l =
+      elim (ℕ_discrete k i) [
+        | yes e ↦ rw e (is.1 0 ∙ (gave i y q call).0)
+        | no e ↦ words_from x (i + 1) n k (rw (gave i y q call).1 at rest) (omega arith) (omega arith)
+      ]
 
--- words that a loop laid
-pub word_laid : {g : ℕ → ℕ} {w x : List ℕ} {k : ℕ} → Laid 0 g w x k → (j : ℕ) → j < k → get_or x j 0 ≡ g j
-word_laid {x} L j l = ap (λ (m : ℕ). get_or x m 0) (omega arith) ∙ L.laid j l
-
-pub has_laid : {U : ℕ → Bool} {g : ℕ → ℕ} {w x : List ℕ} {k : ℕ} → Laid 0 g w x k → length w ≡ 8 → 8 ≤ k
-    → ((e : ℕ) → e < 256 → has_bit (g (e / 32)) (e % 32) ≡ U e) → Has U x
-unfolding member
-has_laid L n h same = record {
-  len = L.len ∙ n;
-  each = λ e l. ap (λ (m : ℕ). has_bit m (e % 32)) (word_laid L (e / 32) (omega arith)) ∙ same e l;
-}
+  pub has_words : {U : ℕ → Bool} {x : List ℕ} → IsFromFnResult calls f x 8 → ((e : ℕ) → e < 256 → has_bit (g (e / 32)) (e % 32) ≡ U e) → Has U x
+  unfolding member
+  has_words {U} {x} made same = record {
+    len = made.long;
+    each = λ e l. ap (λ (m : ℕ). has_bit m (e % 32)) (words_from x 0 8 (e / 32) made.each (omega arith) (omega arith)) ∙ same e l;
+  }
 
 -- one word eight times
 pub has_equal : {U : ℕ → Bool} (word : ℕ) → ((e : ℕ) → e < 256 → has_bit word (e % 32) ≡ U e) → Has U (replicate 8 word)

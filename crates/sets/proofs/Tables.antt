@@ -1,15 +1,17 @@
--- Set i of a table has the words 8 i, .. of it; what a loop laid there is that set, and the other sets are as they were. Assumes nothing.
+-- Set i of a table has the words 8 i, .. of it; a set put there is it, and the other sets are as they were. Assumes nothing.
 use Prim.Native.Nat.{ℕ, ◌+◌, ◌-◌, ◌*◌, ◌/◌, ◌%◌, ◌≤◌, ◌<◌, min}
 use mathlib.Core.Path.{◌≡◌, sym, ap, ◌∙◌}
-use mathlib.Core.Logic.{◌⊎◌, inl, inr, ⊎_elim}
-use mathlib.Core.List.{List}
+use mathlib.Core.Logic.{◌⊎◌, inl, inr}
+use mathlib.Core.List.{List, ◌++◌}
 use native.Mathlib.Omega.{arith}
 use native.Mathlib.Decide.{dec_lt}
 use lib.Arith.{lt_of_le-ne}
-use lib.ListN.{length, get_or, drop, length-take, length-drop}
+use lib.ListN.{length, get_or, take, drop, length-take, length-drop, length-append}
+use borrow.Author.Rules.{rules}
+use borrow.Rule.Slice.PartMut.{put_mid}
+use Rattle.std.proofs.lemmas.List.{places, get_or-append_right}
 use lib.Seq.{get_or-take, get_or-drop, ext_get_or}
 use Rattle.records.specs.Mask.{has_bit}
-use Rattle.records.specs.Laid.{Laid}
 use Rattle.sets.specs.Sets.{member, set_at, PutSet}
 
 pub set_at_length : (table : List ℕ) (i : ℕ) → 8 * i + 8 ≤ length table → length (set_at table i) ≡ 8
@@ -42,18 +44,31 @@ set_at_same table table' i e same =
     size : (t : List ℕ) → length (set_at t i) ≡ min 8 (length t - 8 * i)
     size t = simp (length-take, length-drop)
 
--- what a loop laid in the place of set i
-module _ {i : ℕ} {x table table' : List ℕ} {k : ℕ} (L : Laid (8 * i) (λ (j : ℕ). get_or x j 0) table table' k) where
-  pub put_laid : 8 ≤ k → k ≤ 8 → length x ≡ 8 → 8 * i + 8 ≤ length table → PutSet i x table table'
-  put_laid h m n long = record {
-    len = L.len;
-    here = set_at_is table' i x (omega (arith, L.len)) n (λ j l. L.laid j (omega arith));
-    others = λ j q. set_at_same table table' j L.len (λ a l. apart (8 * j + a) (aside j a q l));
-    words = λ j o. apart j o;
-  }
+-- x in the place of set i
+module _ (i : ℕ) (x table : List ℕ) (few : length x ≡ 8) (long : 8 * i + 8 ≤ length table) where
+  put_length : length (put_mid (8 * i) 8 table x) ≡ length table
+  put_length = simp (length-append, length-take, length-drop) (omega arith)
+
+  put_here : (k : ℕ) → k < 8 → get_or (put_mid (8 * i) 8 table x) (8 * i + k) 0 ≡ get_or x k 0
+  put_here k l = search (rules, places)
+
+  put_apart : (k : ℕ) → (k < 8 * i) ⊎ (8 * i + 8 ≤ k) → get_or (put_mid (8 * i) 8 table x) k 0 ≡ get_or table k 0
+  put_apart k (inl b) = search (rules, places)
+  put_apart k (inr a) =
+      let start : length (take (8 * i) table) ≡ 8 * i = simp length-take (omega arith) in
+      get_or-append_right (take (8 * i) table) (x ++ drop 8 (drop (8 * i) table)) (8 * i) k 0 start (omega arith)
+      ∙ get_or-append_right x (drop 8 (drop (8 * i) table)) 8 (k - 8 * i) 0 few (omega arith)
+      ∙ get_or-drop 8 (drop (8 * i) table) (k - 8 * i - 8) 0
+      ∙ get_or-drop (8 * i) table (8 + (k - 8 * i - 8)) 0
+      ∙ ap (λ (m : ℕ). get_or table m 0) (omega arith)
+
+  pub put_is : (n : ℕ) → n ≡ 8 → PutSet i x table (put_mid (8 * i) n table x)
+  put_is n e = rw e (record {
+    len = put_length;
+    here = set_at_is (put_mid (8 * i) 8 table x) i x (omega (arith, put_length)) few put_here;
+    others = λ j q. set_at_same table (put_mid (8 * i) 8 table x) j put_length (λ a l. put_apart (8 * j + a) (aside j a q l));
+    words = put_apart;
+  })
     where
       aside : (j a : ℕ) → ¬ (j ≡ i) → a < 8 → (8 * j + a < 8 * i) ⊎ (8 * i + 8 ≤ 8 * j + a)
       aside j a q l = elim (dec_lt j i) [ yes b ↦ inl (omega arith) | no b ↦ inr (let c : i < j = lt_of_le-ne (omega arith) (λ e. q (sym e)) in omega arith) ]
-
-      apart : (j : ℕ) → (j < 8 * i) ⊎ (8 * i + 8 ≤ j) → get_or table' j 0 ≡ get_or table j 0
-      apart j o = ⊎_elim (λ b. L.below j b) (λ a. L.above j (omega arith)) o

@@ -34,52 +34,28 @@ pub fn whole(all: bool) -> [u32; WORDS]
 pub fn both(x: [u32; WORDS], y: [u32; WORDS]) -> [u32; WORDS]
     ensures { Has (λ (e : ℕ). member x e && member y e) result }
 {
-    let mut r = [0u32; WORDS];
-    let mut k = 0;
-    while k < WORDS {
-        r[k] = x[k] & y[k];
-        k += 1;
-    }
-    r
+    std::array::from_fn(|k| x[k] & y[k])
 }
 
 // The environments that are in x or in y.
 pub fn either(x: [u32; WORDS], y: [u32; WORDS]) -> [u32; WORDS]
     ensures { Has (λ (e : ℕ). member x e || member y e) result }
 {
-    let mut r = [0u32; WORDS];
-    let mut k = 0;
-    while k < WORDS {
-        r[k] = x[k] | y[k];
-        k += 1;
-    }
-    r
+    std::array::from_fn(|k| x[k] | y[k])
 }
 
 // The environments that are not in x.
 pub fn others(x: [u32; WORDS]) -> [u32; WORDS]
     ensures { Has (λ (e : ℕ). not (member x e)) result }
 {
-    let mut r = [0u32; WORDS];
-    let mut k = 0;
-    while k < WORDS {
-        r[k] = !x[k];
-        k += 1;
-    }
-    r
+    std::array::from_fn(|k| !x[k])
 }
 
 // The environments that are in x and not in y.
 pub fn without(x: [u32; WORDS], y: [u32; WORDS]) -> [u32; WORDS]
     ensures { Has (λ (e : ℕ). member x e && not (member y e)) result }
 {
-    let mut r = [0u32; WORDS];
-    let mut k = 0;
-    while k < WORDS {
-        r[k] = x[k] & !y[k];
-        k += 1;
-    }
-    r
+    std::array::from_fn(|k| x[k] & !y[k])
 }
 
 // The environments whose placeholder 0 holds one of the values, a bit for each: every row has those bits.
@@ -93,14 +69,10 @@ fn in_columns(values: u32) -> [u32; WORDS]
 fn in_rows(values: u32) -> [u32; WORDS]
     ensures { Has (λ (e : ℕ). has_bit values (look e 1)) result }
 {
-    let mut r = [0u32; WORDS];
-    let mut k = 0;
-    while k < WORDS {
+    std::array::from_fn(|k| {
         let two = values >> (2 * k);
-        r[k] = (two % 2 + two / 2 % 2 * ROW) * FULL_ROW;
-        k += 1;
-    }
-    r
+        (two % 2 + two / 2 % 2 * ROW) * FULL_ROW
+    })
 }
 
 // The environments whose placeholder c holds one of the values.
@@ -135,13 +107,7 @@ fn given_column(x: [u32; WORDS], v: usize) -> [u32; WORDS]
     requires { v < 16 }
     ensures { Has (λ (e : ℕ). member x (put e 0 v)) result }
 {
-    let mut r = [0u32; WORDS];
-    let mut k = 0;
-    while k < WORDS {
-        r[k] = ((x[k] >> v) & EACH_ROW) * FULL_ROW;
-        k += 1;
-    }
-    r
+    std::array::from_fn(|k| ((x[k] >> v) & EACH_ROW) * FULL_ROW)
 }
 
 // The environments that are in x once v is put into placeholder 1: every row is row v, which is half v % 2 of word v / 2.
@@ -168,13 +134,7 @@ pub fn given(x: [u32; WORDS], c: usize, v: usize) -> [u32; WORDS]
 fn gathered(x: [u32; WORDS]) -> u32
     ensures { Gathered x 8 result }
 {
-    let mut any = 0;
-    let mut k = 0;
-    while k < WORDS {
-        any = any | x[k];
-        k += 1;
-    }
-    any
+    x.iter().fold(0, |any, word| any | word)
 }
 
 // The environments that are in x once some value is put into placeholder 0: each row is full or empty, by whether it has a bit. A row that
@@ -182,15 +142,11 @@ fn gathered(x: [u32; WORDS]) -> u32
 fn some_column(x: [u32; WORDS]) -> [u32; WORDS]
     ensures { Has (λ (e : ℕ). some_from (λ (v : ℕ). member x (put e 0 v)) 0 16) result }
 {
-    let mut r = [0u32; WORDS];
-    let mut k = 0;
-    while k < WORDS {
+    std::array::from_fn(|k| {
         let first = (x[k] % ROW + FULL_ROW) / ROW;
         let second = (x[k] / ROW + FULL_ROW) / ROW;
-        r[k] = (first + second * ROW) * FULL_ROW;
-        k += 1;
-    }
-    r
+        (first + second * ROW) * FULL_ROW
+    })
 }
 
 // The environments that are in x once some value is put into placeholder 1: every row is the or of all rows.
@@ -223,6 +179,7 @@ fn has_bit(word: u32, at: usize) -> bool
 }
 
 // Whether environment e is in x.
+#[tactic(auto, unfolding(crate::specs::Sets::member))]
 pub fn has(x: &[u32], e: usize) -> bool
     requires { (length x.now ≡ 8) × (e < 256) }
     ensures { result ≡ member x.now e }
@@ -244,15 +201,12 @@ pub fn set_at(table: &[u32], i: usize) -> [u32; WORDS]
 {
     let first = WORDS * i;
     let mut r = [0u32; WORDS];
-    let mut k = 0;
-    while k < WORDS {
-        r[k] = table[first + k];
-        k += 1;
-    }
+    r.copy_from_slice(&table[first..first + WORDS]);
     r
 }
 
 // Whether environment e is in set i of a table.
+#[tactic(auto, using(crate::proofs::Tables::member_at))]
 pub fn has_in(table: &[u32], i: usize, e: usize) -> bool
     requires { (8 * i + 8 ≤ length table.now) × (e < 256) }
     ensures { result ≡ member (set_at table.now i) e }
@@ -266,9 +220,5 @@ pub fn put_set(table: &mut [u32], i: usize, x: [u32; WORDS])
     ensures { PutSet i x table.old table.new }
 {
     let first = WORDS * i;
-    let mut k = 0;
-    while k < WORDS {
-        table[first + k] = x[k];
-        k += 1;
-    }
+    table[first..first + WORDS].copy_from_slice(&x);
 }

@@ -3,20 +3,13 @@ use Prim.Native.Nat.{ℕ}
 use mathlib.Core.Path.{◌≡◌, refl, sym, ap, ap₂, subst}
 use mathlib.Core.Bool.{Bool, false, not, ◌&&◌, ◌||◌, false≢true}
 use mathlib.Core.List.{List}
-use lib.Dec.{T, eqb, eqb→eq, eqb_refl}
+use lib.Dec.{T}
 use Rattle.records.specs.declared.Formula.{Formula}
-use Rattle.records.proofs.Truth.{same_test}
 use Rattle.kinds.specs.Formulas.{field_a, has_a, has_b}
 use Rattle.kinds.proofs.FormulaKinds.{by_kind, formula_of}
 use Rattle.sets.specs.Sets.{member, Has}
 use Rattle.sets.proofs.Members.{has_by}
 use Rattle.truths.specs.Evaluated.{said_in}
-
-pub equal_sym : (m n : ℕ) → eqb m n ≡ eqb n m
-equal_sym m n = same_test (eqb m n) (eqb n m) (turned m n, turned n m)
-  where
-    turned : (m n : ℕ) → T (eqb m n) → T (eqb n m)
-    turned m n t = subst (λ (k : ℕ). T (eqb k m)) (eqb→eq m n t) (eqb_refl m)
 
 -- the parts of a kind that is k
 pub part_a : {m : ℕ} (k : ℕ) → m ≡ k → T (has_a k) → T (has_a m)

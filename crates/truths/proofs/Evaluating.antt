@@ -12,7 +12,7 @@ use Rattle.sets.specs.Sets.{Has}
 use Rattle.golog.specs.declared.State.{State}
 use Rattle.golog.specs.World.{World}
 use Rattle.truths.specs.Held.{Ruled, WrittenFrom, HoldsIn}
-use Rattle.truths.specs.Evaluated.{said_in, Composable, Evaluable}
+use Rattle.truths.specs.Evaluated.{said_in, Evaluable}
 use Rattle.truths.proofs.Said.{says, said_held}
 use Rattle.truths.proofs.Composing.{part_a, part_b}
 
@@ -36,8 +36,5 @@ module _ {formulas table : List ℕ} {filled i : ℕ} (E : Evaluable formulas ta
         said_held W s formulas from i (E.ruled i (omega arith))
         (subst (λ (f : Formula). Has (said_in (says W s) f s.values) set) of (subst (λ (u : List ℕ). Has (said_in (says W s) r u) set) (sym v) h))
 
--- where the table has the sets of all lower formulas, those of its parts too
-pub composable : {formulas table : List ℕ} {i : ℕ} {r : Formula} → Evaluable formulas table i i → r ≡ formula_at formulas i → r.kind < 9 → Composable r table
-composable E of few =
-    let R = rule E of in
-    record { unquantified = few; named = R.named; has_a = λ t. omega (arith, R.lower.0 t, E.room); has_b = λ t. omega (arith, R.lower.1 t, E.room) }
+-- what an evaluation asks of its parts
+pub ruleset parts = (evaluable_lower, rule, a_lower, b_lower)

@@ -1,25 +1,17 @@
--- A table is filled upwards: with none, and with one set more. Assumes nothing.
-use Prim.Native.Nat.{ℕ, ◌+◌, ◌*◌, ◌≤◌, ◌<◌}
-use mathlib.Core.Path.{◌≡◌, refl, sym, subst, ◌∙◌}
+-- A table is filled upwards: with one set more. Assumes nothing.
+use Prim.Native.Nat.{ℕ, ◌+◌, ◌<◌}
+use mathlib.Core.Path.{◌≡◌, sym, subst, ◌∙◌}
 use mathlib.Core.List.{List}
 use mathlib.Core.Logic.{inr}
 use native.Mathlib.Omega.{arith}
 use native.Mathlib.Decide.{dec_lt}
-use lib.ListN.{length}
 use Rattle.sets.specs.Sets.{set_at, PutSet}
 use Rattle.golog.specs.declared.State.{State}
 use Rattle.golog.specs.World.{World}
-use Rattle.truths.specs.Held.{RuledFormulas, WrittenFrom, HoldsIn}
-use Rattle.truths.specs.Evaluated.{Evaluable, EvaluatedSet, Filled}
-
-pub filled_none : (formulas values table : List ℕ) → Filled formulas values 0 table table
-filled_none formulas values table = record { len = refl; held = λ W s of v q l. absurd (omega arith); words = λ k l. refl }
+use Rattle.truths.specs.Held.{WrittenFrom, HoldsIn}
+use Rattle.truths.specs.Evaluated.{EvaluatedSet, Filled}
 
 module _ {formulas values table₀ table : List ℕ} {i : ℕ} (F : Filled formulas values i table₀ table) where
-  -- the next formula can be evaluated
-  pub next_evaluable : {n : ℕ} → 6 * n ≤ length formulas → 8 * n ≤ length table₀ → RuledFormulas formulas n → i < n → Evaluable formulas table i i
-  next_evaluable long room ruled l = record { long = omega arith; ruled = λ j h. ruled j (omega arith); room = omega (arith, F.len) }
-
   pub filled_more : {table' set : List ℕ} → EvaluatedSet formulas values table i i set → PutSet i set table table' → Filled formulas values (i + 1) table₀ table'
   filled_more {table'} {set} E P = record {
     len = P.len ∙ F.len;

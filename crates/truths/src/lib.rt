@@ -42,6 +42,7 @@ fn atom_set(r: Formula, values: &[u8]) -> [u32; sets::WORDS]
 }
 
 // The environments in which a formula holds that goes through no values, where the table has the sets of its parts.
+#[tactic(auto, unfolding(kinds::specs::Formulas::field_a, kinds::specs::Formulas::field_b))]
 fn composed_set(r: Formula, values: &[u8], table: &[u32]) -> [u32; sets::WORDS]
     requires { Composable r table.now }
     ensures { ComposedSet r values.now table.now result }
@@ -58,6 +59,7 @@ fn composed_set(r: Formula, values: &[u8], table: &[u32]) -> [u32; sets::WORDS]
 // Evaluation: the environments in which formula i holds. The table has the sets of the formulas below `filled`, none if that is 0; others
 // are evaluated from their parts, which are lower, and where a quantifier is met by a walk over its values.
 #[cycle(evaluate_walk)]
+#[tactic(auto, using(crate::proofs::Evaluating::parts), unfolding(kinds::specs::Formulas::field_a, kinds::specs::Formulas::field_b))]
 fn evaluate(
     formulas: &[u8],
     values: &[u8],
@@ -137,10 +139,8 @@ pub fn fill(formulas: &[u8], n: usize, s: State, table: &mut [u32])
     ensures { Filled formulas.now s.values n table.old table.new }
 {
     let values = s.values;
-    let mut i = 0;
-    while i < n {
+    for i in 0..n {
         let set = next_set(formulas, &values, table, i);
         sets::put_set(table, i, set);
-        i += 1;
     }
 }

@@ -11,46 +11,27 @@ use Rattle.possible.proofs.conflict_in.Goals as goal
 use Rattle.possible.proofs.conflict_in.Goals.{then-has_in+else-differs, else-has_in}
 
 pub loop-i-init : goal.loop-i-init
-loop-i-init c = (omega arith, omega arith, refl, noted_none _ _ _)
-
-pub has_in-requires : goal.has_in-requires
-has_in-requires c =
-    (rw c.effect_at-r.ensures.record (c.requires.0.conditions _ c.loop-i.invariant.0 (omega (arith, c.loop-i.invariant.2))), c.requires.1)
-
-pub bounds-noted-x : goal.bounds-noted-x
-bounds-noted-x c =
-    rw c.effect_at-r.ensures.record (c.requires.0.names _ c.loop-i.invariant.0 (omega (arith, c.loop-i.invariant.2)))
+loop-i-init c = noted_none _ _ _
 
 pub returns-then-differs : goal.returns-then-differs
 returns-then-differs c =
-    let v = c.loop-i.invariant in
     let is : resolved_effect c.args.e c.effect_at-r.result ≡ effect_at (resolved_table c.args.e c.args.effects.now) c.loop-i.i =
-    ap (resolved_effect c.args.e) c.effect_at-r.ensures.record ∙ sym (resolved_at _ _ _ (omega (arith, c.requires.0.long, v.2))) in
-    sym (noted_other _ _ _ v.3 is c.has_in.ensures v.0 c.if-has_in.true refl (ap (λ (x : ℕ). x + 1) c.resolved.ensures.0) _
-    (omega (arith, v.2))
+    ap (resolved_effect c.args.e) c.effect_at-r.ensures.record ∙ sym (resolved_at _ _ _ (omega (arith, c.requires.0.long))) in
+    sym (noted_other _ _ _ c.loop-i.invariant is c.has_in.ensures (omega arith) c.if-has_in.true refl (ap (λ (x : ℕ). x + 1) c.resolved.ensures.0) _ (omega arith)
     (sym c.differs.ensures ∙ c.if-differs.true))
-
-pub bounds-noted-x-then-has_in : goal.bounds-noted-x-then-has_in
-bounds-noted-x-then-has_in c =
-    rw c.effect_at-r.ensures.record (c.requires.0.names _ c.loop-i.invariant.0 (omega (arith, c.loop-i.invariant.2)))
 
 pub loop-i-preserved : goal.loop-i-preserved
 loop-i-preserved c =
     let v = c.loop-i.invariant in
     let e = c.effect_at-r.ensures.record in
-    let n = c.requires.0.names _ v.0 (omega (arith, v.2)) in
+    let n = c.requires.0.names c.loop-i.i (omega arith) (omega arith) in
     let is : resolved_effect c.args.e c.effect_at-r.result ≡ effect_at (resolved_table c.args.e c.args.effects.now) c.loop-i.i =
-    ap (resolved_effect c.args.e) e ∙ sym (resolved_at _ _ _ (omega (arith, c.requires.0.long, v.2))) in (
-      omega arith,
-      omega arith,
-      v.2,
-      elim c.if-has_in.branch [
-        | then-has_in+else-differs w ↦ rw w.noted-is (noted_more _ _ _ v.3 is c.has_in.ensures v.0 w.if-has_in.true refl (ap (λ (x : ℕ). x + 1) w.resolved.ensures.0)
-            (rw e n) (sym w.differs.ensures ∙ w.if-differs.false))
-        | else-has_in w ↦ rw w.noted-is (noted_passed _ _ _ v.3 is c.has_in.ensures w.if-has_in.false)
-      ],
-    )
+    ap (resolved_effect c.args.e) e ∙ sym (resolved_at _ _ _ (omega (arith, c.requires.0.long))) in
+    elim c.if-has_in.branch [
+      | then-has_in+else-differs w ↦ rw w.noted-is (noted_more _ _ _ v is c.has_in.ensures (omega arith) w.if-has_in.true refl (ap (λ (x : ℕ). x + 1) w.resolved.ensures.0)
+          (rw e n) (sym w.differs.ensures ∙ w.if-differs.false))
+      | else-has_in w ↦ rw w.noted-is (noted_passed _ _ _ v is c.has_in.ensures w.if-has_in.false)
+    ]
 
 pub returns : goal.returns
-returns c =
-    sym (noted_all _ _ _ c.loop-i.invariant.3 _ (omega (arith, c.loop-i.invariant.2)))
+returns c = sym (noted_all _ _ _ c.loop-i.invariant _ (omega arith))

@@ -1,12 +1,6 @@
-use Prim.Native.Nat.{◌+◌, ◌-◌, ◌≤◌}
-use mathlib.Core.Path.{◌≡◌}
 use Rattle.state.proofs.Noting.{Noted}
 use Rattle.possible.specs.Written.{said_at, resolved_table}
 use Rattle.possible.proofs.conflict_in.Given as goal
 
 abbrev pub invariant-loop-i : goal.invariant-loop-i
-invariant-loop-i l =
-    (l.first ≤ l.i) × (l.i ≤ l.end) × (l.end ≡ l.first + l.count) × Noted (said_at l.table l.e) (resolved_table l.e l.effects) l.first l.noted l.i
-
-abbrev pub decreases-loop-i : goal.decreases-loop-i
-decreases-loop-i l = l.end - l.i
+invariant-loop-i l = Noted (said_at l.table l.e) (resolved_table l.e l.effects) l.first l.noted l.i

@@ -1,6 +1,6 @@
 -- Up to number i those environments are taken out in which an effect strays; one whose byte is a value does so in none. Assumes nothing.
 use Prim.Native.Nat.{◌+◌, ◌-◌}
-use mathlib.Core.Path.{◌≡◌, refl, sym, ap, ◌∙◌}
+use mathlib.Core.Path.{◌≡◌, sym, ap, ◌∙◌}
 use native.Mathlib.Omega.{arith}
 use Rattle.records.specs.Records.{effect_at}
 use Rattle.possible.specs.Possible.{GivesValue}
@@ -12,13 +12,7 @@ use Rattle.possible.proofs.inside.Goals.{then-effect-ge-VALUES, else-effect-ge-V
 pub loop-i-init : goal.loop-i-init
 loop-i-init c =
     let none : c.args.first - c.args.first ≡ 0 = omega arith in
-    (omega arith, omega arith, refl, rw none (staying_none _ _ _ _ _ (search rules)))
-
-pub staying-less-requires : goal.staying-less-requires
-staying-less-requires c =
-    let v = c.loop-i.invariant in
-    let e = c.effect_at-effect.ensures.record in
-    (rw e (c.requires.0.conditions _ (omega arith) (omega (arith, v.2))), rw e (c.requires.1 _ (omega arith) (omega (arith, v.2))), c.if-effect-ge-VALUES.true)
+    rw none (staying_none _ _ _ _ _ (search rules))
 
 pub loop-i-preserved : goal.loop-i-preserved
 loop-i-preserved c =
@@ -28,18 +22,8 @@ loop-i-preserved c =
     let here : first + (c.loop-i.i - first) ≡ c.loop-i.i = omega arith in
     let next : c.loop-i.i + 1 - first ≡ c.loop-i.i - first + 1 = omega arith in
     let is = e ∙ ap (effect_at c.args.effects.now) (sym here) in
-    let gives : GivesValue c.args.fluents.now c.effect_at-effect.result = rw e (c.requires.1 _ (omega arith) (omega (arith, v.2))) in (
-      omega arith,
-      omega arith,
-      v.2,
-      elim c.if-effect-ge-VALUES.branch [
-        | then-effect-ge-VALUES w ↦ rw (w.left-is, next) (staying_more _ _ _ _ _ _ v.3 is (omega (arith, here)) w.staying-less.ensures)
-        | else-effect-ge-VALUES w ↦ rw (w.left-is, next) (staying_more _ _ _ _ _ _ v.3 is (omega (arith, here)) (value_stays _ _ _ gives v.3.has.len w.if-effect-ge-VALUES.false))
-      ],
-    )
-
-pub returns : goal.returns
-returns c =
-    let v = c.loop-i.invariant in
-    let all : c.loop-i.i - c.args.first ≡ c.args.count = omega arith in
-    rw all at v.3.has
+    let gives : GivesValue c.args.fluents.now c.effect_at-effect.result = rw e (c.requires.1 _ (omega arith) (omega arith)) in
+    elim c.if-effect-ge-VALUES.branch [
+      | then-effect-ge-VALUES w ↦ rw (w.left-is, next) (staying_more _ _ _ _ _ _ v is (omega (arith, here)) w.staying-less.ensures)
+      | else-effect-ge-VALUES w ↦ rw (w.left-is, next) (staying_more _ _ _ _ _ _ v is (omega (arith, here)) (value_stays _ _ _ gives v.has.len w.if-effect-ge-VALUES.false))
+    ]

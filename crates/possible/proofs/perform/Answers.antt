@@ -11,15 +11,7 @@ pub returns-then-entry-ge-START : goal.returns-then-entry-ge-START
 unfolding perform_by
 returns-then-entry-ge-START c fluents formulas W n is low holds = rw (lt-ltb 65533 _ c.if-entry-ge-START.true)
 
-pub action_at-r-requires : goal.action_at-r-requires
-action_at-r-requires c = (c.requires.0 (omega (arith, c.if-entry-ge-START.false))).known
-
-pub new_values-new-requires : goal.new_values-new-requires
-new_values-new-requires c =
-    let can = c.requires.0 (omega (arith, c.if-entry-ge-START.false)) in
-    (rw c.action_at-r.ensures.record can.range, c.requires.1, omega (arith, can.environment))
-
 pub returns : goal.returns
 returns c fluents formulas W n is low holds =
     let below : c.args.entry < start = omega (arith, c.if-entry-ge-START.false) in
-    performed_written is _ _ holds (c.requires.0 below) (low below) c.action_at-r.ensures.record c.new_values-new.ensures
+    performed_written is _ _ holds (c.requires.0 below) (low below) c.action_at-r.ensures.record c.new_values-values.ensures

@@ -3,17 +3,6 @@
 use Rattle.possible.proofs.Allowed.{set_compared, set_uncompared}
 use Rattle.possible.proofs.set_of.Goals as goal
 
-pub set_at-held-requires : goal.set_at-held-requires
-set_at-held-requires c = rw c.action_at-r.ensures.record c.requires.precondition
-
-pub inside-left-requires : goal.inside-left-requires
-inside-left-requires c =
-    rw c.action_at-r.ensures.record (c.requires.range, c.requires.values)
-
-pub agreeing-requires : goal.agreeing-requires
-agreeing-requires c =
-    rw c.action_at-r.ensures.record c.requires.range
-
 pub returns-then-may_conflict : goal.returns-then-may_conflict
 returns-then-may_conflict c =
     set_compared _ _ _ _ c.requires c.action_at-r.ensures.record c.set_at-held.ensures c.inside-left.ensures _ c.agreeing.ensures

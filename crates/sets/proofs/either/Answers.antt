@@ -1,21 +1,15 @@
--- Word by word, and bit by bit: a bit of an or is that of either. Assumes nothing.
-use Prim.Native.Nat.{◌/◌, ◌%◌}
-use mathlib.Core.Path.{refl}
+-- A bit of an or is that of either. Assumes nothing.
+use Prim.Native.Nat.{ℕ, ◌%◌}
+use borrow.Author.Rules.{rules}
+use lib.Bits.{bit_or}
 use lib.ListN.{get_or}
 use Rattle.sets.specs.Sets.{member}
 use Rattle.sets.proofs.Bits.{bit_or_lem}
-use native.Mathlib.Omega.{arith}
-use Rattle.records.proofs.Laid.{laid_none, laid_more}
-use Rattle.sets.proofs.Members.{has_laid}
+use Rattle.sets.proofs.Members.{has_words}
 use Rattle.sets.proofs.either.Goals as goal
-
-pub loop-k-init : goal.loop-k-init
-loop-k-init c = (omega arith, laid_none _ _ _)
-
-pub loop-k-preserved : goal.loop-k-preserved
-loop-k-preserved c = (omega arith, laid_more _ _ _ c.loop-k.invariant.1 (omega arith) (omega arith) refl)
 
 pub returns : goal.returns
 unfolding member
 returns c =
-    has_laid c.loop-k.invariant.1 refl c.loop-k-test.false (λ e l. bit_or_lem (get_or c.args.x (e / 32) 0) (get_or c.args.y (e / 32) 0) (e % 32))
+    has_words _ _ (λ (k : ℕ). bit_or (get_or c.args.x k 0) (get_or c.args.y k 0)) (λ k r q h. search rules) c.from_fn.ensures.items
+    (λ e l. bit_or_lem _ _ (e % 32))

@@ -2,14 +2,11 @@
 use Prim.Native.Nat.{◌*◌, ◌/◌, ◌%◌, ◌^◌}
 use mathlib.Core.Path.{◌∙◌}
 use native.Mathlib.Omega.{arith}
-use lib.Bits.{bit_and, and_le_r}
+use lib.Bits.{bit_and}
 use lib.ListN.{get_or}
 use Rattle.sets.proofs.Bits.{bit_row}
 use Rattle.sets.proofs.Members.{has_equal, put_row}
 use Rattle.sets.proofs.given_row.Goals as goal
-
-pub overflow_mul-result : goal.overflow_mul-result
-overflow_mul-result c = omega (arith, and_le_r (get_or c.args.x (c.args.v / 2) 0 / 2 ^ (16 * (c.args.v % 2))) 65535)
 
 pub returns : goal.returns
 returns c = has_equal (bit_and (get_or c.args.x (c.args.v / 2) 0 / 2 ^ (16 * (c.args.v % 2))) 65535 * 65537)

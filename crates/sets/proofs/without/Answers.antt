@@ -1,26 +1,16 @@
--- Word by word, and bit by bit: of y the complement, whose bits are the others, since a word fits. Assumes nothing.
-use Prim.Native.Nat.{◌/◌, ◌%◌}
-use mathlib.Core.Path.{refl}
+-- Of y the complement, whose bits are the others, since a word fits. Assumes nothing.
+use Prim.Native.Nat.{ℕ, ◌-◌, ◌%◌, ◌^◌}
+use borrow.Author.Rules.{rules}
+use native.Mathlib.Omega.{arith}
+use lib.Bits.{bit_and}
 use lib.ListN.{get_or}
-use borrow.Author.Rules.{elem_Fits}
-use mir.Syntax.{w32}
 use Rattle.sets.specs.Sets.{member}
 use Rattle.sets.proofs.Bits.{bit_without}
-use native.Mathlib.Omega.{arith}
-use Rattle.records.proofs.Laid.{laid_none, laid_more}
-use Rattle.sets.proofs.Members.{has_laid}
+use Rattle.sets.proofs.Members.{has_words}
 use Rattle.sets.proofs.without.Goals as goal
-
-pub loop-k-init : goal.loop-k-init
-loop-k-init c = (omega arith, laid_none _ _ _)
-
-pub loop-k-preserved : goal.loop-k-preserved
-loop-k-preserved c = (omega arith, laid_more _ _ _ c.loop-k.invariant.1 (omega arith) (omega arith) refl)
 
 pub returns : goal.returns
 unfolding member
 returns c =
-    let x = c.args.x in
-    let y = c.args.y in
-    has_laid c.loop-k.invariant.1 refl c.loop-k-test.false (λ e l. bit_without (get_or x (e / 32) 0) (get_or y (e / 32) 0) (e % 32)
-    (elem_Fits w32 w32 y c.well_formed.1.0.0 (e / 32) c.well_formed.1.0.1.1 tt).fits (omega arith))
+    has_words _ _ (λ (k : ℕ). bit_and (get_or c.args.x k 0) (2 ^ 32 - 1 - get_or c.args.y k 0)) (λ k r q h. search rules) c.from_fn.ensures.items
+    (λ e l. bit_without _ _ (e % 32) (search rules) (omega arith))

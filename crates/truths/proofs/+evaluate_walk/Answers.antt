@@ -1,69 +1,11 @@
 -- Evaluation by the parts of a formula, and a walk by its last value and those below: lower formulas, then values left. Assumes nothing.
-use mathlib.Core.Path.{sym, subst}
-use mathlib.Core.Logic.{inl, inr}
 use native.Mathlib.Omega.{arith}
-use Rattle.kinds.specs.Formulas.{field_a, field_b}
-use Rattle.truths.specs.Held.{HoldsIn}
 use Rattle.truths.specs.Evaluated.{said_in}
 use Rattle.truths.proofs.Said.{says}
 use Rattle.truths.proofs.Composing.{no_parts, of_kind, not_set, and_set, or_set}
 use Rattle.truths.proofs.Walking.{walk_none, walk_every, walk_some}
-use Rattle.truths.proofs.Evaluating.{evaluable_lower, rule, a_lower, b_lower, evaluated}
+use Rattle.truths.proofs.Evaluating.{rule, evaluated}
 use Rattle.truths.proofs.+evaluate_walk.Goals as goal
-
-pub evaluate-set_at-requires : goal.evaluate-set_at-requires
-evaluate-set_at-requires t c = omega (arith, c.requires.room, c.if-i-filled.true)
-
-pub evaluate-returns-then-i-filled : goal.evaluate-returns-then-i-filled
-evaluate-returns-then-i-filled t c W s from v H =
-    subst (HoldsIn W s c.args.i) (sym c.set_at.ensures) (H c.args.i c.if-i-filled.true)
-
-pub evaluate-formula_at-r-requires : goal.evaluate-formula_at-r-requires
-evaluate-formula_at-r-requires t c = omega (arith, c.requires.long)
-
-pub evaluate-evaluate-requires : goal.evaluate-evaluate-requires
-unfolding field_a
-evaluate-evaluate-requires t c =
-    let low = a_lower c.requires c.formula_at-r.ensures.record 5 c.in-5.is tt in
-    (omega (arith, low, c.decreases), evaluable_lower c.requires low)
-
-pub evaluate-evaluate-requires-in-6 : goal.evaluate-evaluate-requires-in-6
-unfolding field_a
-evaluate-evaluate-requires-in-6 t c =
-    let low = a_lower c.requires c.formula_at-r.ensures.record 6 c.in-6.is tt in
-    (omega (arith, low, c.decreases), evaluable_lower c.requires low)
-
-pub evaluate-evaluate-requires-in-6-2 : goal.evaluate-evaluate-requires-in-6-2
-unfolding field_b
-evaluate-evaluate-requires-in-6-2 t c =
-    let low = b_lower c.requires c.formula_at-r.ensures.record 6 c.in-6.is tt in
-    (omega (arith, low, c.decreases), evaluable_lower c.requires low)
-
-pub evaluate-evaluate-requires-in-7 : goal.evaluate-evaluate-requires-in-7
-unfolding field_a
-evaluate-evaluate-requires-in-7 t c =
-    let low = a_lower c.requires c.formula_at-r.ensures.record 7 c.in-7.is tt in
-    (omega (arith, low, c.decreases), evaluable_lower c.requires low)
-
-pub evaluate-evaluate-requires-in-7-2 : goal.evaluate-evaluate-requires-in-7-2
-unfolding field_b
-evaluate-evaluate-requires-in-7-2 t c =
-    let low = b_lower c.requires c.formula_at-r.ensures.record 7 c.in-7.is tt in
-    (omega (arith, low, c.decreases), evaluable_lower c.requires low)
-
-pub evaluate-walk-requires : goal.evaluate-walk-requires
-unfolding field_a
-evaluate-walk-requires t c =
-    let low = a_lower c.requires c.formula_at-r.ensures.record 9 c.in-9.is tt in
-    let bound = (rule c.requires c.formula_at-r.ensures.record).bound (inl c.in-9.is) in
-    (omega (arith, low, bound.0, c.decreases), (evaluable_lower c.requires low, bound.1, bound.0))
-
-pub evaluate-walk-requires-in-10 : goal.evaluate-walk-requires-in-10
-unfolding field_a
-evaluate-walk-requires-in-10 t c =
-    let low = a_lower c.requires c.formula_at-r.ensures.record 10 c.in-10.is tt in
-    let bound = (rule c.requires c.formula_at-r.ensures.record).bound (inr c.in-10.is) in
-    (omega (arith, low, bound.0, c.decreases), (evaluable_lower c.requires low, bound.1, bound.0))
 
 pub evaluate-atom_set-requires : goal.evaluate-atom_set-requires
 evaluate-atom_set-requires t c = let k = c.in_default.in_default-own.rest in (
@@ -105,21 +47,6 @@ evaluate-returns-in_default t c W s from v H = evaluated c.requires c.formula_at
 pub walk-returns-then-left-eq0 : goal.walk-returns-then-left-eq0
 walk-returns-then-left-eq0 t c W s from v H =
     walk_none (says W s c.args.a) c.args.c c.args.every (omega (arith, c.if-left-eq0.true)) c.whole.ensures
-
-pub walk-overflow_sub-v : goal.walk-overflow_sub-v
-walk-overflow_sub-v t c = omega (arith, c.if-left-eq0.false)
-
-pub walk-evaluate-inner-requires : goal.walk-evaluate-inner-requires
-walk-evaluate-inner-requires t c =
-    (omega (arith, c.decreases), c.requires.0)
-
-pub walk-given-last-requires : goal.walk-given-last-requires
-walk-given-last-requires t c =
-    (omega (arith, c.requires.1), omega (arith, c.requires.2, c.if-left-eq0.false))
-
-pub walk-walk-lower-requires : goal.walk-walk-lower-requires
-walk-walk-lower-requires t c =
-    (omega (arith, c.decreases, c.if-left-eq0.false), (c.requires.0, c.requires.1, omega (arith, c.requires.2)))
 
 pub walk-returns-then-every : goal.walk-returns-then-every
 walk-returns-then-every t c W s from v H =

@@ -9,9 +9,6 @@ use Rattle.truths.specs.Evaluated.{said_in}
 use Rattle.truths.proofs.Composing.{of_kind, none_set}
 use Rattle.truths.proofs.atom_set.Goals as goal
 
-pub with_value-requires : goal.with_value-requires
-with_value-requires c = c.requires.1 c.in-8.is
-
 pub returns-in-0 : goal.returns-in-0
 unfolding said_in
 returns-in-0 c says =

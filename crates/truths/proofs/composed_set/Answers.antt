@@ -6,26 +6,6 @@ use Rattle.sets.specs.Sets.{Has}
 use Rattle.truths.proofs.Composing.{no_parts, part_a, part_b, not_set, and_set, or_set}
 use Rattle.truths.proofs.composed_set.Goals as goal
 
-pub set_at-requires : goal.set_at-requires
-unfolding field_a
-set_at-requires c = c.requires.has_a (part_a 5 c.in-5.is tt)
-
-pub set_at-requires-in-6 : goal.set_at-requires-in-6
-unfolding field_a
-set_at-requires-in-6 c = c.requires.has_a (part_a 6 c.in-6.is tt)
-
-pub set_at-requires-in-6-2 : goal.set_at-requires-in-6-2
-unfolding field_b
-set_at-requires-in-6-2 c = c.requires.has_b (part_b 6 c.in-6.is tt)
-
-pub set_at-requires-in-7 : goal.set_at-requires-in-7
-unfolding field_a
-set_at-requires-in-7 c = c.requires.has_a (part_a 7 c.in-7.is tt)
-
-pub set_at-requires-in-7-2 : goal.set_at-requires-in-7-2
-unfolding field_b
-set_at-requires-in-7-2 c = c.requires.has_b (part_b 7 c.in-7.is tt)
-
 pub atom_set-requires : goal.atom_set-requires
 atom_set-requires c =
     let k = c.in_default.in_default-own.rest in

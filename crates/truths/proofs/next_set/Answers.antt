@@ -1,10 +1,7 @@
 -- Below the quantifiers the table has the sets of the parts. Assumes nothing.
 use Rattle.truths.proofs.Said.{says}
-use Rattle.truths.proofs.Evaluating.{rule, evaluated, composable}
+use Rattle.truths.proofs.Evaluating.{rule, evaluated}
 use Rattle.truths.proofs.next_set.Goals as goal
-
-pub composed_set-requires : goal.composed_set-requires
-composed_set-requires c = composable c.requires c.formula_at-r.ensures.record c.if-r-lt-FIRST_QUANTIFIER.true
 
 pub returns-then-r-lt-FIRST_QUANTIFIER : goal.returns-then-r-lt-FIRST_QUANTIFIER
 returns-then-r-lt-FIRST_QUANTIFIER c W s from v H =
