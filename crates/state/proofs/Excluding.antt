@@ -167,7 +167,7 @@ marked_below marks b m = go (dec_lt b (length marks))
 module _ (formulas effects actions : List ℕ) (marks : List Bool) where
   pub record MayConflictBelow (may : List Bool) (a : ℕ) : Type 0 where
     pub long : length may ≡ 64
-    pub within : (b : ℕ) → get_or may b false ≡ true → (b < a) × (get_or marks b false ≡ true)
+    pub within : (b : ℕ) → get_or may b false ≡ true → get_or marks b false ≡ true
     pub rest : (b : ℕ) → b < a → get_or marks b false ≡ true → get_or may b false ≡ false → Exclusive formulas effects (action_at actions b).first (action_at actions b).count
 
   pub below_none : MayConflictBelow (replicate 64 false) 0
@@ -178,30 +178,21 @@ module _ (formulas effects actions : List ℕ) (marks : List Bool) where
   }
 
   module _ {may : List Bool} {a : ℕ} (R : MayConflictBelow may a) where
-    pub below_passed : get_or marks a false ≡ false → MayConflictBelow may (a + 1)
-    below_passed e = record {
-      long = R.long;
-      within = λ b t. let (l, m) = R.within b t in (omega arith, m);
-      rest = λ b l m. R.rest b (omega (arith, unmarked_other marks a b e m)) m;
-    }
-
     pub below_more :
-        {t : Bool} → get_or marks a false ≡ true → a < 64 → (t ≡ false → Exclusive formulas effects (action_at actions a).first (action_at actions a).count)
+        {t : Bool} → a < 64 → (t ≡ true → get_or marks a false ≡ true)
+        → (get_or marks a false ≡ true → t ≡ false → Exclusive formulas effects (action_at actions a).first (action_at actions a).count)
         → MayConflictBelow (set may a t) (a + 1)
-    below_more {t} m l A = record {
+    below_more {t} l m A = record {
       long = length-set may a t ∙ R.long;
-      within = λ b. written (λ (x : Bool). x ≡ true → (b < a + 1) × (get_or marks b false ≡ true)) false may a t inside b
-          (λ n x. let (k, h) = R.within b x in (omega arith, h)) (λ z x. (omega arith, ap (λ (i : ℕ). get_or marks i false) z ∙ m));
-      rest = λ b k h. written (λ (x : Bool). x ≡ false → Exclusive formulas effects (action_at actions b).first (action_at actions b).count) false may a t inside b
+      within = λ b. written (λ (x : Bool). x ≡ true → get_or marks b false ≡ true) false may a t (omega (arith, R.long)) b
+          (λ n. R.within b) (λ z x. ap (λ (i : ℕ). get_or marks i false) z ∙ m x);
+      rest = λ b k h. written (λ (x : Bool). x ≡ false → Exclusive formulas effects (action_at actions b).first (action_at actions b).count) false may a t (omega (arith, R.long)) b
           (λ n. R.rest b (omega (arith, n)) h)
-          (λ z x. subst (λ (i : ℕ). Exclusive formulas effects (action_at actions i).first (action_at actions i).count) (sym z) (A x));
+          (λ z. subst (λ (i : ℕ). get_or marks i false ≡ true → t ≡ false → Exclusive formulas effects (action_at actions i).first (action_at actions i).count) (sym z) A h);
     }
-      where
-        inside : a < length may
-        inside = omega (arith, R.long)
 
     pub below_done : length marks ≡ 64 → 64 ≤ a → MayConflict formulas effects actions marks may
-    below_done long l = record { within = λ b t. (R.within b t).1; rest = λ b m. R.rest b (omega (arith, long, marked_below marks b m)) m }
+    below_done long l = record { within = R.within; rest = λ b m. R.rest b (omega (arith, long, marked_below marks b m)) m }
 
 module _ (marks : List Bool) where
   -- the first n places of the list are the marked numbers below a

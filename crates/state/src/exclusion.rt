@@ -46,11 +46,9 @@ fn is_exclusive(formulas: &[u8], effects: &[u8], first: usize, count: usize) -> 
     requires { Readable formulas.now effects.now first count }
     ensures { result ≡ true → Exclusive formulas.now effects.now first count }
 {
-    let end = first + count;
     let mut fluents = [0u16; FLUENTS];
     let mut noted = [0u16; FLUENTS * VALUES];
-    let mut i = first;
-    while i < end {
+    for i in first..first + count {
         let e = records::effect_at(effects, i);
         let asked = asked_at(formulas, e.condition);
         let x = e.fluent;
@@ -63,7 +61,6 @@ fn is_exclusive(formulas: &[u8], effects: &[u8], first: usize, count: usize) -> 
         }
         fluents[x] = asked.fluent;
         noted[at] = given;
-        i += 1;
     }
     true
 }
@@ -75,10 +72,8 @@ fn action_may_conflict(formulas: &[u8], effects: &[u8], r: Action) -> bool
     ensures { result ≡ false → Exclusive formulas.now effects.now r.first r.count }
 {
     let held = [true; FORMULAS];
-    if crate::conflicts::conflict(effects, r.first, r.count, &held) {
-        return !is_exclusive(formulas, effects, r.first, r.count);
-    }
-    false
+    crate::conflicts::conflict(effects, r.first, r.count, &held)
+        && !is_exclusive(formulas, effects, r.first, r.count)
 }
 
 // Of the marked actions those whose effects may contradict each other in some state; the others do so in none.
@@ -92,12 +87,8 @@ pub fn may_conflict(
     ensures { MayConflict formulas.now effects.now actions.now marks.now result }
 {
     let mut may = [false; ACTIONS];
-    let mut a = 0;
-    while a < ACTIONS {
-        if marks[a] {
-            may[a] = action_may_conflict(formulas, effects, records::action_at(actions, a));
-        }
-        a += 1;
+    for a in 0..ACTIONS {
+        may[a] = marks[a] && action_may_conflict(formulas, effects, records::action_at(actions, a));
     }
     may
 }
@@ -109,13 +100,11 @@ pub fn listed(marks: &[bool]) -> [u32; LIST]
 {
     let mut list = [0u32; LIST];
     let mut n = 0;
-    let mut a = 0;
-    while a < ACTIONS {
-        if marks[a] {
+    for (a, mark) in marks.iter().enumerate() {
+        if *mark {
             list[n] = a as u32;
             n += 1;
         }
-        a += 1;
     }
     list[ACTIONS] = n as u32;
     list

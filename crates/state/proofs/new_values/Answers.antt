@@ -6,7 +6,7 @@ use native.Mathlib.Omega.{arith}
 use Rattle.state.proofs.Giving.{fluent_below, giving_none, giving_passed, giving_some, giving_more, giving_all, giving_done}
 use borrow.Author.Rules.{rules}
 use Rattle.state.proofs.new_values.Goals as goal
-use Rattle.state.proofs.new_values.Goals.{then-flag_in-given+else-left-eq0, else-flag_in-given}
+use Rattle.state.proofs.new_values.Goals.{then-value_in-given+else-left-eq0, else-value_in-given}
 
 pub loop-i-init : goal.loop-i-init
 loop-i-init c = (omega arith, omega arith, search rules, giving_none _ _ _ _ _ _)
@@ -23,8 +23,8 @@ bounds-new-x c =
     fluent_below _ _ _ _ _ c.requires.2 c.loop-i.invariant.0 c.loop-i-test.true c.effect_at-e.ensures.record in
     omega (arith, c.requires.1, below)
 
-pub bounds-given-x-then-flag_in-given : goal.bounds-given-x-then-flag_in-given
-bounds-given-x-then-flag_in-given c =
+pub bounds-given-x-then-value_in-given : goal.bounds-given-x-then-value_in-given
+bounds-given-x-then-value_in-given c =
     let below : c.effect_at-e.result.fluent < c.args.n =
     fluent_below _ _ _ _ _ c.requires.2 c.loop-i.invariant.0 c.loop-i-test.true c.effect_at-e.ensures.record in
     omega (arith, c.requires.1, below)
@@ -33,7 +33,7 @@ pub overflow_sub-left : goal.overflow_sub-left
 overflow_sub-left c =
     let below : c.effect_at-e.result.fluent < c.args.n =
     fluent_below _ _ _ _ _ c.requires.2 c.loop-i.invariant.0 c.loop-i-test.true c.effect_at-e.ensures.record in
-    giving_some _ _ _ _ _ _ c.loop-i.invariant.3 (omega arith) c.effect_at-e.ensures.record c.flag_in.ensures c.if-flag_in-given.true
+    giving_some _ _ _ _ _ _ c.loop-i.invariant.3 (omega arith) c.effect_at-e.ensures.record c.value_in.ensures c.if-value_in-given.true
     below c.requires.1
 
 pub returns-then-left-eq0 : goal.returns-then-left-eq0
@@ -42,7 +42,7 @@ returns-then-left-eq0 c =
     fluent_below _ _ _ _ _ c.requires.2 c.loop-i.invariant.0 c.loop-i-test.true c.effect_at-e.ensures.record in
     let v = c.loop-i.invariant in
     let pre = c.requires in
-    let more = giving_more _ _ _ _ _ _ v.3 (omega arith) c.effect_at-e.ensures.record c.flag_in.ensures c.if-flag_in-given.true
+    let more = giving_more _ _ _ _ _ _ v.3 (omega arith) c.effect_at-e.ensures.record c.value_in.ensures c.if-value_in-given.true
     below pre.1 v.2 in
     giving_done _ _ _ _ _ _ more _ refl (omega arith) c.if-left-eq0.true (λ j f l. pre.2 j f (omega arith))
 
@@ -52,13 +52,13 @@ loop-i-preserved c =
     fluent_below _ _ _ _ _ c.requires.2 c.loop-i.invariant.0 c.loop-i-test.true c.effect_at-e.ensures.record in
     let v = c.loop-i.invariant in
     let e = c.effect_at-e.ensures.record in
-    let f = c.flag_in.ensures in (
+    let f = c.value_in.ensures in (
       omega arith,
       omega arith,
       v.2,
-      elim c.if-flag_in-given.branch [
-        | then-flag_in-given+else-left-eq0 w ↦ rw (w.given-is, w.new-is, w.left-is) (giving_more _ _ _ _ _ _ v.3 (omega arith) e f w.if-flag_in-given.true below c.requires.1 v.2)
-        | else-flag_in-given w ↦ rw (w.given-is, w.new-is, w.left-is) (giving_passed _ _ _ _ _ _ v.3 (omega arith) e f w.if-flag_in-given.false)
+      elim c.if-value_in-given.branch [
+        | then-value_in-given+else-left-eq0 w ↦ rw (w.given-is, w.new-is, w.left-is) (giving_more _ _ _ _ _ _ v.3 (omega arith) e f w.if-value_in-given.true below c.requires.1 v.2)
+        | else-value_in-given w ↦ rw (w.given-is, w.new-is, w.left-is) (giving_passed _ _ _ _ _ _ v.3 (omega arith) e f w.if-value_in-given.false)
       ],
     )
 

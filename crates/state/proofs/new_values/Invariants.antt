@@ -9,5 +9,3 @@ abbrev pub invariant-loop-i : goal.invariant-loop-i
 invariant-loop-i l =
     (l.first ≤ l.i) × (l.i ≤ l.end) × (length l.initial.new ≡ 32) × Giving (said_by l.truths) l.effects l.initial.new l.n l.first (l.end - l.first) l.new l.given l.left l.i
 
-abbrev pub decreases-loop-i : goal.decreases-loop-i
-decreases-loop-i l = l.end - l.i
