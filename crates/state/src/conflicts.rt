@@ -26,16 +26,16 @@ pub fn conflict(effects: &[u8], first: usize, count: usize, truths: &[bool]) -> 
     requires { (4 * (first + count) ≤ length effects.now) × Names effects.now 32 first count }
     ensures { result ≡ conflicting (said_by truths.now) (effect_at effects.now) first count }
 {
-    let mut noted = [0u16; FLUENTS];
+    let mut noted: [Option<u8>; FLUENTS] = [None; FLUENTS];
     for i in first..first + count {
         let e = records::effect_at(effects, i);
         if records::value_in(truths, e.condition, false) {
             let x = e.fluent;
-            let given = e.value as u16 + 1;
-            if differs(noted[x], given) {
+            let given = e.value as u8;
+            if noted[x].is_some_and(|v| v != given) {
                 return true;
             }
-            noted[x] = given;
+            noted[x] = Some(given);
         }
     }
     false
@@ -46,8 +46,7 @@ pub fn is_in_conflict(effects: &[u8], r: Action, truths: &[bool]) -> bool
     requires { (4 * (r.first + r.count) ≤ length effects.now) × Names effects.now 32 r.first r.count }
     ensures { result ≡ in_conflict effects.now truths.now r }
 {
-    records::value_in(truths, r.precondition, false)
-        && conflict(effects, r.first, r.count, truths)
+    records::value_in(truths, r.precondition, false) && conflict(effects, r.first, r.count, truths)
 }
 
 // Of which of the listed actions effects contradict each other although the precondition holds, where `truths` has what the formulas say.

@@ -110,12 +110,10 @@ pub fn new_values(
     requires { (4 * (r.first + r.count) ≤ length effects.now) × (n ≤ 32) × Names effects.now n r.first r.count }
     ensures { result ≡ changed (said_by truths.now) (effect_at effects.now) r values }
 {
-    let first = r.first;
-    let end = first + r.count;
     let mut new = values;
     let mut given = [false; conflicts::FLUENTS];
     let mut left = n;
-    for i in first..end {
+    for i in r.first..r.first + r.count {
         let e = records::effect_at(effects, i);
         let x = e.fluent;
         if records::value_in(truths, e.condition, false) & !given[x] {
