@@ -1,5 +1,4 @@
 pub mod Seen
-pub mod Performing
 pub mod Filling
 pub mod Entries
 pub mod Skipping

@@ -23,10 +23,18 @@ pub const RECORDS: usize = 260;
 pub const SKIPS: usize = 261;
 
 // Counts end here.
-const CAP: u32 = 1000000;
+const CAP: u64 = 1000000;
 
 // Distances end here: one more than the largest bound, so that it makes no difference how much farther an end is.
 pub const FARTHEST: usize = 65;
+
+// The record that does nothing.
+const EMPTY: Program = Program {
+    kind: 0,
+    a: 0,
+    b: 0,
+    c: 0,
+};
 
 // The records above the first n, where there are interrupts.
 fn virtual_at(n: usize, k: usize) -> Program
@@ -59,16 +67,12 @@ fn virtual_at(n: usize, k: usize) -> Program
             b: n + 2,
             c: 0,
         },
-        _ => Program {
-            kind: 0,
-            a: 0,
-            b: 0,
-            c: 0,
-        },
+        _ => EMPTY,
     }
 }
 
 // Record i of the table that runs.
+#[tactic(auto, unfolding(remaining::specs::Extended::extended))]
 pub fn record_at(programs: &[u8], n: usize, interrupts: bool, i: usize) -> Program
     requires { ProgramTable programs.now n }
     ensures record { result ≡ table_of programs.now n interrupts i }
@@ -80,18 +84,7 @@ pub fn record_at(programs: &[u8], n: usize, interrupts: bool, i: usize) -> Progr
     if interrupts {
         return virtual_at(n, i - n);
     }
-    Program {
-        kind: 0,
-        a: 0,
-        b: 0,
-        c: 0,
-    }
-}
-
-fn capped(n: u64, most: u32) -> u32
-    ensures { result ≡ min most n }
-{
-    if n < most as u64 { n as u32 } else { most }
+    EMPTY
 }
 
 // Which actions the first n records perform.
@@ -100,14 +93,11 @@ pub fn performed(programs: &[u8], n: usize) -> [bool; state::conflicts::ACTIONS]
     ensures { Performed (program_at programs.now) n result }
 {
     let mut marks = [false; state::conflicts::ACTIONS];
-    let mut i = 0;
-    while i < n {
+    for i in 0..n {
         let r = records::program_at(programs, i);
-        let a = r.a;
-        if kinds::programs::acts(r.kind) & (a < state::conflicts::ACTIONS) {
-            marks[a] = true;
+        if kinds::programs::acts(r.kind) & (r.a < state::conflicts::ACTIONS) {
+            marks[r.a] = true;
         }
-        i += 1;
     }
     marks
 }
@@ -117,10 +107,7 @@ fn can_act(r: Program, actions: &[u8], truths: &[bool], conflicted: &[bool]) -> 
     requires { T (acts r.kind) → InActions actions.now r.a }
     ensures { result ≡ (acts r.kind && allowed_by actions.now truths.now conflicted.now r.a) }
 {
-    if kinds::programs::acts(r.kind) {
-        return state::possible(actions, truths, conflicted, r.a);
-    }
-    false
+    kinds::programs::acts(r.kind) && state::possible(actions, truths, conflicted, r.a)
 }
 
 fn count_at(
@@ -136,10 +123,7 @@ fn count_at(
     ensures { result ≡ capped_count_by r actions.now truths.now conflicted.now running finals.now counts.now }
 {
     let can = can_act(r, actions, truths, conflicted);
-    capped(
-        kinds::programs::count_by(r, can, truths, running, finals, counts),
-        CAP,
-    )
+    kinds::programs::count_by(r, can, truths, running, finals, counts).min(CAP) as u32
 }
 
 pub fn places_of(n: usize, interrupts: bool) -> usize
@@ -169,12 +153,10 @@ pub fn tallies(
     ensures places { length counts.new ≡ most_records }
 {
     let m = places_of(n, interrupts);
-    let mut i = 0;
-    while i < m {
+    for i in 0..m {
         let r = record_at(programs, n, interrupts, i);
         let k = count_at(r, actions, truths, conflicted, running, finals, counts);
         counts[i] = k;
-        i += 1;
     }
 }
 
@@ -185,12 +167,9 @@ pub fn bounds(programs: &[u8], n: usize, interrupts: bool, most: bool) -> [bool;
 {
     let m = places_of(n, interrupts);
     let mut marks = [true; RECORDS];
-    let mut i = 0;
-    while i < m {
+    for i in 0..m {
         let r = record_at(programs, n, interrupts, i);
-        let f = kinds::programs::final_bound_by(r, most, &marks);
-        marks[i] = f;
-        i += 1;
+        marks[i] = kinds::programs::final_bound_by(r, most, &marks);
     }
     marks
 }
@@ -199,7 +178,7 @@ pub fn bounds(programs: &[u8], n: usize, interrupts: bool, most: bool) -> [bool;
 fn doubt_at(endable: &[bool], sure: &[bool], i: usize) -> bool
     ensures { result ≡ doubt_by endable.now sure.now i }
 {
-    records::flag_in(endable, i, true) & !records::flag_in(sure, i, true)
+    records::value_in(endable, i, true) & !records::value_in(sure, i, true)
 }
 
 // From each record on, the first whose finality depends on the state, where `endable` has those that may be final in some.
@@ -211,9 +190,7 @@ pub fn skips(programs: &[u8], n: usize, interrupts: bool, endable: &[bool]) -> [
     let sure = bounds(programs, n, interrupts, false);
     let mut skips = [m as u32; SKIPS];
     let mut first = m as u32;
-    let mut i = m;
-    while 0 < i {
-        i -= 1;
+    for i in (0..m).rev() {
         if doubt_at(endable, &sure, i) {
             first = i as u32;
         }
@@ -229,12 +206,9 @@ pub fn distances(programs: &[u8], n: usize, interrupts: bool) -> [u32; RECORDS]
 {
     let m = places_of(n, interrupts);
     let mut distances = [0u32; RECORDS];
-    let mut i = 0;
-    while i < m {
+    for i in 0..m {
         let r = record_at(programs, n, interrupts, i);
-        let k = kinds::programs::distance_by(r, &distances);
-        distances[i] = capped(k, FARTHEST as u32);
-        i += 1;
+        distances[i] = kinds::programs::distance_by(r, &distances).min(FARTHEST as u64) as u32;
     }
     distances
 }

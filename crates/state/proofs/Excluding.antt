@@ -1,20 +1,20 @@
 -- The laws of what is told once of a sheet: a pass that notes what stands under which condition tells ranges whose effects contradict each
 -- other in no state; and a list has the marked numbers. Assumes nothing.
-use Prim.Native.Nat.{ℕ, suc, ◌+◌, ◌-◌, ◌*◌, ◌≤◌, ◌<◌}
-use mathlib.Core.Path.{◌≡◌, refl, sym, ◌∙◌, ap, subst}
+use Prim.Native.Nat.{ℕ, ◌+◌, ◌*◌, ◌≤◌, ◌<◌}
+use mathlib.Core.Path.{◌≡◌, sym, ◌∙◌, ap, subst}
 use mathlib.Core.Bool.{Bool, true, false, false≢true}
 use mathlib.Core.List.{List}
-use native.Mathlib.Numerals.{add-one}
 use native.Mathlib.Decide.{ℕ_discrete, dec_lt}
 use native.Mathlib.Omega.{arith}
-use lib.Dec.{T, ltb}
+use Rattle.std.specs.Prelude.{Option, None, Some}
+use lib.Dec.{T}
 use lib.ListN.{length, get_or, set, replicate, length-set, length-replicate, get_or-eq_default, get_or-replicate}
 use lib.Seq.{get_or-set_same, get_or-set_other}
 use Rattle.records.specs.declared.Formula.{Formula}
 use Rattle.records.specs.declared.Effect.{Effect}
 use Rattle.records.specs.Records.{formula_at, effect_at, action_at}
 use Rattle.records.proofs.Fills.{get_d_same}
-use Rattle.records.proofs.Truth.{and_left, is_false}
+use Rattle.records.proofs.Truth.{is_false}
 use Rattle.records.proofs.Written.{written}
 use Rattle.kinds.specs.Formulas.{asks_value}
 use Rattle.golog.specs.declared.State.{State}
@@ -25,102 +25,72 @@ use Rattle.golog.proofs.Possible.{conflicting_exactly}
 use Rattle.golog.proofs.Formulas.{value_said}
 use Rattle.state.specs.Truths.{said_by, AreTruths}
 use Rattle.state.specs.Ranges.{ConditionsBelow}
-use Rattle.state.specs.Conflicts.{differs, listed_count, Lists}
-use Rattle.state.specs.Exclusion.{asks_in_domain, asked_fluent, asked_value, Excluded, Exclusive, MayConflict}
-use Rattle.state.proofs.Noting.{still_noted}
+use Rattle.state.specs.Conflicts.{listed_count, Lists}
+use Rattle.state.specs.declared.exclusion.Asked.{Asked}
+use Rattle.state.specs.Exclusion.{asked_of, Exclusive, MayConflict}
 
--- conditions on one fluent, or on none, that ask for different values
-excluded : (c d : Formula) → asked_fluent c ≡ asked_fluent d → ¬ (asked_value c ≡ asked_value d) → Excluded c d
-excluded c d = go (asks_in_domain c) refl (asks_in_domain d) refl
-  where
-    asks : (r : Formula) → asks_in_domain r ≡ true → T (asks_value r.kind)
-    asks r e = subst T (sym (and_left (asks_value r.kind) (ltb r.a 16) e)) tt
+-- the fluent that a condition asks for, if any, and the value, or 0
+abbrev pub fluent_of : Option Asked → Option ℕ
+fluent_of None = None
+fluent_of (Some a) = Some a.fluent
 
-    go : (p : Bool) → asks_in_domain c ≡ p → (q : Bool) → asks_in_domain d ≡ q → asked_fluent c ≡ asked_fluent d → ¬ (asked_value c ≡ asked_value d) → Excluded c d
-    go true e true f = rw (e, f) (λ same differ. record { one = asks c e; other = asks d f; fluent = omega arith; values = differ })
-    go true e false f = rw (e, f) (λ same differ. absurd (omega arith))
-    go false e true f = rw (e, f) (λ same differ. absurd (omega arith))
-    go false e false f = rw (e, f) (λ same differ. absurd (differ refl))
+abbrev pub value_of : Option Asked → ℕ
+value_of None = 0
+value_of (Some a) = a.value
 
--- what a condition asks for is never noted as 0
-asked_some : (c : Formula) → asked_fluent c ≡ suc (asked_fluent c - 1)
-asked_some c = go (asks_in_domain c) refl
-  where
-    go : (p : Bool) → asks_in_domain c ≡ p → asked_fluent c ≡ suc (asked_fluent c - 1)
-    go true e = rw e (omega arith)
-    go false e = rw e refl
+-- what is noted, if anything, is w
+abbrev pub Agrees : {A : Type 0} → Option A → A → Type 0
+Agrees None w = Unit {0}
+Agrees (Some v) w = v ≡ w
+
+-- it stays noted where w is written over it
+still_some :
+    {A : Type 0} (noted : List (Option A)) (x : ℕ) (w : A) → x < length noted → Agrees (get_or noted x None) w
+    → (y : ℕ) (v : A) → get_or noted y None ≡ Some v → get_or (set noted x (Some w)) y None ≡ Some v
+still_some {A} noted x w inside same y v old =
+    written (λ (n : Option A). n ≡ Some v) None noted x (Some w) inside y (λ n. old)
+    (λ e. ap Some (sym (subst (λ (n : Option A). Agrees n w) (ap (λ (z : ℕ). get_or noted z None) (sym e) ∙ old) same)))
 
 module _ (formulas effects : List ℕ) (first : ℕ) where
-  -- the condition of effect a, and the place in which its value is noted
-  abbrev condition : ℕ → Formula
-  condition a = formula_at formulas (effect_at effects a).condition
+  -- what the condition of effect a asks for, and the place in which its value is noted
+  abbrev asked : ℕ → Option Asked
+  asked a = asked_of (formula_at formulas (effect_at effects a).condition)
 
   abbrev place : ℕ → ℕ
-  place a = 16 * (effect_at effects a).fluent + asked_value (condition a)
+  place a = 16 * (effect_at effects a).fluent + value_of (asked a)
 
   -- of each effect before number i it is noted what its condition asks for, and under that its value
-  pub record AskedBefore (fluents noted : List ℕ) (i : ℕ) : Type 0 where
+  pub record AskedBefore (fluents : List (Option (Option ℕ))) (noted : List (Option ℕ)) (i : ℕ) : Type 0 where
     pub fluents_long : length fluents ≡ 32
     pub noted_long : length noted ≡ 512
-    pub fluent : (a : ℕ) → first ≤ a → a < i → get_or fluents (effect_at effects a).fluent 0 ≡ asked_fluent (condition a)
-    pub value : (a : ℕ) → first ≤ a → a < i → get_or noted (place a) 0 ≡ suc (effect_at effects a).value
+    pub fluent : (a : ℕ) → first ≤ a → a < i → get_or fluents (effect_at effects a).fluent None ≡ Some (fluent_of (asked a))
+    pub value : (a : ℕ) → first ≤ a → a < i → get_or noted (place a) None ≡ Some (effect_at effects a).value
 
-  pub asked_none : AskedBefore (replicate 32 0) (replicate 512 0) first
-  asked_none = record {
-    fluents_long = length-replicate {A = ℕ} 32 0;
-    noted_long = length-replicate {A = ℕ} 512 0;
-    fluent = λ a l m. absurd (omega arith);
-    value = λ a l m. absurd (omega arith);
-  }
-
-  module _ {fluents noted : List ℕ} {i : ℕ} (G : AskedBefore fluents noted i) where
-    -- effect i is e, under a condition that asks for `asked`, and `at` is its place
+  module _ {fluents : List (Option (Option ℕ))} {noted : List (Option ℕ)} {i : ℕ} (G : AskedBefore fluents noted i) where
+    -- effect i is e, under a condition that asks for f, and `at` is its place
     module _
-        {e : Effect} (r : e ≡ effect_at effects i) {asked at given : ℕ} (ga : asked ≡ asked_fluent (formula_at formulas e.condition))
-        (pa : at ≡ 16 * e.fluent + asked_value (formula_at formulas e.condition)) (gv : given ≡ e.value + 1) where
+        {e : Effect} (r : e ≡ effect_at effects i) {f : Option ℕ} {at : ℕ} (ga : f ≡ fluent_of (asked_of (formula_at formulas e.condition)))
+        (pa : at ≡ 16 * e.fluent + value_of (asked_of (formula_at formulas e.condition))) where
       pub asked_more :
           e.fluent < 32 → at < 512
-          → differs (get_or fluents e.fluent 0) asked ≡ false
-          → differs (get_or noted at 0) given ≡ false
-          → AskedBefore (set fluents e.fluent asked) (set noted at given) (i + 1)
+          → Agrees (get_or fluents e.fluent None) f
+          → Agrees (get_or noted at None) e.value
+          → AskedBefore (set fluents e.fluent (Some f)) (set noted at (Some e.value)) (i + 1)
       asked_more l m one other = record {
-        fluents_long = length-set fluents e.fluent asked ∙ G.fluents_long;
-        noted_long = length-set noted at given ∙ G.noted_long;
-        fluent = λ a f t. fluent_of_lem a f t (ℕ_discrete a i);
-        value = λ a f t. value_of a f t (ℕ_discrete a i);
+        fluents_long = length-set fluents e.fluent (Some f) ∙ G.fluents_long;
+        noted_long = length-set noted at (Some e.value) ∙ G.noted_long;
+        fluent = λ a k t. fluent_at a k t (ℕ_discrete a i);
+        value = λ a k t. value_at a k t (ℕ_discrete a i);
       }
         where
-          known : {X : Type 0} (f : Effect → X) → f e ≡ f (effect_at effects i)
-          known f = ap f r
+          fluent_at : (a : ℕ) → first ≤ a → a < i + 1 → Dec (a ≡ i) → get_or (set fluents e.fluent (Some f)) (effect_at effects a).fluent None ≡ Some (fluent_of (asked a))
+          fluent_at a k t (yes z) =
+              rw (z, ← r) (get_or-set_same fluents e.fluent (Some f) None (omega (arith, G.fluents_long)) ∙ ap Some ga)
+          fluent_at a k t (no z) = still_some fluents e.fluent f (omega (arith, G.fluents_long)) one _ _ (G.fluent a k (omega (arith, z)))
 
-          fluent_of_lem : (a : ℕ) → first ≤ a → a < i + 1 → Dec (a ≡ i) → get_or (set fluents e.fluent asked) (effect_at effects a).fluent 0 ≡ asked_fluent (condition a)
-          fluent_of_lem a f t (yes z) =
-              subst (λ (b : ℕ). get_or (set fluents e.fluent asked) (effect_at effects b).fluent 0 ≡ asked_fluent (condition b)) (sym z)
-              (ap (λ (x : ℕ). get_or (set fluents e.fluent asked) x 0) (sym (known (λ (d : Effect). d.fluent)))
-              ∙ get_or-set_same fluents e.fluent asked 0 (omega (arith, G.fluents_long)) ∙ ga ∙ known (λ (d : Effect). asked_fluent (formula_at formulas d.condition)))
-          fluent_of_lem a f t (no z) =
-              still_noted fluents e.fluent asked (omega (arith, G.fluents_long)) one _ _ (G.fluent a f (omega (arith, z)) ∙ asked_some (condition a))
-              ∙ sym (asked_some (condition a))
-
-          value_of : (a : ℕ) → first ≤ a → a < i + 1 → Dec (a ≡ i) → get_or (set noted at given) (place a) 0 ≡ suc (effect_at effects a).value
-          value_of a f t (yes z) =
-              subst (λ (b : ℕ). get_or (set noted at given) (place b) 0 ≡ suc (effect_at effects b).value) (sym z)
-              (ap (λ (x : ℕ). get_or (set noted at given) x 0) (sym (pa ∙ known (λ (d : Effect). 16 * d.fluent + asked_value (formula_at formulas d.condition))))
-              ∙ get_or-set_same noted at given 0 (omega (arith, G.noted_long)) ∙ gv ∙ add-one e.value ∙ known (λ (d : Effect). suc d.value))
-          value_of a f t (no z) = still_noted noted at given (omega (arith, G.noted_long)) other _ _ (G.value a f (omega (arith, z)))
-
-    -- behind the last effect
-    pub asked_all : (count : ℕ) → first + count ≤ i → Exclusive formulas effects first count
-    asked_all count l a b (f, t) (g, u) same differ =
-        let one = G.fluent a f (omega arith) in
-        let other = G.fluent b g (omega arith) in
-        excluded (condition a) (condition b) (sym one ∙ ap (λ (x : ℕ). get_or fluents x 0) same ∙ other) (λ z. differ (equal z))
-      where
-        equal : asked_value (condition a) ≡ asked_value (condition b) → (effect_at effects a).value ≡ (effect_at effects b).value
-        equal z =
-            let p : place a ≡ place b = omega arith in
-            let e = sym (G.value a f (omega arith)) ∙ ap (λ (x : ℕ). get_or noted x 0) p ∙ G.value b g (omega arith) in
-            omega arith
+          value_at : (a : ℕ) → first ≤ a → a < i + 1 → Dec (a ≡ i) → get_or (set noted at (Some e.value)) (place a) None ≡ Some (effect_at effects a).value
+          value_at a k t (yes z) = rw (z, ← r, ← pa) (get_or-set_same noted at (Some e.value) None (omega (arith, G.noted_long)))
+          value_at a k t (no z) = still_some noted at e.value (omega (arith, G.noted_long)) other _ _ (G.value a k (omega (arith, z)))
 
 -- where no effects contradict each other although every formula holds, none give one fluent different values
 pub held_exclusive :
@@ -152,10 +122,7 @@ exclusive_none formulas effects i k A W s n truths H F low =
         let other = asked _ (low b g u) j E.other in
         E.values (sym one ∙ ap (λ (x : ℕ). get_or s.values x 0) E.fluent ∙ other)
 
--- of a number that is not marked no marked one is the same, and every marked one has a place
-unmarked_other : (marks : List Bool) (a b : ℕ) → get_or marks a false ≡ false → get_or marks b false ≡ true → b ≡ a → ⊥
-unmarked_other marks a b e m z = false≢true (sym e ∙ ap (λ (i : ℕ). get_or marks i false) (sym z) ∙ m)
-
+-- every marked number has a place
 marked_below : (marks : List Bool) (b : ℕ) → get_or marks b false ≡ true → b < length marks
 marked_below marks b m = go (dec_lt b (length marks))
   where
@@ -167,7 +134,7 @@ marked_below marks b m = go (dec_lt b (length marks))
 module _ (formulas effects actions : List ℕ) (marks : List Bool) where
   pub record MayConflictBelow (may : List Bool) (a : ℕ) : Type 0 where
     pub long : length may ≡ 64
-    pub within : (b : ℕ) → get_or may b false ≡ true → (b < a) × (get_or marks b false ≡ true)
+    pub within : (b : ℕ) → get_or may b false ≡ true → get_or marks b false ≡ true
     pub rest : (b : ℕ) → b < a → get_or marks b false ≡ true → get_or may b false ≡ false → Exclusive formulas effects (action_at actions b).first (action_at actions b).count
 
   pub below_none : MayConflictBelow (replicate 64 false) 0
@@ -178,30 +145,21 @@ module _ (formulas effects actions : List ℕ) (marks : List Bool) where
   }
 
   module _ {may : List Bool} {a : ℕ} (R : MayConflictBelow may a) where
-    pub below_passed : get_or marks a false ≡ false → MayConflictBelow may (a + 1)
-    below_passed e = record {
-      long = R.long;
-      within = λ b t. let (l, m) = R.within b t in (omega arith, m);
-      rest = λ b l m. R.rest b (omega (arith, unmarked_other marks a b e m)) m;
-    }
-
     pub below_more :
-        {t : Bool} → get_or marks a false ≡ true → a < 64 → (t ≡ false → Exclusive formulas effects (action_at actions a).first (action_at actions a).count)
+        {t : Bool} → a < 64 → (t ≡ true → get_or marks a false ≡ true)
+        → (get_or marks a false ≡ true → t ≡ false → Exclusive formulas effects (action_at actions a).first (action_at actions a).count)
         → MayConflictBelow (set may a t) (a + 1)
-    below_more {t} m l A = record {
+    below_more {t} l m A = record {
       long = length-set may a t ∙ R.long;
-      within = λ b. written (λ (x : Bool). x ≡ true → (b < a + 1) × (get_or marks b false ≡ true)) false may a t inside b
-          (λ n x. let (k, h) = R.within b x in (omega arith, h)) (λ z x. (omega arith, ap (λ (i : ℕ). get_or marks i false) z ∙ m));
-      rest = λ b k h. written (λ (x : Bool). x ≡ false → Exclusive formulas effects (action_at actions b).first (action_at actions b).count) false may a t inside b
+      within = λ b. written (λ (x : Bool). x ≡ true → get_or marks b false ≡ true) false may a t (omega (arith, R.long)) b
+          (λ n. R.within b) (λ z x. ap (λ (i : ℕ). get_or marks i false) z ∙ m x);
+      rest = λ b k h. written (λ (x : Bool). x ≡ false → Exclusive formulas effects (action_at actions b).first (action_at actions b).count) false may a t (omega (arith, R.long)) b
           (λ n. R.rest b (omega (arith, n)) h)
-          (λ z x. subst (λ (i : ℕ). Exclusive formulas effects (action_at actions i).first (action_at actions i).count) (sym z) (A x));
+          (λ z. subst (λ (i : ℕ). get_or marks i false ≡ true → t ≡ false → Exclusive formulas effects (action_at actions i).first (action_at actions i).count) (sym z) A h);
     }
-      where
-        inside : a < length may
-        inside = omega (arith, R.long)
 
     pub below_done : length marks ≡ 64 → 64 ≤ a → MayConflict formulas effects actions marks may
-    below_done long l = record { within = λ b t. (R.within b t).1; rest = λ b m. R.rest b (omega (arith, long, marked_below marks b m)) m }
+    below_done long l = record { within = R.within; rest = λ b m. R.rest b (omega (arith, long, marked_below marks b m)) m }
 
 module _ (marks : List Bool) where
   -- the first n places of the list are the marked numbers below a
@@ -211,39 +169,7 @@ module _ (marks : List Bool) where
     pub marked : (j : ℕ) → j < n → (get_or list j 0 < a) × (get_or marks (get_or list j 0) false ≡ true)
     pub all : (b : ℕ) → b < a → get_or marks b false ≡ true → (j : ℕ) × (j < n) × (get_or list j 0 ≡ b)
 
-  pub listing_none : Listing (replicate 65 0) 0 0
-  listing_none = record {
-    long = length-replicate {A = ℕ} 65 0;
-    few = omega arith;
-    marked = λ j l. absurd (omega arith);
-    all = λ b l. absurd (omega arith);
-  }
-
   module _ {list : List ℕ} {n a : ℕ} (L : Listing list n a) where
-    pub listing_passed : get_or marks a false ≡ false → Listing list n (a + 1)
-    listing_passed e = record {
-      long = L.long;
-      few = omega (arith, L.few);
-      marked = λ j l. (omega (arith, (L.marked j l).0), (L.marked j l).1);
-      all = λ b l m. L.all b (omega (arith, unmarked_other marks a b e m)) m;
-    }
-
-    pub listing_more : get_or marks a false ≡ true → a < 64 → Listing (set list n a) (n + 1) (a + 1)
-    listing_more e small = record {
-      long = length-set list n a ∙ L.long;
-      few = omega (arith, L.few);
-      marked = λ j l. written (λ (v : ℕ). (v < a + 1) × (get_or marks v false ≡ true)) 0 list n a inside j
-          (λ z. let m = L.marked j (omega (arith, z)) in (omega (arith, m.0), m.1)) (λ z. (omega arith, e));
-      all = λ b l m. pick b l m (dec_lt b a);
-    }
-      where
-        inside : n < length list
-        inside = omega (arith, L.long, L.few)
-
-        pick : (b : ℕ) → b < a + 1 → get_or marks b false ≡ true → Dec (b < a) → (j : ℕ) × (j < n + 1) × (get_or (set list n a) j 0 ≡ b)
-        pick b l m (yes k) = let (j, h, z) = L.all b k m in (j, omega arith, get_or-set_other list n j a 0 (λ y. omega arith) ∙ z)
-        pick b l m (no k) = (n, omega arith, get_or-set_same list n a 0 inside ∙ omega arith)
-
     -- and how many there are is written behind all places
     pub listing_done : 64 ≤ a → a ≤ 64 → length marks ≡ 64 → Lists marks (set list 64 n)
     listing_done l h long = record {

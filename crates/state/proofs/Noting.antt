@@ -9,8 +9,9 @@ use native.Mathlib.Numerals.{add-one}
 use native.Mathlib.Decide.{ℕ_discrete}
 use native.Mathlib.Omega.{arith}
 use borrow.Author.Tests.{not-true, eqb-false, ne_eqb}
+use Rattle.std.specs.Prelude.{Option, None, Some, map}
 use lib.Dec.{T, eqb}
-use lib.ListN.{length, get_or, set, replicate, length-set, length-replicate}
+use lib.ListN.{length, get_or, set, replicate, length-set, length-replicate, get_or-map}
 use lib.Seq.{get_or-set_same}
 use Rattle.records.specs.declared.Effect.{Effect}
 use Rattle.records.specs.Records.{effect_at, action_at}
@@ -46,6 +47,17 @@ still_noted noted x w inside same y v old =
     written (λ (n : ℕ). n ≡ suc v) 0 noted x w inside y (λ n. old)
     (λ e. let here = ap (λ (z : ℕ). get_or noted z 0) (sym e) ∙ old in
     ⊎_elim (λ (n : get_or noted x 0 ≡ 0). absurd (omega arith)) (λ n. sym n ∙ here) (differ_false (get_or noted x 0) w same))
+
+-- what may be noted, as numbers: 0 for nothing, and else one more than it
+abbrev pub code : Option ℕ → ℕ
+code None = 0
+code (Some v) = v + 1
+
+abbrev pub codes : List (Option ℕ) → List ℕ
+codes noted = map code noted
+
+pub differs_code : (noted : List (Option ℕ)) (x w : ℕ) → differs (get_or (codes noted) x 0) w ≡ differs (code (get_or noted x None)) w
+differs_code noted x w = ap (λ (n : ℕ). differs n w) (get_or-map code noted x None)
 
 module _ (says : ℕ → Bool) (effects : List ℕ) (first : ℕ) where
   -- effect a stands before number i and holds

@@ -1,6 +1,7 @@
 -- Own vocabulary: actions whose effects contradict each other in no state, told from the sheet alone. Assumes nothing.
-use Rattle.std.specs.Prelude.{ℕ, ◌+◌, ◌*◌, ◌≤◌, ◌<◌, ◌≡◌, Bool, true, false, cond, ◌&&◌, List, T, ltb, length, get_or}
+use Rattle.std.specs.Prelude.{Option, None, Some, ℕ, ◌+◌, ◌*◌, ◌≤◌, ◌<◌, ◌≡◌, Bool, true, false, cond, ◌&&◌, List, T, ltb, length, get_or}
 use Rattle.records.specs.declared.Formula.{Formula}
+use Rattle.state.specs.declared.exclusion.Asked.{Asked}
 use Rattle.records.specs.Records.{formula_at, effect_at, action_at}
 use Rattle.kinds.specs.Formulas.{asks_value}
 use Rattle.records.specs.Some.{InRange}
@@ -10,12 +11,9 @@ use Rattle.state.specs.Ranges.{Names, ConditionsBelow}
 abbrev pub asks_in_domain : Formula → Bool
 asks_in_domain r = asks_value r.kind && ltb r.a 16
 
--- that fluent, by 2 more than its number, and the value; of any other formula 1 and 0
-abbrev pub asked_fluent : Formula → ℕ
-asked_fluent r = cond (asks_in_domain r) (r.x + 2) 1
-
-abbrev pub asked_value : Formula → ℕ
-asked_value r = cond (asks_in_domain r) r.a 0
+-- which fluent and which value, if any
+abbrev pub asked_of : Formula → Option Asked
+asked_of r = cond (asks_in_domain r) (Some (record { fluent = r.x; value = r.a })) None
 
 -- two conditions exclude each other: that one fluent has two values
 pub record Excluded (c d : Formula) : Type 0 where

@@ -26,20 +26,17 @@ pub fn conflict(effects: &[u8], first: usize, count: usize, truths: &[bool]) -> 
     requires { (4 * (first + count) ≤ length effects.now) × Names effects.now 32 first count }
     ensures { result ≡ conflicting (said_by truths.now) (effect_at effects.now) first count }
 {
-    let end = first + count;
-    let mut noted = [0u16; FLUENTS];
-    let mut i = first;
-    while i < end {
+    let mut noted: [Option<u8>; FLUENTS] = [None; FLUENTS];
+    for i in first..first + count {
         let e = records::effect_at(effects, i);
-        if records::flag_in(truths, e.condition, false) {
+        if records::value_in(truths, e.condition, false) {
             let x = e.fluent;
-            let given = e.value as u16 + 1;
-            if differs(noted[x], given) {
+            let given = e.value as u8;
+            if noted[x].is_some_and(|v| v != given) {
                 return true;
             }
-            noted[x] = given;
+            noted[x] = Some(given);
         }
-        i += 1;
     }
     false
 }
@@ -49,10 +46,7 @@ pub fn is_in_conflict(effects: &[u8], r: Action, truths: &[bool]) -> bool
     requires { (4 * (r.first + r.count) ≤ length effects.now) × Names effects.now 32 r.first r.count }
     ensures { result ≡ in_conflict effects.now truths.now r }
 {
-    if records::flag_in(truths, r.precondition, false) {
-        return conflict(effects, r.first, r.count, truths);
-    }
-    false
+    records::value_in(truths, r.precondition, false) && conflict(effects, r.first, r.count, truths)
 }
 
 // Of which of the listed actions effects contradict each other although the precondition holds, where `truths` has what the formulas say.
@@ -60,13 +54,11 @@ pub fn in_conflict(effects: &[u8], actions: &[u8], list: &[u32], truths: &[bool]
     requires { ReadableListed effects.now actions.now list.now }
     ensures { Conflicted effects.now actions.now list.now truths.now result }
 {
-    let n = records::wide32(records::number_in(list, ACTIONS, 0));
+    let n = records::value_in(list, ACTIONS, 0) as usize;
     let mut marks = [false; ACTIONS];
-    let mut j = 0;
-    while j < n {
-        let a = records::wide32(records::number_in(list, j, 0));
+    for j in 0..n {
+        let a = records::value_in(list, j, 0) as usize;
         marks[a] = is_in_conflict(effects, records::action_at(actions, a), truths);
-        j += 1;
     }
     marks
 }

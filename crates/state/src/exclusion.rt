@@ -2,7 +2,7 @@
 ghost use Rattle.std.specs.Prelude.{◌≡◌, true, false, ◌+◌, ◌*◌, ◌≤◌, ◌<◌, length};
 ghost use Rattle.records.specs.Records.{formula_at};
 ghost use Rattle.state.specs.Conflicts.{most_actions, Lists};
-ghost use Rattle.state.specs.Exclusion.{asked_fluent, asked_value, Exclusive, Readable, ReadableAll, MayConflict};
+ghost use Rattle.state.specs.Exclusion.{asked_of, Exclusive, Readable, ReadableAll, MayConflict};
 
 use crate::conflicts::{ACTIONS, FLUENTS};
 use records::Action;
@@ -15,55 +15,47 @@ const VALUES: usize = 16;
 // The places of a list of actions: one for each, and one for how many there are.
 pub const LIST: usize = ACTIONS + 1;
 
-// What a condition asks for, that a fluent has a value: 2 more than the fluent, and the value; of any other condition 1 and 0.
+// What a condition asks for: that a fluent has a value.
 #[derive(Clone, Copy)]
 struct Asked {
-    fluent: u16,
+    fluent: u8,
     value: usize,
 }
 
-fn asked_at(formulas: &[u8], q: usize) -> Asked
+fn asked_at(formulas: &[u8], q: usize) -> Option<Asked>
     requires { 6 * q + 6 ≤ length formulas.now }
-    ensures asked { (result.fluent ≡ asked_fluent (formula_at formulas.now q)) × (result.value ≡ asked_value (formula_at formulas.now q)) }
-    ensures small { result.value < 16 }
+    ensures { result ≡ asked_of (formula_at formulas.now q) }
 {
     let r = records::formula_at(formulas, q);
     if kinds::formulas::asks_value(r.kind) & (r.a < VALUES) {
-        return Asked {
-            fluent: r.x as u16 + 2,
+        return Some(Asked {
+            fluent: r.x as u8,
             value: r.a,
-        };
+        });
     }
-    Asked {
-        fluent: 1,
-        value: 0,
-    }
+    None
 }
 
 // Yes only if effects of a range that give one fluent different values stand under conditions that one fluent has different values: one
-// pass, which notes for each fluent what the conditions of its effects ask for, and what each value asked for gives.
+// pass, which notes for each fluent which one the conditions of its effects ask for, if any, and what each value asked for gives.
 fn is_exclusive(formulas: &[u8], effects: &[u8], first: usize, count: usize) -> bool
     requires { Readable formulas.now effects.now first count }
     ensures { result ≡ true → Exclusive formulas.now effects.now first count }
 {
-    let end = first + count;
-    let mut fluents = [0u16; FLUENTS];
-    let mut noted = [0u16; FLUENTS * VALUES];
-    let mut i = first;
-    while i < end {
+    let mut fluents: [Option<Option<u8>>; FLUENTS] = [None; FLUENTS];
+    let mut noted: [Option<u8>; FLUENTS * VALUES] = [None; FLUENTS * VALUES];
+    for i in first..first + count {
         let e = records::effect_at(effects, i);
         let asked = asked_at(formulas, e.condition);
         let x = e.fluent;
-        let at = VALUES * x + asked.value;
-        let given = e.value as u16 + 1;
-        if crate::conflicts::differs(fluents[x], asked.fluent)
-            | crate::conflicts::differs(noted[at], given)
-        {
+        let fluent = asked.map(|a| a.fluent);
+        let at = VALUES * x + asked.map_or(0, |a| a.value);
+        let given = e.value as u8;
+        if fluents[x].is_some_and(|f| f != fluent) | noted[at].is_some_and(|v| v != given) {
             return false;
         }
-        fluents[x] = asked.fluent;
-        noted[at] = given;
-        i += 1;
+        fluents[x] = Some(fluent);
+        noted[at] = Some(given);
     }
     true
 }
@@ -75,10 +67,8 @@ fn action_may_conflict(formulas: &[u8], effects: &[u8], r: Action) -> bool
     ensures { result ≡ false → Exclusive formulas.now effects.now r.first r.count }
 {
     let held = [true; FORMULAS];
-    if crate::conflicts::conflict(effects, r.first, r.count, &held) {
-        return !is_exclusive(formulas, effects, r.first, r.count);
-    }
-    false
+    crate::conflicts::conflict(effects, r.first, r.count, &held)
+        && !is_exclusive(formulas, effects, r.first, r.count)
 }
 
 // Of the marked actions those whose effects may contradict each other in some state; the others do so in none.
@@ -92,12 +82,8 @@ pub fn may_conflict(
     ensures { MayConflict formulas.now effects.now actions.now marks.now result }
 {
     let mut may = [false; ACTIONS];
-    let mut a = 0;
-    while a < ACTIONS {
-        if marks[a] {
-            may[a] = action_may_conflict(formulas, effects, records::action_at(actions, a));
-        }
-        a += 1;
+    for a in 0..ACTIONS {
+        may[a] = marks[a] && action_may_conflict(formulas, effects, records::action_at(actions, a));
     }
     may
 }
@@ -109,13 +95,11 @@ pub fn listed(marks: &[bool]) -> [u32; LIST]
 {
     let mut list = [0u32; LIST];
     let mut n = 0;
-    let mut a = 0;
-    while a < ACTIONS {
-        if marks[a] {
+    for (a, mark) in marks.iter().enumerate() {
+        if *mark {
             list[n] = a as u32;
             n += 1;
         }
-        a += 1;
     }
     list[ACTIONS] = n as u32;
     list

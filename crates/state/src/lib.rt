@@ -34,11 +34,9 @@ pub fn fill_truths(formulas: &[u8], n: usize, s: State, truths: &mut [bool])
     ensures { truths.new ≡ truths_of formulas.now s.values n truths.old }
 {
     let values = s.values;
-    let mut i = 0;
-    while i < n {
+    for i in 0..n {
         let r = truth_at(formulas, i, &values, truths);
         truths[i] = r;
-        i += 1;
     }
 }
 
@@ -51,7 +49,7 @@ pub fn possible(actions: &[u8], truths: &[bool], conflicted: &[bool], a: usize) 
         return true;
     }
     let r = records::action_at(actions, a);
-    records::flag_in(truths, r.precondition, false) & !records::flag_in(conflicted, a, false)
+    records::value_in(truths, r.precondition, false) & !records::value_in(conflicted, a, false)
 }
 
 // What evaluating a formula answers: whether it holds, and the set of the fluents that it names, bit x for fluent x.
@@ -66,8 +64,8 @@ pub fn evaluate(truths: &[bool], sets: &[u32], q: usize) -> Evaluated
     ensures { result ≡ evaluated_by truths.now sets.now q }
 {
     Evaluated {
-        holds: records::flag_in(truths, q, false),
-        names: records::number_in(sets, q, 0),
+        holds: records::value_in(truths, q, false),
+        names: records::value_in(sets, q, 0),
     }
 }
 
@@ -96,7 +94,7 @@ pub fn possible_check(
     }
     Possibility {
         possible,
-        names: records::number_in(sets, a, 0),
+        names: records::value_in(sets, a, 0),
     }
 }
 
@@ -112,16 +110,13 @@ pub fn new_values(
     requires { (4 * (r.first + r.count) ≤ length effects.now) × (n ≤ 32) × Names effects.now n r.first r.count }
     ensures { result ≡ changed (said_by truths.now) (effect_at effects.now) r values }
 {
-    let first = r.first;
-    let end = first + r.count;
     let mut new = values;
     let mut given = [false; conflicts::FLUENTS];
     let mut left = n;
-    let mut i = first;
-    while i < end {
+    for i in r.first..r.first + r.count {
         let e = records::effect_at(effects, i);
         let x = e.fluent;
-        if records::flag_in(truths, e.condition, false) & !given[x] {
+        if records::value_in(truths, e.condition, false) & !given[x] {
             new[x] = e.value as u8;
             given[x] = true;
             left -= 1;
@@ -129,12 +124,12 @@ pub fn new_values(
                 return new;
             }
         }
-        i += 1;
     }
     new
 }
 
 // The state after action a, where n is the number of fluents and `truths` has what the formulas say of s.
+#[tactic(auto, unfolding(golog::specs::World::perform_by))]
 pub fn perform(
     effects: &[u8],
     actions: &[u8],

@@ -5,20 +5,18 @@ use mathlib.Core.Logic.{inl, inr}
 use native.Mathlib.Omega.{arith}
 use lib.ListN.{length-set, length-replicate}
 use Rattle.leaves.proofs.Skipping.{none, more, all}
-use borrow.Author.Rules.{rules}
 use Rattle.leaves.proofs.skips.Goals as goal
 use Rattle.leaves.proofs.skips.Goals.{then-doubt_at, else-doubt_at}
 
 pub loop-i-init : goal.loop-i-init
-loop-i-init c = (search rules, length-replicate 261 c.places_of-m.result, none)
+loop-i-init c = (length-replicate 261 c.places_of-m.result, none)
 
 pub loop-i-preserved : goal.loop-i-preserved
 loop-i-preserved c =
-    let v = c.loop-i.invariant in
+    let (long, v) = c.loop-i.invariant in
     let d = c.doubt_at.ensures in (
-      omega arith,
-      simp length-set v.1,
-      more (omega arith) (omega arith) (omega arith) v.2 (elim c.if-doubt_at.branch [
+      simp length-set long,
+      more (omega arith) (omega arith) (omega arith) v (elim c.if-doubt_at.branch [
         | then-doubt_at w ↦ inl (sym d ∙ w.if-doubt_at.true, w.first-is)
         | else-doubt_at w ↦ inr (sym d ∙ w.if-doubt_at.false, w.first-is)
       ]),
@@ -26,7 +24,7 @@ loop-i-preserved c =
 
 pub returns : goal.returns
 returns c =
-    let v = c.loop-i.invariant in
+    let (long, v) = c.loop-i.invariant in
     let e = c.places_of-m.ensures.0 in
     let z : c.loop-i.i ≡ 0 = omega arith in
-    rw (← e) (all _ _ _ (omega arith) v.1 (rw (z, c.bounds-sure.ensures, ← e) at v.2))
+    rw (← e) (all _ _ _ (omega arith) long (rw (z, c.bounds-sure.ensures, ← e) at v))

@@ -1,5 +1,4 @@
 use mathlib.Core.Path.{◌≡◌}
-use Prim.Native.Nat.{◌-◌, ◌≤◌}
 use lib.ListN.{length}
 use Rattle.records.specs.Records.{program_at}
 use Rattle.records.proofs.Fills.{Refilled}
@@ -13,9 +12,6 @@ use Rattle.leaves.proofs.tallies.Given as goal
 
 abbrev pub invariant-loop-i : goal.invariant-loop-i
 invariant-loop-i l =
-    (l.i ≤ l.m) × (length l.counts ≡ 260)
+    (length l.counts ≡ 260)
     × ((W : World) (s : State) → Sees W s (extended l.interrupts (program_at l.programs) l.n) (extended_size l.interrupts l.n) l.truths (allowed_by l.actions l.truths l.conflicted) l.running →
     Refilled (leaf_at W s (extended l.interrupts (program_at l.programs) l.n)) capped_count l.initial.counts l.counts l.i)
-
-abbrev pub decreases-loop-i : goal.decreases-loop-i
-decreases-loop-i l = l.m - l.i

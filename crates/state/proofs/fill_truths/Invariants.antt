@@ -1,11 +1,7 @@
 use mathlib.Core.Bool.{Bool}
-use Prim.Native.Nat.{◌≤◌, ◌-◌}
 use Rattle.state.specs.Truths.{truth_in}
 use Rattle.records.proofs.Fills.{Refilled}
 use Rattle.state.proofs.fill_truths.Given as goal
 
 abbrev pub invariant-loop-i : goal.invariant-loop-i
-invariant-loop-i l = (l.i ≤ l.n) × Refilled (truth_in l.formulas l.values) (λ (b : Bool). b) l.initial.truths l.truths l.i
-
-abbrev pub decreases-loop-i : goal.decreases-loop-i
-decreases-loop-i l = l.n - l.i
+invariant-loop-i l = Refilled (truth_in l.formulas l.values) (λ (b : Bool). b) l.initial.truths l.truths l.i

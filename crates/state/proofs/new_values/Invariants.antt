@@ -1,13 +1,6 @@
-use Prim.Native.Nat.{◌-◌, ◌≤◌}
-use mathlib.Core.Path.{◌≡◌}
-use lib.ListN.{length}
 use Rattle.state.specs.Truths.{said_by}
 use Rattle.state.proofs.Giving.{Giving}
 use Rattle.state.proofs.new_values.Given as goal
 
 abbrev pub invariant-loop-i : goal.invariant-loop-i
-invariant-loop-i l =
-    (l.first ≤ l.i) × (l.i ≤ l.end) × (length l.initial.new ≡ 32) × Giving (said_by l.truths) l.effects l.initial.new l.n l.first (l.end - l.first) l.new l.given l.left l.i
-
-abbrev pub decreases-loop-i : goal.decreases-loop-i
-decreases-loop-i l = l.end - l.i
+invariant-loop-i l = Giving (said_by l.truths) l.effects l.initial.new l.n l.fn.r.first l.fn.r.count l.new l.given l.left l.i
