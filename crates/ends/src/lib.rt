@@ -1,7 +1,7 @@
 // What the tables say of a remaining program: each function calls itself on the parts, whose sizes fall.
 #![tactic(auto)]
 
-ghost use Rattle.std.specs.Prelude.{◌≡◌, cond, ◌*◌, ◌^◌, ◌<◌, min, length};
+ghost use Rattle.std.specs.Prelude.{◌≡◌, ◌*◌, ◌^◌, ◌<◌, length};
 ghost use Rattle.remaining.specs.Rest.{Rest};
 ghost use Rattle.remaining.specs.Leaves.{goes_right};
 ghost use Rattle.words.specs.Words.{At, Stands};
@@ -17,7 +17,7 @@ pub fn final_rest(finals: &[bool], work: &[u32], at: usize) -> bool
         return true;
     }
     if tag == words::LEAF {
-        return records::flag_in(finals, words::record_at(work, at), true);
+        return records::value_in(finals, words::record_at(work, at), true);
     }
     let left = words::size_at(work, at + 3);
     if final_rest(finals, work, at + 3) {
@@ -50,18 +50,6 @@ pub struct Totals {
     pub soon: usize,
 }
 
-fn pick(b: bool, x: usize, y: usize) -> usize
-    ensures { result ≡ cond b x y }
-{
-    if b { x } else { y }
-}
-
-fn lesser(x: usize, y: usize) -> usize
-    ensures { result ≡ min x y }
-{
-    if x < y { x } else { y }
-}
-
 // How far a record is from its end at least by way of any transition.
 pub fn soon_of(count: usize, far: usize) -> usize
     ensures { result ≡ soon_of count far }
@@ -69,7 +57,7 @@ pub fn soon_of(count: usize, far: usize) -> usize
     if count == 0 {
         return leaves::FARTHEST;
     }
-    if far == 0 { 1 } else { far }
+    far.max(1)
 }
 
 // The totals of a construct, from those of its parts.
@@ -77,12 +65,16 @@ pub fn join_totals(tag: u32, l: Totals, r: Totals) -> Totals
     requires { Below (2 ^ 63) l × Below (2 ^ 63) r }
     ensures { result ≡ joined tag l r }
 {
-    let goes = goes_right(tag, l.done, l.count == 0);
+    let (count, soon) = if goes_right(tag, l.done, l.count == 0) {
+        (l.count + r.count, l.far + r.soon)
+    } else {
+        (l.count, leaves::FARTHEST)
+    };
     Totals {
         done: l.done & r.done,
-        count: l.count + pick(goes, r.count, 0),
+        count,
         far: l.far + r.far,
-        soon: lesser(l.soon + r.far, pick(goes, l.far + r.soon, leaves::FARTHEST)),
+        soon: (l.soon + r.far).min(soon),
     }
 }
 
@@ -109,10 +101,10 @@ pub fn total_rest(
     }
     if tag == words::LEAF {
         let i = words::record_at(work, at);
-        let count = records::wide32(records::number_in(counts, i, 0));
-        let far = records::wide32(records::number_in(distances, i, 0));
+        let count = records::value_in(counts, i, 0) as usize;
+        let far = records::value_in(distances, i, 0) as usize;
         return Totals {
-            done: records::flag_in(finals, i, true),
+            done: records::value_in(finals, i, true),
             count,
             far,
             soon: soon_of(count, far),

@@ -5,18 +5,17 @@ use native.Mathlib.Omega.{arith}
 use mathlib.Core.Bool.{Bool, true, false, ◌&&◌, ◌||◌, true≢false}
 use mathlib.Core.List.{List}
 use mathlib.Core.Logic.{◌⊎◌, inl, ⊎_elim}
-use mathlib.Core.Path.{◌≡◌, refl, sym, ◌∙◌, subst}
+use mathlib.Core.Path.{◌≡◌, refl, sym, ap, ◌∙◌, subst}
 use lib.Dec.{T, eqb}
 use Rattle.golog.specs.Transitions.{Configuration}
 use Rattle.runs.specs.Guide.{Guide, unguided}
 use Rattle.runs.specs.Bounded.{join, flagged}
 use Rattle.runs.specs.Claims.{serves}
-use Rattle.runs.proofs.Tests.{or_iff, eqb_iff}
 use Rattle.runs.proofs.Claims.{served}
 use Rattle.demands.specs.Decoded.{world_of}
 use Rattle.demands.specs.Planning.{transitions_in, is_final_in}
 use Rattle.index.specs.Content.{round_in, Entry, Says, Tells, Sound, Begun, Notes, Opened}
-use Rattle.index.specs.declared.Answer.TheVariants.{Found}
+use Rattle.std.specs.Prelude.{Some}
 use Rattle.index.proofs.Keeping.{sound, keeps_nothing, keeps_noted, keeps_found, keeps_opened, keeps_weaker}
 use Rattle.keys.specs.Keyed.{Keyed}
 use Rattle.keys.proofs.Same.{keyed_same}
@@ -33,22 +32,21 @@ module _ (round left flag : ℕ) (l : left ≤ 64) (f : flag ≤ 2) where
   round_is : round_of (value_of round left flag) ≡ round
   round_is = omega arith
 
--- tests that a value passed
+-- two tests that were passed
 pub both : (a b : Bool) → (a && b) ≡ true → (a ≡ true) × (b ≡ true)
 both true b e = (refl, e)
 both false b e = absurd (true≢false (sym e))
 
-pub in_round : (label m n : ℕ) → (eqb label 0 || eqb m n) ≡ true → (label ≡ 0) ⊎ (m ≡ n)
-in_round label m n e = (or_iff (eqb label 0) (eqb m n) (eqb_iff label 0) (eqb_iff m n)).0 (subst T (sym e) tt)
-
 -- an entry that is found and serves
 pub recalled :
     {s w key : List ℕ} {guides : ℕ → Guide} {round label : ℕ} (c : Configuration) (cut : Bool) (left v : ℕ) → Known s guides round w → Keyed s c label key
-    → ((es : List Entry) → Says w es → Tells es key (Found v)) → (label ≡ 0) ⊎ (round_of v ≡ round) → serves cut left (left_in v) (flag_in v) ≡ true
-    → join (flagged cut) (verdict_in s left (c, guides label)) ≡ flagged (cut || eqb (flag_in v) 1)
-recalled {s} {w} {key} {guides} {round} {label} c cut left v N K T r e =
+    → ((es : List Entry) → Says w es → Tells es key (Some v)) → (b : Bool)
+    → ((label ≡ 0) ⊎ (round_of v ≡ round)) × (serves cut left (left_in v) (flag_in v) ≡ true) × (b ≡ (cut || eqb (flag_in v) 1))
+    → join (flagged cut) (verdict_in s left (c, guides label)) ≡ flagged b
+recalled {s} {w} {key} {guides} {round} {label} c cut left v N K T b (r, e, m) =
     served (transitions_in (world_of s)) (is_final_in (world_of s)) (left_in v) (flag_in v) (c, guides label)
     ((keeps_found (Holds s guides round) key w v T N.holds).claims c label K r) cut left e
+    ∙ sym (ap flagged m)
 
 -- an entry that is noted
 pub noted :

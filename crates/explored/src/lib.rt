@@ -3,7 +3,7 @@
 // round. Where something is asked, an entry serves in its own round only, since a later search asks something else.
 #![tactic(auto)]
 
-ghost use Rattle.std.specs.Prelude.{◌≡◌, true, false, ◌||◌, ◌⊎◌, ℕ, ◌^◌, ◌≤◌, ◌<◌, eqb};
+ghost use Rattle.std.specs.Prelude.{◌≡◌, true, false, ◌||◌, ◌⊎◌, ℕ, ◌^◌, ◌≤◌, ◌<◌, eqb, IfSome};
 ghost use Rattle.golog.specs.Prog.{Prog};
 ghost use Rattle.runs.specs.Guide.{Guide};
 ghost use Rattle.runs.specs.Bounded.{join, flagged};
@@ -14,7 +14,6 @@ ghost use Rattle.index.specs.Content.{Sound};
 ghost use Rattle.explored.specs.Known.{verdict_in, value_of, flag_in, left_in, round_of, Known, Explored};
 
 use golog::State;
-use index::Answer;
 use sheet::Inspection;
 
 // A configuration as an index is asked of it: the frame of its program, its state, and what is asked of the moves to come, as a number,
@@ -26,13 +25,6 @@ pub struct Subject {
     pub label: usize,
 }
 
-// What is known of a visit by the index: whether it may be passed over, and whether the bound has then run out in some run.
-#[derive(Clone, Copy)]
-pub struct Recalled {
-    pub served: bool,
-    pub more: bool,
-}
-
 // The fewest words of an index that has room for an entry.
 const LEAST: usize = 16;
 
@@ -41,33 +33,21 @@ pub fn has_room(index: &[u32]) -> bool {
     LEAST <= index.len()
 }
 
-fn not_served() -> Recalled
-    ensures { result.served ≡ false }
-{
-    Recalled {
-        served: false,
-        more: false,
-    }
-}
-
-// Whether an entry of this value serves a visit with so many transitions left, the bound having run out in some run before or not.
-fn weigh(value: u32, label: usize, left: usize, round: u32, cut: bool) -> Recalled
-    ensures told { result.served ≡ true → (label ≡ 0) ⊎ (round_of value ≡ round) }
-    ensures serves { result.served ≡ true → serves cut left (left_in value) (flag_in value) ≡ true }
-    ensures more { result.more ≡ (cut || eqb (flag_in value) 1) }
+// Where an entry of this value serves a visit with so many transitions left, the bound having run out in some run before or not: has it now?
+fn weigh(value: u32, label: usize, left: usize, round: u32, cut: bool) -> Option<bool>
+    ensures { IfSome result (λ more. ((label ≡ 0) ⊎ (round_of value ≡ round)) × (serves cut left (left_in value) (flag_in value) ≡ true)
+        × (more ≡ (cut || eqb (flag_in value) 1))) }
 {
     let explored = (value / 4 % 128) as usize;
     let flag = value % 4;
     let told = (label == 0) | (value / 512 == round);
     let fewer = (left <= explored) & (cut | (flag == 1));
     let over = (flag == 2) & (cut | (explored <= left));
-    Recalled {
-        served: told & (fewer | over),
-        more: cut | (flag == 1),
-    }
+    (told & (fewer | over)).then_some(cut | (flag == 1))
 }
 
-// Asks the index whether a configuration may be passed over with so many transitions left.
+// Asks the index whether a configuration may be passed over with so many transitions left: where it may, whether the bound has then run out in
+// some run.
 pub fn recall(
     index: &[u32],
     work: &[u32],
@@ -77,24 +57,19 @@ pub fn recall(
     left: usize,
     round: u32,
     cut: bool,
-) -> Recalled
+) -> Option<bool>
     requires { Sound index.now × Of s.now found × ((k : ℕ) × (p : Prog) × Frame s.now k work.now c.depth p) }
     ensures { (guides : ℕ → Guide) (k : ℕ) (p : Prog) → Known s.now guides round index.now → Frame s.now k work.now c.depth p
-        → result.served ≡ true → join (flagged cut) (verdict_in s.now left ((p, c.state), guides c.label)) ≡ flagged result.more }
+        → IfSome result (λ more. join (flagged cut) (verdict_in s.now left ((p, c.state), guides c.label)) ≡ flagged more) }
 {
     let mut key = [0u32; keys::WORDS];
-    let n = keys::key_of(&mut key, work, s, found, c.state, c.depth, c.label);
-    if n == 0 {
-        return not_served();
-    }
-    let answer = index::find(index, &key[..n]);
-    match answer {
-        Answer::Found { value } => weigh(value, c.label, left, round, cut),
-        Answer::Missing => not_served(),
-    }
+    let n = keys::key_of(&mut key, work, s, found, c.state, c.depth, c.label)?;
+    let value = index::find(index, &key[..n])?;
+    weigh(value, c.label, left, round, cut)
 }
 
 // The flag of a configuration that was explored without a plan: had the bound run out in some run before, and has it now?
+// Kept: a flag is a number, since `claim_flag` and `serves` (crate runs), which the contracts of flag_of, weigh and note cite, are by number.
 pub fn flag_of(before: bool, after: bool) -> u32
     ensures { (result ≡ claim_flag before after) × (result ≤ 2) }
 {
@@ -127,9 +102,7 @@ pub fn note(
         Known s.now guides round index.new }
 {
     let mut key = [0u32; keys::WORDS];
-    let n = keys::key_of(&mut key, work, s, found, c.state, c.depth, c.label);
-    if n == 0 {
-        return;
+    if let Some(n) = keys::key_of(&mut key, work, s, found, c.state, c.depth, c.label) {
+        index::note(index, &key[..n], value_of(round, left, flag));
     }
-    index::note(index, &key[..n], value_of(round, left, flag));
 }

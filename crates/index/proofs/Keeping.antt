@@ -5,7 +5,7 @@ use mathlib.Core.Path.{◌≡◌, sym, subst}
 use mathlib.Core.Logic.{◌⊎◌, inl, inr}
 use mathlib.Core.List.{List, []}
 use native.Mathlib.Omega.{arith}
-use Rattle.index.specs.declared.Answer.TheVariants.{Found}
+use Rattle.std.specs.Prelude.{Some}
 use Rattle.index.specs.Content.{Entry, entry_at, round_in, Says, Sound, Begun, Opened, Tells, Noted, same, replaced, added, Notes, Every, Keeps}
 use Rattle.index.proofs.Listed.{each_more, each_set}
 
@@ -28,7 +28,7 @@ module _ (P : List ℕ → ℕ → Type 0) where
   pub keeps_noted : (key : List ℕ) (v : ℕ) (w w' : List ℕ) → Notes key v w w' → P key v → Keeps P w → Keeps P w'
   keeps_noted key v w w' N p (es, S, E) = let (es', S', n) = N.says es S in (es', S', every_noted P key v n E p)
 
-  pub keeps_found : (key w : List ℕ) (v : ℕ) → ((es : List Entry) → Says w es → Tells es key (Found v)) → Keeps P w → P key v
+  pub keeps_found : (key w : List ℕ) (v : ℕ) → ((es : List Entry) → Says w es → Tells es key (Some v)) → Keeps P w → P key v
   keeps_found key w v T (es, S, E) =
       let (j, H, a) = T es S in
       subst (λ (x : ℕ). P key x) a (subst (λ (x : List ℕ). P x (entry_at es j).value) H.key_is (E j H.there))

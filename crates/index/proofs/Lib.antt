@@ -1,5 +1,3 @@
-pub mod Buckets
-pub mod Written
 pub mod Content
 pub mod Listed
 pub mod Changed

@@ -2,9 +2,7 @@
 -- that entries take up, word 1 is the round, a number of the caller's; one head for each 16 words follows, then the entries, each
 -- [next, value + 2 ^ 25 * length, key ..]. A head or a next is 0 or the place of an entry. Which head a key belongs to is no part of this: a
 -- search that misses a key is allowed. Assumes nothing.
-use Rattle.std.specs.Prelude.{ℕ, ◌+◌, ◌-◌, ◌*◌, ◌/◌, ◌^◌, ◌≤◌, ◌<◌, min, ◌≡◌, ◌⊎◌, List, [], ◌∷◌, ◌++◌, length, get_or, set, take, drop}
-use Rattle.index.specs.declared.Answer.{Answer}
-use Rattle.index.specs.declared.Answer.TheVariants.{Found, Missing}
+use Rattle.std.specs.Prelude.{ℕ, ◌+◌, ◌-◌, ◌*◌, ◌/◌, ◌^◌, ◌≤◌, ◌<◌, min, ◌≡◌, ◌⊎◌, List, [], ◌∷◌, ◌++◌, length, get_or, set, take, drop, Option, Some, None}
 
 -- a key with its value, and where its entry stands
 pub record Entry : Type 0 where
@@ -76,14 +74,15 @@ pub record Matches (w : List ℕ) (at : ℕ) (key : List ℕ) : Type 0 where
   pub length_is : get_or w (at + 1) 0 / 2 ^ 25 ≡ length key
   pub words_are : take (length key) (drop (at + 2) w) ≡ key
 
--- x is no place, or that of an entry with the key
-abbrev pub Located : List Entry → List ℕ → ℕ → Type 0
-Located es key x = (x ≡ 0) ⊎ ((j : ℕ) × Has es key j × ((entry_at es j).at ≡ x))
+-- a place, where there is one, is that of an entry with the key
+abbrev pub Located : List Entry → List ℕ → Option ℕ → Type 0
+Located es key (Some x) = (j : ℕ) × Has es key j × ((entry_at es j).at ≡ x)
+Located es key None = Unit
 
 -- an answer about a key is what the content has
-abbrev pub Tells : List Entry → List ℕ → Answer → Type 0
-Tells es key (Found v) = (j : ℕ) × Has es key j × ((entry_at es j).value ≡ v)
-Tells es key Missing = Unit
+abbrev pub Tells : List Entry → List ℕ → Option ℕ → Type 0
+Tells es key (Some v) = (j : ℕ) × Has es key j × ((entry_at es j).value ≡ v)
+Tells es key None = Unit
 
 -- the content after a note: as it was, with that key's value replaced, or with the key added
 pub data Noted (es : List Entry) (key : List ℕ) (v : ℕ) : List Entry → Type 0 where

@@ -2,8 +2,7 @@
 // entries use and the round, then come the heads, then the entries.
 #![tactic(auto)]
 
-ghost use Rattle.std.specs.Prelude.{◌≡◌, true, List, ℕ, ◌+◌, ◌-◌, ◌*◌, ◌/◌, ◌^◌, ◌≤◌, ◌<◌, min, length, get_or};
-ghost use Rattle.records.specs.Laid.{Laid};
+ghost use Rattle.std.specs.Prelude.{◌≡◌, true, List, ℕ, ◌+◌, ◌-◌, ◌*◌, ◌/◌, ◌^◌, ◌≤◌, ◌<◌, length, get_or, IfSome};
 ghost use Rattle.index.specs.Written.{Entered};
 ghost use Rattle.index.specs.Content.{Entry, heads_of, Says, Sound, Begun, Opened, Linked, Located, Matches, Tells, Notes};
 
@@ -16,57 +15,20 @@ const VALUES: u32 = 33554432;
 // A key has fewer words than this; a longer one is not noted.
 const LENGTHS: usize = 128;
 
-// What an index says of a key.
-#[derive(Clone, Copy)]
-pub enum Answer {
-    Found { value: u32 },
-    Missing,
-}
-
-fn wide(x: u32) -> usize
-    ensures { (result ≡ x) × (result < 2 ^ 32) }
-{
-    x as usize
-}
-
-fn long(x: u32) -> u64
-    ensures { result < 2 ^ 32 }
-{
-    x as u64
-}
-
-// The words of a slice that a place of 32 bits reaches.
-fn reach(len: usize) -> usize
-    ensures { result ≡ min len (2 ^ 32 - 1) }
-{
-    if len < 4294967295 { len } else { 4294967295 }
-}
-
-// One head for each 16 of them, so that there are about as many as there is room for entries of a dozen words.
+// One head for each 16 words that a place of 32 bits reaches, so that there are about as many as there is room for entries of a dozen words.
 fn heads(len: usize) -> usize
-    ensures { result ≡ heads_of len }
+    ensures { (result ≡ heads_of len) × (result < 2 ^ 28) }
 {
-    reach(len) / 16
-}
-
-// The words before the first entry, as far as the slice has them.
-fn front(len: usize) -> usize
-    ensures { result ≡ min len (2 + heads_of len) }
-{
-    let n = 2 + heads(len);
-    if len < n { len } else { n }
+    len.min(4294967295) / 16
 }
 
 // An index that says nothing, in round 0; the words behind the heads are left as they are.
 pub fn begin(index: &mut [u32])
     ensures { Begun index.new }
 {
-    let end = front(index.len());
-    let mut i = 0;
-    while i < end {
-        index[i] = 0;
-        i += 1;
-    }
+    let n = index.len();
+    let end = n.min(2 + heads(n));
+    index[..end].fill(0);
 }
 
 // Opens the next round, and answers its number; after the last one the index begins anew. One too short for a round has no entries.
@@ -101,28 +63,11 @@ fn bucket(key: &[u32], n: usize) -> usize
     requires { (0 < n) × (n < 2 ^ 28) }
     ensures { result < n }
 {
-    let mut h: u64 = 0;
-    let mut i = 0;
-    while i < key.len() {
-        h = stir(h, long(key[i]));
-        i += 1;
+    let mut h = 0;
+    for x in key {
+        h = stir(h, u64::from(*x));
     }
     ((h % 4294967296) * (n as u64) / 4294967296) as usize
-}
-
-// Whether two runs of words are equal.
-fn same(a: &[u32], b: &[u32]) -> bool
-    requires { length a.now ≡ length b.now }
-    ensures { result ≡ true → a.now ≡ b.now }
-{
-    let mut j = 0;
-    while j < a.len() {
-        if a[j] != b[j] {
-            return false;
-        }
-        j += 1;
-    }
-    true
 }
 
 // Whether the entry at `at` has the key.
@@ -131,47 +76,43 @@ fn has_key(index: &[u32], at: usize, key: &[u32]) -> bool
     ensures { result ≡ true → Matches index.now at key.now }
 {
     let n = key.len();
-    if wide(index[at + 1] / VALUES) == n {
-        let from = at + 2;
-        let to = from + n;
-        same(&index[from..to], key)
-    } else {
-        false
-    }
+    (index[at + 1] / VALUES) as usize == n && &index[at + 2..at + 2 + n] == key
 }
 
-// The place of the entry with the key, by the links from `from` on; 0 where there is none.
-fn look(index: &[u32], key: &[u32], from: usize) -> usize
-    requires { (es : List Entry) × Says index.now es × Linked es (length es) from }
-    ensures { (es : List Entry) → Says index.now es → Linked es (length es) from → Located es key.now result }
-{
-    let mut at = from;
-    while at != 0 {
-        if has_key(index, at, key) {
-            return at;
-        }
-        at = wide(index[at]);
-    }
-    0
-}
-
-// What the index says of a key.
-pub fn find(index: &[u32], key: &[u32]) -> Answer
-    requires { Sound index.now }
-    ensures { (es : List Entry) → Says index.now es → Tells es key.now result }
+// The head that a key belongs to, where there are any.
+fn head_for(index: &[u32], key: &[u32]) -> Option<usize>
+    ensures { IfSome result (λ x. (1 < x) × (x ≤ 1 + heads_of (length index.now))) }
 {
     let n = heads(index.len());
     if n == 0 {
-        return Answer::Missing;
+        return None;
     }
-    let head = 2 + bucket(key, n);
-    let at = look(index, key, wide(index[head]));
-    if at == 0 {
-        return Answer::Missing;
+    Some(2 + bucket(key, n))
+}
+
+// The place of the entry with the key, by the links from a head on.
+fn look(index: &[u32], key: &[u32], head: usize) -> Option<usize>
+    requires { Sound index.now × (1 < head) × (head ≤ 1 + heads_of (length index.now)) }
+    ensures { (es : List Entry) → Says index.now es → Located es key.now result }
+{
+    let mut at = index[head] as usize;
+    while at != 0 {
+        if has_key(index, at, key) {
+            return Some(at);
+        }
+        at = index[at] as usize;
     }
-    Answer::Found {
-        value: index[at + 1] % VALUES,
-    }
+    None
+}
+
+// The value that the index has of a key.
+pub fn find(index: &[u32], key: &[u32]) -> Option<u32>
+    requires { Sound index.now }
+    ensures { (es : List Entry) → Says index.now es → Tells es key.now result }
+{
+    let head = head_for(index, key)?;
+    let at = look(index, key, head)?;
+    Some(index[at + 1] % VALUES)
 }
 
 // An entry's second word.
@@ -182,18 +123,6 @@ fn header(value: u32, k: usize) -> u32
     value + VALUES * k as u32
 }
 
-// Writes a run of words.
-fn store(index: &mut [u32], to: usize, key: &[u32])
-    requires { to + length key.now ≤ length index.old }
-    ensures { Laid to (λ (k : ℕ). get_or key.now k 0) index.old index.new (length key.now) }
-{
-    let mut k = 0;
-    while k < key.len() {
-        index[to + k] = key[k];
-        k += 1;
-    }
-}
-
 // Writes an entry.
 fn enter(index: &mut [u32], at: usize, next: u32, header: u32, key: &[u32])
     requires { at + 2 + length key.now ≤ length index.old }
@@ -201,18 +130,9 @@ fn enter(index: &mut [u32], at: usize, next: u32, header: u32, key: &[u32])
 {
     index[at] = next;
     index[at + 1] = header;
-    store(index, at + 2, key);
-}
-
-// Whether an entry with a key of k words, at `at`, ends within n words.
-fn has_room(n: usize, at: usize, k: usize) -> bool
-    requires { at < 2 ^ 40 }
-    ensures { result ≡ true → at + 2 + k ≤ n }
-{
-    if n < at + 2 {
-        return false;
-    }
-    k <= n - (at + 2)
+    let from = at + 2;
+    let to = from + key.len();
+    index[from..to].copy_from_slice(key);
 }
 
 // Adds an entry behind the last one, where there is room, and lets the head lead to it.
@@ -221,10 +141,10 @@ fn add(index: &mut [u32], key: &[u32], head: usize, value: u32)
     requires value_bound { (value < 2 ^ 25) × (length key.now < 128) }
     ensures { Notes key.now value index.old index.new }
 {
-    let used = wide(index[0]);
+    let used = index[0] as usize;
     let end = 2 + heads(index.len()) + used;
     let k = key.len();
-    if has_room(reach(index.len()), end, k) {
+    if end + 2 + k <= index.len().min(4294967295) {
         let next = index[head];
         enter(index, end, next, header(value, k), key);
         index[head] = end as u32;
@@ -237,18 +157,14 @@ pub fn note(index: &mut [u32], key: &[u32], value: u32)
     requires { Sound index.old × (value < 2 ^ 25) }
     ensures { Notes key.now value index.old index.new }
 {
-    let n = heads(index.len());
-    if n == 0 {
-        return;
-    }
     if LENGTHS <= key.len() {
         return;
     }
-    let head = 2 + bucket(key, n);
-    let at = look(index, key, wide(index[head]));
-    if at == 0 {
-        add(index, key, head, value);
-    } else {
-        index[at + 1] = header(value, key.len());
+    let Some(head) = head_for(index, key) else {
+        return;
+    };
+    match look(index, key, head) {
+        Some(at) => index[at + 1] = header(value, key.len()),
+        None => add(index, key, head, value),
     }
 }

@@ -1,31 +1,27 @@
 -- What a key that was written holds: nodes without higher bits, pair after pair; and its values, its nodes above these, and its first word,
 -- written last. Assumes nothing.
-use Prim.Native.Nat.{ℕ, ◌+◌, ◌-◌, ◌*◌, ◌<◌}
+use Prim.Native.Nat.{ℕ, ◌+◌, ◌-◌, ◌*◌, ◌/◌, ◌<◌}
 use mathlib.Core.Path.{◌≡◌, subst, ◌∙◌}
-use mathlib.Core.Bool.{Bool}
+use mathlib.Core.Bool.{Bool, true, false}
 use mathlib.Core.List.{List}
 use native.Mathlib.Omega.{arith}
 use native.Mathlib.Decide.{dec_lt}
 use lib.ListN.{get_or, take, set}
 use lib.Seq.{get_or-take, get_or-set_same, get_or-set_other}
-use Rattle.keys.specs.Packed.{eight_at, words_of, word_at, Coded, CodedPair, WrittenValues, WrittenNodes, Held}
+use Rattle.keys.specs.Packed.{eight_at, limit_of, words_of, word_at, Coded, CodedPair, Whole, WrittenValues, Held}
 
--- the nodes of k pairs, and of one pair more
-pub coded_more : (w : List ℕ) (i n k : ℕ) → ((j : ℕ) → j < 2 * k → j < n → Coded 4096 w (i + 3 * j))
-    → CodedPair w (i + 6 * k) (n - 2 * k)
-    → (j : ℕ) → j < 2 * (k + 1) → j < n → Coded 4096 w (i + 3 * j)
-coded_more w i n k C P j l h = go (dec_lt j (2 * k)) (dec_lt j (2 * k + 1))
+-- nodes without higher bits, word after word
+pub coded_all : (wide : Bool) (w : List ℕ) (i n : ℕ) → ((k : ℕ) → k < words_of wide n → Whole wide w i n k)
+    → (j : ℕ) → j < n → Coded (limit_of wide) w (i + 3 * j)
+coded_all true w i n f j h = f j h
+coded_all false w i n f j h = go (dec_lt (2 * (j / 2)) j)
   where
-    go : Dec (j < 2 * k) → Dec (j < 2 * k + 1) → Coded 4096 w (i + 3 * j)
-    go (yes a) b = C j a h
-    go (no a) (yes b) = let e : i + 6 * k ≡ i + 3 * j = omega arith in subst (Coded 4096 w) e P.first
-    go (no a) (no b) = let e : i + 6 * k + 3 ≡ i + 3 * j = omega arith in subst (Coded 4096 w) e (P.second (omega arith))
+    P : CodedPair w (i + 6 * (j / 2)) (n - 2 * (j / 2))
+    P = f (j / 2) (omega arith)
 
--- written once more from the same word on
-pub written_over : {b wide : Bool} {w key key₁ key₂ : List ℕ} {i n to : ℕ} → WrittenNodes b w i n to key key₁
-    → WrittenNodes wide w i n to key₁ key₂
-    → WrittenNodes wide w i n to key key₂
-written_over M N = record { len = N.len ∙ M.len; below = λ k l. N.below k l ∙ M.below k l; nodes_are = N.nodes_are }
+    go : Dec (2 * (j / 2) < j) → Coded 4096 w (i + 3 * j)
+    go (yes l) = let e : i + 6 * (j / 2) + 3 ≡ i + 3 * j = omega arith in subst (Coded 4096 w) e (P.second (omega arith))
+    go (no l) = let e : i + 6 * (j / 2) ≡ i + 3 * j = omega arith in subst (Coded 4096 w) e P.first
 
 module _ {v w key key₁ key₂ : List ℕ} {g i n words : ℕ} {wide : Bool} (U : WrittenValues v g key key₁) (H : Held wide w i n (1 + g) words key₁ key₂) (h : ℕ) where
   pub head_there : get_or (take (1 + g + words) (set key₂ 0 h)) 0 0 ≡ h

@@ -3,7 +3,7 @@
 -- are wide; then come eight values a word, and the nodes: two a word, 4 bits for the tag and 12 for the number each, or, where a number
 -- needs more (F-6: a record with its placeholders), wide: one a word, 4 bits and 28. A node's size is left out: tags in preorder determine
 -- it. Assumes nothing.
-use Rattle.std.specs.Prelude.{ℕ, ◌+◌, ◌-◌, ◌*◌, ◌/◌, ◌%◌, ◌≤◌, ◌<◌, ◌≡◌, Bool, cond, List, ltb, length, get_or}
+use Rattle.std.specs.Prelude.{ℕ, ◌+◌, ◌-◌, ◌*◌, ◌/◌, ◌%◌, ◌≤◌, ◌<◌, ◌≡◌, Bool, true, false, cond, List, ltb, length, get_or}
 use Rattle.golog.specs.declared.State.{State}
 
 -- the lower four bits of values: two from place i on, four, eight
@@ -43,6 +43,11 @@ words_of wide n = cond wide n ((n + 1) / 2)
 
 abbrev pub word_at : (wide : Bool) → List ℕ → (i n k : ℕ) → ℕ
 word_at wide w i n k = cond wide (node_at 268435456 w (i + 3 * k)) (pair_at w (i + 6 * k) (n - 2 * k))
+
+-- nor in the nodes of the k-th word
+abbrev pub Whole : (wide : Bool) → List ℕ → (i n k : ℕ) → Type 0
+Whole true w i n k = Coded 268435456 w (i + 3 * k)
+Whole false w i n k = CodedPair w (i + 6 * k) (n - 2 * k)
 
 -- whether interrupts run, the number of nodes, the label, and whether the nodes are wide
 unfoldable pub head_of : (running : Bool) (n label : ℕ) (wide : Bool) → ℕ

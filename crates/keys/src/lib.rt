@@ -1,11 +1,11 @@
 // The key of a configuration: its remaining program, its state and a label, in few words. Equal keys are those of equal configurations.
 #![tactic(auto)]
 
-ghost use Rattle.std.specs.Prelude.{◌≡◌, true, false, cond, ℕ, ◌+◌, ◌*◌, ◌/◌, ◌%◌, ◌≤◌, ◌<◌, length, get_or, take};
+ghost use Rattle.std.specs.Prelude.{◌≡◌, true, ℕ, ◌+◌, ◌*◌, ◌/◌, ◌%◌, ◌^◌, ◌≤◌, ◌<◌, length, get_or, take, IfSome};
 ghost use Rattle.golog.specs.Prog.{Prog};
 ghost use Rattle.sheet.specs.Inspection.{Of};
 ghost use Rattle.engine.specs.Frames.{Frame};
-ghost use Rattle.keys.specs.Packed.{two_at, four_at, eight_at, node_at, pair_at, head_of, Coded, CodedPair, WrittenValues, WrittenNodes, Held, Packed};
+ghost use Rattle.keys.specs.Packed.{two_at, four_at, eight_at, node_at, pair_at, limit_of, words_of, word_at, head_of, Coded, CodedPair, Whole, WrittenValues, WrittenNodes, Held, Packed};
 ghost use Rattle.keys.specs.Keyed.{Keyed};
 
 use golog::State;
@@ -22,7 +22,7 @@ const TAGS: u32 = 16;
 
 const NARROW: u32 = 4096;
 
-const WIDE: u32 = 268435456;
+const LARGE: u32 = 268435456;
 
 const NODES: usize = 4096;
 
@@ -32,7 +32,7 @@ const LABELS: usize = 65536;
 fn low(x: u8) -> u32
     ensures { result ≡ x % 16 }
 {
-    (x % VALUES) as u32
+    u32::from(x % VALUES)
 }
 
 // Two values.
@@ -61,13 +61,12 @@ fn eight(values: &[u8; 32], i: usize) -> u32
 
 // Whether all values from place `from` on are below a limit.
 fn are_below(values: &[u8; 32], from: usize, limit: u8) -> bool
+    requires { from ≤ 32 }
     ensures { result ≡ true → (k : ℕ) → from ≤ k → k < 32 → get_or values.now k 0 < limit }
 {
     let mut below = true;
-    let mut x = from;
-    while x < 32 {
-        below = below & (values[x] < limit);
-        x += 1;
+    for v in &values[from..] {
+        below &= *v < limit;
     }
     below
 }
@@ -77,30 +76,20 @@ fn write_values(key: &mut [u32], values: &[u8; 32], n: usize)
     requires { (n ≤ 4) × (1 + n ≤ length key.old) }
     ensures { WrittenValues values.now n key.old key.new }
 {
-    let mut k = 0;
-    while k < n {
+    for k in 0..n {
         key[1 + k] = eight(values, 8 * k);
-        k += 1;
     }
 }
 
-// The lower bits of a node's tag and number, as many as half a word holds.
-fn node(work: &[u32], i: usize) -> u32
-    requires { i + 3 ≤ length work.now }
-    ensures { (result ≡ node_at 4096 work.now i) × (result < 65536) }
+// The lower bits of a node's tag and number, those of a number below the limit.
+fn node<const LIMIT: u32>(work: &[u32], i: usize) -> u32
+    requires { (i + 3 ≤ length work.now) × (0 < LIMIT) × (LIMIT ≤ 268435456) }
+    ensures { (result ≡ node_at LIMIT work.now i) × (result < 16 * LIMIT) }
 {
-    work[i] % TAGS + 16 * (work[i + 1] % NARROW)
+    work[i] % TAGS + 16 * (work[i + 1] % LIMIT)
 }
 
-// As many as a word holds.
-fn wide_node(work: &[u32], i: usize) -> u32
-    requires { i + 3 ≤ length work.now }
-    ensures { result ≡ node_at 268435456 work.now i }
-{
-    work[i] % TAGS + 16 * (work[i + 1] % WIDE)
-}
-
-// Whether that is all of them, a number being held below the limit: there are no higher bits.
+// Whether that is all of them: there are no higher bits.
 fn is_coded(work: &[u32], i: usize, limit: u32) -> bool
     requires { i + 3 ≤ length work.now }
     ensures { result ≡ true → Coded limit work.now i }
@@ -114,12 +103,12 @@ fn pair(work: &[u32], i: usize, n: usize) -> u32
     ensures { result ≡ pair_at work.now i n }
 {
     if 1 < n {
-        return node(work, i) + 65536 * node(work, i + 3);
+        return node::<NARROW>(work, i) + 65536 * node::<NARROW>(work, i + 3);
     }
-    node(work, i)
+    node::<NARROW>(work, i)
 }
 
-fn is_coded_pair(work: &[u32], i: usize, n: usize) -> bool
+fn both_coded(work: &[u32], i: usize, n: usize) -> bool
     requires { (i + 3 * n ≤ length work.now) × (0 < n) }
     ensures { result ≡ true → CodedPair work.now i n }
 {
@@ -129,79 +118,65 @@ fn is_coded_pair(work: &[u32], i: usize, n: usize) -> bool
     is_coded(work, i, NARROW)
 }
 
-// Writes n nodes, two a word, from word `to` on, and tells whether they are all there.
-fn write_pairs(key: &mut [u32], to: usize, work: &[u32], from: usize, n: usize) -> bool
-    requires { (from + 3 * n ≤ length work.now) × (to + (n + 1) / 2 ≤ length key.old) }
-    ensures written { WrittenNodes false work.now from n to key.old key.new }
-    ensures whole { result ≡ true → (k : ℕ) → k < n → Coded 4096 work.now (from + 3 * k) }
+// How many words n nodes take.
+fn words_of(wide: bool, n: usize) -> usize
+    requires { n < 2 ^ 63 }
+    ensures { result ≡ words_of wide n }
 {
-    let mut coded = true;
-    let mut k = 0;
-    while 2 * k < n {
-        let i = from + 6 * k;
-        let left = n - 2 * k;
-        key[to + k] = pair(work, i, left);
-        coded = coded & is_coded_pair(work, i, left);
-        k += 1;
-    }
-    coded
+    if wide { n } else { (n + 1) / 2 }
 }
 
-// Writes n nodes, a word each, from word `to` on, and tells whether they are all there.
-fn write_wide(key: &mut [u32], to: usize, work: &[u32], from: usize, n: usize) -> bool
-    requires { (from + 3 * n ≤ length work.now) × (to + n ≤ length key.old) }
-    ensures written { WrittenNodes true work.now from n to key.old key.new }
-    ensures whole { result ≡ true → (k : ℕ) → k < n → Coded 268435456 work.now (from + 3 * k) }
+// The k-th of these, for the nodes from `from` on.
+fn word<const WIDE: bool>(work: &[u32], from: usize, n: usize, k: usize) -> u32
+    requires { (from + 3 * n ≤ length work.now) × (k < words_of WIDE n) }
+    ensures { result ≡ word_at WIDE work.now from n k }
 {
-    let mut coded = true;
-    let mut k = 0;
-    while k < n {
-        let i = from + 3 * k;
-        key[to + k] = wide_node(work, i);
-        coded = coded & is_coded(work, i, WIDE);
-        k += 1;
+    if WIDE {
+        node::<LARGE>(work, from + 3 * k)
+    } else {
+        pair(work, from + 6 * k, n - 2 * k)
     }
-    coded
 }
 
-// How nodes stand in a key: in how many words, 0 where they do not fit, and whether each has a word of its own.
-#[derive(Clone, Copy)]
-struct Way {
-    words: usize,
-    wide: bool,
+// Whether it is all of its nodes.
+fn is_whole<const WIDE: bool>(work: &[u32], from: usize, n: usize, k: usize) -> bool
+    requires { (from + 3 * n ≤ length work.now) × (k < words_of WIDE n) }
+    ensures { result ≡ true → Whole WIDE work.now from n k }
+{
+    if WIDE {
+        is_coded(work, from + 3 * k, LARGE)
+    } else {
+        both_coded(work, from + 6 * k, n - 2 * k)
+    }
 }
 
-// Writes n nodes from word `to` on: in pairs, and where not all fit in pairs, a word each.
-fn write_nodes(key: &mut [u32], to: usize, work: &[u32], from: usize, n: usize) -> Way
+// Writes n nodes, a word each or two a word, from word `to` on, and tells whether they are all there.
+fn write<const WIDE: bool>(key: &mut [u32], to: usize, work: &[u32], from: usize, n: usize) -> bool
+    requires { (from + 3 * n ≤ length work.now) × (to + words_of WIDE n ≤ length key.old) }
+    ensures written { WrittenNodes WIDE work.now from n to key.old key.new }
+    ensures whole { result ≡ true → (k : ℕ) → k < n → Coded (limit_of WIDE) work.now (from + 3 * k) }
+{
+    let mut whole = true;
+    for k in 0..words_of(WIDE, n) {
+        key[to + k] = word::<WIDE>(work, from, n, k);
+        whole &= is_whole::<WIDE>(work, from, n, k);
+    }
+    whole
+}
+
+// Writes n nodes from word `to` on: in pairs, and where not all fit in pairs, a word each. Where they fit, whether each has a word of its own.
+fn write_nodes(key: &mut [u32], to: usize, work: &[u32], from: usize, n: usize) -> Option<bool>
     requires { (from + 3 * n ≤ length work.now) × (to + (n + 1) / 2 ≤ length key.old) }
     ensures len { length key.new ≡ length key.old }
-    ensures held { 0 < result.words → Held result.wide work.now from n to result.words key.old key.new }
+    ensures held { IfSome result (λ wide. Held wide work.now from n to (words_of wide n) key.old key.new) }
 {
-    if write_pairs(key, to, work, from, n) {
-        return Way {
-            words: (n + 1) / 2,
-            wide: false,
-        };
+    if write::<false>(key, to, work, from, n) {
+        return Some(false);
     }
-    if to + n <= key.len() {
-        if write_wide(key, to, work, from, n) {
-            return Way {
-                words: n,
-                wide: true,
-            };
-        }
+    if to + n <= key.len() && write::<true>(key, to, work, from, n) {
+        return Some(true);
     }
-    Way {
-        words: 0,
-        wide: false,
-    }
-}
-
-// 1 for true, 0 for false.
-fn bit(flag: bool) -> u32
-    ensures { (result ≡ cond flag 1 0) × (result ≤ 1) }
-{
-    if flag { 1 } else { 0 }
+    None
 }
 
 // Whether interrupts run, the number of nodes, the label, and whether each node has a word of its own, in one word.
@@ -209,10 +184,10 @@ fn head(running: bool, n: usize, label: usize, wide: bool) -> u32
     requires { (n < 4096) × (label < 65536) }
     ensures { result ≡ head_of running n label wide }
 {
-    bit(running) + 2 * (n as u32) + 8192 * (label as u32) + 536870912 * bit(wide)
+    u32::from(running) + 2 * (n as u32) + 8192 * (label as u32) + 536870912 * u32::from(wide)
 }
 
-// Packs a state of `groups` groups of values, the n nodes at `at` and a label: how many words that takes, 0 where they do not fit.
+// Packs a state of `groups` groups of values, the n nodes at `at` and a label: how many words that takes, where they fit.
 fn pack(
     key: &mut [u32],
     work: &[u32],
@@ -221,26 +196,25 @@ fn pack(
     st: State,
     groups: usize,
     label: usize,
-) -> usize
+) -> Option<usize>
     requires { (at + 3 * n ≤ length work.now) × (groups ≤ 4) }
-    ensures inside { result ≤ length key.old }
-    ensures packed { 0 < result → Packed groups st work.now at n label (take result key.new) }
+    ensures { IfSome result (λ size. (size ≤ length key.old) × Packed groups st work.now at n label (take size key.new)) }
 {
     let least = 1 + groups + (n + 1) / 2;
     if (key.len() < least) | (NODES <= n) | (LABELS <= label) {
-        return 0;
+        return None;
     }
     let values = st.values;
     write_values(key, &values, groups);
-    let way = write_nodes(key, 1 + groups, work, at, n);
-    if are_below(&values, 0, VALUES) & are_below(&values, 8 * groups, 1) & (0 < way.words) {
-        key[0] = head(st.running, n, label, way.wide);
-        return 1 + groups + way.words;
+    let wide = write_nodes(key, 1 + groups, work, at, n)?;
+    if are_below(&values, 0, VALUES) & are_below(&values, 8 * groups, 1) {
+        key[0] = head(st.running, n, label, wide);
+        return Some(1 + groups + words_of(wide, n));
     }
-    0
+    None
 }
 
-// The key of the configuration of frame d and the state, with a label: how many words it takes, 0 where it has none.
+// The key of the configuration of frame d and the state, with a label: how many words it takes, where it has one.
 pub fn key_of(
     key: &mut [u32],
     work: &[u32],
@@ -249,10 +223,10 @@ pub fn key_of(
     st: State,
     d: usize,
     label: usize,
-) -> usize
+) -> Option<usize>
     requires { Of s.now found × ((left : ℕ) × (p : Prog) × Frame s.now left work.now d p) }
-    ensures inside { result ≤ length key.old }
-    ensures keyed { (left : ℕ) (p : Prog) → Frame s.now left work.now d p → 0 < result → Keyed s.now (p, st) label (take result key.new) }
+    ensures inside { IfSome result (λ size. size ≤ length key.old) }
+    ensures keyed { (left : ℕ) (p : Prog) → Frame s.now left work.now d p → IfSome result (λ size. Keyed s.now (p, st) label (take size key.new)) }
 {
     let at = d * found.frame + height::HEADER;
     let n = words::size_at(work, at);

@@ -135,6 +135,7 @@ fn lay_record(
 }
 
 // A transition that was made, with the code of its move and the number of nodes; or none, with what is left of k and whether it is final.
+// Kept: neither variant is a failure, and both carry what the caller goes on with, so that it is no Option and no Result.
 #[derive(Clone, Copy)]
 pub enum Turn {
     Made { entry: u32, size: usize },
@@ -157,7 +158,7 @@ fn step_record(
     requires can_step_record { CanStepRecord (sources_of programs.now v truths.now counts.now) finals.now work.old i to }
     ensures { StepsRecord (sources_of programs.now v truths.now counts.now) finals.now i k to work.old work.new result }
 {
-    let count = records::wide32(records::number_in(counts, i, 0));
+    let count = records::value_in(counts, i, 0) as usize;
     if k < count {
         let x = lay_record(programs, v, truths, counts, work, i, to, k);
         return Turn::Made {
@@ -167,7 +168,7 @@ fn step_record(
     }
     Turn::Passed {
         k: k - count,
-        done: records::flag_in(finals, i, true),
+        done: records::value_in(finals, i, true),
     }
 }
 
@@ -176,10 +177,7 @@ fn final_after(done: bool, finals: &[bool], work: &[u32], at: usize) -> bool
     requires { Stands work.now at }
     ensures { (g : Rest) → At g work.now at → result ≡ (done && final_by_table finals.now g) }
 {
-    if done {
-        return ends::final_rest(finals, work, at);
-    }
-    false
+    done && ends::final_rest(finals, work, at)
 }
 
 // Puts a copy of the right part at `from` beside what the left one left, n nodes.

@@ -26,14 +26,14 @@ pub fn record_at(work: &[u32], at: usize) -> usize
     requires { at + 3 ≤ length work.now }
     ensures { result ≡ get_or work.now (at + 1) 0 }
 {
-    records::wide32(work[at + 1])
+    work[at + 1] as usize
 }
 
 pub fn size_at(work: &[u32], at: usize) -> usize
     requires { at + 3 ≤ length work.now }
     ensures { result ≡ get_or work.now (at + 2) 0 }
 {
-    records::wide32(work[at + 2])
+    work[at + 2] as usize
 }
 
 // Copies n words to a place above them.
@@ -41,11 +41,7 @@ pub fn copy_words(work: &mut [u32], from: usize, to: usize, n: usize)
     requires { (from + n ≤ to) × (to + n ≤ length work.old) }
     ensures { Copied from to n work.old work.new }
 {
-    let mut k = 0;
-    while k < n {
-        work[to + k] = work[from + k];
-        k += 1;
-    }
+    work.copy_within(from..from + n, to);
 }
 
 // Writes the three words of a node.

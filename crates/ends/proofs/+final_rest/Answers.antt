@@ -17,7 +17,7 @@ record_at-requires t c = holds_room c.requires
 
 pub returns-then-tag-eq-LEAF : goal.returns-then-tag-eq-LEAF
 returns-then-tag-eq-LEAF t c g h =
-    final_leaf _ (leaf_at _ _ _ c.tag_at-tag.ensures g h c.if-tag-eq-LEAF.true) c.record_at.ensures c.flag_in.ensures
+    final_leaf _ (leaf_at _ _ _ c.tag_at-tag.ensures g h c.if-tag-eq-LEAF.true) c.record_at.ensures c.value_in.ensures
 
 pub overflow_add-at : goal.overflow_add-at
 overflow_add-at t c =

@@ -1,6 +1,6 @@
 -- By the outermost node, and of the parts by the same; the number of nodes falls. A number of a table fits a word, so the sum over the
 -- nodes of a frame fits. Assumes nothing.
-use mathlib.Core.Path.{◌∙◌, sym, subst}
+use mathlib.Core.Path.{sym, subst}
 use native.Mathlib.Omega.{arith}
 use Rattle.words.proofs.Standing.{gone_at, leaf_at, at_room}
 use Rattle.words.proofs.Reading.{holds_room, Construct, construct, Sized, sized}
@@ -20,8 +20,7 @@ record_at-i-requires t c = holds_room c.requires.stands
 pub returns-then-tag-eq-LEAF : goal.returns-then-tag-eq-LEAF
 returns-then-tag-eq-LEAF t c g h =
     total_leaf _ _ _ (leaf_at _ _ _ c.tag_at-tag.ensures g h c.if-tag-eq-LEAF.true) c.record_at-i.ensures
-    (c.wide32-count.ensures.0 ∙ c.number_in.ensures) c.wide32-count.ensures.1
-    (c.wide32-far.ensures.0 ∙ c.number_in-then-tag-eq-LEAF.ensures) c.wide32-far.ensures.1 c.flag_in.ensures c.soon_of.ensures
+    c.value_in-count.ensures (omega arith) c.value_in-far.ensures (omega arith) c.value_in.ensures c.soon_of.ensures
 
 pub overflow_add-at : goal.overflow_add-at
 overflow_add-at t c =

@@ -3,7 +3,8 @@ use Prim.Native.Nat.{ℕ, ◌+◌, ◌*◌, ◌/◌, ◌≤◌}
 use mathlib.Core.Path.{◌≡◌, ap, subst, ◌∙◌}
 use mathlib.Core.List.{List}
 use native.Mathlib.Omega.{arith}
-use lib.ListN.{length, get_or}
+use lib.ListN.{length, get_or, take}
+use Rattle.std.proofs.lemmas.Option.{IfSome_then}
 use Rattle.height.specs.Work.{header}
 use Rattle.sheet.specs.declared.Layout.{Layout}
 use Rattle.sheet.specs.declared.Inspection.{Inspection}
@@ -13,7 +14,7 @@ use Rattle.golog.specs.declared.State.{State}
 use Rattle.remaining.specs.Rest.{nodes}
 use Rattle.engine.specs.Frames.{nodes_at, Frame}
 use Rattle.keys.specs.Packed.{Packed}
-use Rattle.keys.specs.Keyed.{groups_of}
+use Rattle.keys.specs.Keyed.{Keyed}
 use Rattle.sheet.proofs.Found.{in_sheet}
 use Rattle.words.proofs.Standing.{at_node_room, at_size, at_room}
 use Rattle.engine.proofs.Frames.{frame_by}
@@ -27,14 +28,19 @@ module _ {s w : List ℕ} {m : Inspection} {left d n : ℕ} {p : Prog} (O : Of s
   nodes-inside : d * m.frame + header + 3 * n ≤ length w
   nodes-inside = omega (arith, size_is, frame_by O d, at_room F.rest w (nodes_at s d) F.words_are)
 
-  packed-there :
-      {st : State} {label : ℕ} {key : List ℕ}
-      → Packed ((m.layout.f + 7) / 8) st w (d * m.frame + header) n label key
-      → Packed (groups_of s) st w (nodes_at s d) (nodes F.rest) label key
-  packed-there {st} {label} {key} P =
-      subst (λ (g : ℕ). Packed g st w (nodes_at s d) (nodes F.rest) label key) (ap (λ (l : Layout). (l.f + 7) / 8) O.layout_is)
-      (subst (λ (i : ℕ). Packed ((m.layout.f + 7) / 8) st w (i + header) (nodes F.rest) label key) (frame_by O d)
-      (subst (λ (k : ℕ). Packed ((m.layout.f + 7) / 8) st w (d * m.frame + header) k label key) size_is P))
+  keyed : {st : State} {label long : ℕ} (key : List ℕ) (size : ℕ)
+      → (size ≤ long) × Packed ((m.layout.f + 7) / 8) st w (d * m.frame + header) n label (take size key)
+      → Keyed s (p, st) label (take size key)
+  keyed {st} {label} {long} key size (h, P) = record {
+    words = w;
+    place = nodes_at s d;
+    rest = F.rest;
+    stands_for = F.stands_for;
+    words_are = F.words_are;
+    packed = subst (λ (g : ℕ). Packed g st w (nodes_at s d) (nodes F.rest) label (take size key)) (ap (λ (l : Layout). (l.f + 7) / 8) O.layout_is)
+        (subst (λ (i : ℕ). Packed ((m.layout.f + 7) / 8) st w (i + header) (nodes F.rest) label (take size key)) (frame_by O d)
+        (subst (λ (k : ℕ). Packed ((m.layout.f + 7) / 8) st w (d * m.frame + header) k label (take size key)) size_is P));
+  }
 
 pub overflow_mul-at : goal.overflow_mul-at
 overflow_mul-at c =
@@ -60,18 +66,5 @@ pack-requires c =
     let F = c.requires.1.2 in
     (nodes-inside O F c.size_at-n.ensures, omega (arith, (in_sheet O).f))
 
-pub returns-clause-inside : goal.returns-clause-inside
-returns-clause-inside c =
-    c.pack.ensures.inside
-
 pub returns-clause-keyed : goal.returns-clause-keyed
-returns-clause-keyed c =
-    let O = c.requires.0 in λ left p F h.
-    record {
-      words = c.args.work.now;
-      place = nodes_at c.args.s.now c.args.d;
-      rest = F.rest;
-      stands_for = F.stands_for;
-      words_are = F.words_are;
-      packed = packed-there O F c.size_at-n.ensures (c.pack.ensures.packed h);
-    }
+returns-clause-keyed c = λ left p F. IfSome_then _ c.pack.ensures (keyed c.requires.0 F c.size_at-n.ensures _)

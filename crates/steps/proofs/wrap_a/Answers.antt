@@ -3,11 +3,8 @@ use Prim.Native.Nat.{◌^◌}
 use native.Mathlib.Omega.{arith}
 use Rattle.kinds.specs.Programs.{loops}
 use Rattle.kinds.proofs.Constructs.{construct_a}
-use Rattle.steps.proofs.Wrapping.{alone_a, beside_a, choice_few}
+use Rattle.steps.proofs.Wrapping.{beside_a, choice_few}
 use Rattle.steps.proofs.wrap_a.Goals as goal
-
-pub returns-then-tag-eq0 : goal.returns-then-tag-eq0
-returns-then-tag-eq0 c = alone_a _ _ _ _ _ c.tag_a-tag.ensures c.if-tag-eq0.true
 
 pub put_leaf_right-requires : goal.put_leaf_right-requires
 put_leaf_right-requires c =
@@ -19,5 +16,4 @@ put_leaf_right-requires c =
     }
 
 pub returns : goal.returns
-returns c =
-    beside_a _ _ _ _ _ c.tag_a-tag.ensures c.if-tag-eq0.false c.sibling.ensures c.put_leaf_right.ensures
+returns c = beside_a _ _ _ _ _ c.tag_a-tag.ensures c.if-tag-eq0.false c.sibling.ensures c.put_leaf_right.ensures

@@ -1,11 +1,8 @@
 -- Right of part a in a construct of the record's tag, or as it stands where that is 0. Assumes nothing.
 use native.Mathlib.Omega.{arith}
 use Rattle.kinds.proofs.Constructs.{construct_b}
-use Rattle.steps.proofs.Wrapping.{alone_b, beside_b}
+use Rattle.steps.proofs.Wrapping.{beside_b}
 use Rattle.steps.proofs.wrap_b.Goals as goal
-
-pub returns-then-tag-eq0 : goal.returns-then-tag-eq0
-returns-then-tag-eq0 c = alone_b _ _ _ _ _ c.tag_b-tag.ensures c.if-tag-eq0.true
 
 pub put_leaf_left-requires : goal.put_leaf_left-requires
 put_leaf_left-requires c =
@@ -16,5 +13,4 @@ put_leaf_left-requires c =
     }
 
 pub returns : goal.returns
-returns c =
-    beside_b _ _ _ _ _ c.tag_b-tag.ensures c.if-tag-eq0.false c.put_leaf_left.ensures
+returns c = beside_b _ _ _ _ _ c.tag_b-tag.ensures c.if-tag-eq0.false c.put_leaf_left.ensures
