@@ -14,7 +14,7 @@ ways-f-requires-clause-can_look t c = c.requires.can_place.look
 
 pub read-r-requires : goal.read-r-requires
 read-r-requires t c =
-    can_read c.requires.can_place.look c.ways-f.ensures.record_is c.ways-f.ensures.fields c.wide32.ensures.1
+    can_read c.requires.can_place.look c.ways-f.ensures.record_is c.ways-f.ensures.fields (omega arith)
 
 pub lay_own-requires-clause-room : goal.lay_own-requires-clause-room
 lay_own-requires-clause-room t c =
@@ -28,7 +28,7 @@ lay_own-requires-clause-in_words t c =
 pub returns-then-has_own : goal.returns-then-has_own
 returns-then-has_own t c =
     let C = c.requires.can_place in
-    let is = is_read C.look c.ways-f.ensures.record_is (c.wide32.ensures.0 ∙ c.number_in.ensures) c.read-r.ensures.0 in
+    let is = is_read C.look c.ways-f.ensures.record_is c.value_in.ensures c.read-r.ensures.0 in
     own_laid C c.ways-f.ensures is (sym c.has_own.ensures ∙ c.if-has_own.true) c.lay_own.ensures
 
 pub overflow_add-at : goal.overflow_add-at
@@ -39,7 +39,7 @@ overflow_add-at t c =
 pub lay_record-x-requires : goal.lay_record-x-requires
 lay_record-x-requires t c =
     let C = c.requires.can_place in
-    let is = is_read C.look c.ways-f.ensures.record_is (c.wide32.ensures.0 ∙ c.number_in.ensures) c.read-r.ensures.0 in
+    let is = is_read C.look c.ways-f.ensures.record_is c.value_in.ensures c.read-r.ensures.0 in
     let other : has_own c.read-r.result.kind ≡ false = sym c.has_own.ensures ∙ c.if-has_own.false in
     let goes = c.if-f.true in (
       omega (arith, place_falls C (first_leads C c.ways-f.ensures is other goes), c.decreases),
@@ -54,7 +54,7 @@ reading_of-requires t c =
 pub wrap_laid_a-requires-clause-room : goal.wrap_laid_a-requires-clause-room
 wrap_laid_a-requires-clause-room t c =
     let C = c.requires.can_place in
-    let is = is_read C.look c.ways-f.ensures.record_is (c.wide32.ensures.0 ∙ c.number_in.ensures) c.read-r.ensures.0 in
+    let is = is_read C.look c.ways-f.ensures.record_is c.value_in.ensures c.read-r.ensures.0 in
     let other : has_own c.read-r.result.kind ≡ false = sym c.has_own.ensures ∙ c.if-has_own.false in first_room C c.ways-f.ensures is other c.if-f.true c.lay_record-x.ensures
 
 pub wrap_laid_a-requires-clause-n_bound : goal.wrap_laid_a-requires-clause-n_bound
@@ -68,7 +68,7 @@ wrap_laid_a-requires-clause-in_words t c =
 pub returns-then-f : goal.returns-then-f
 returns-then-f t c =
     let C = c.requires.can_place in
-    let is = is_read C.look c.ways-f.ensures.record_is (c.wide32.ensures.0 ∙ c.number_in.ensures) c.read-r.ensures.0 in
+    let is = is_read C.look c.ways-f.ensures.record_is c.value_in.ensures c.read-r.ensures.0 in
     let other : has_own c.read-r.result.kind ≡ false = sym c.has_own.ensures ∙ c.if-has_own.false in
     first_laid C c.ways-f.ensures is other c.if-f.true c.lay_record-x.result c.lay_record-x.ensures c.tag_a.ensures
     c.past_words.ensures.0 refl
@@ -82,7 +82,7 @@ overflow_add-at-2 t c =
 pub lay_record-x-requires-2 : goal.lay_record-x-requires-2
 lay_record-x-requires-2 t c =
     let C = c.requires.can_place in
-    let is = is_read C.look c.ways-f.ensures.record_is (c.wide32.ensures.0 ∙ c.number_in.ensures) c.read-r.ensures.0 in
+    let is = is_read C.look c.ways-f.ensures.record_is c.value_in.ensures c.read-r.ensures.0 in
     let other : has_own c.read-r.result.kind ≡ false = sym c.has_own.ensures ∙ c.if-has_own.false in
     let stays = c.if-f.false in (
       omega (arith, place_falls C (second_leads C c.ways-f.ensures is other stays), c.decreases),
@@ -92,7 +92,7 @@ lay_record-x-requires-2 t c =
 pub wrap_laid_b-requires-clause-room : goal.wrap_laid_b-requires-clause-room
 wrap_laid_b-requires-clause-room t c =
     let C = c.requires.can_place in
-    let is = is_read C.look c.ways-f.ensures.record_is (c.wide32.ensures.0 ∙ c.number_in.ensures) c.read-r.ensures.0 in
+    let is = is_read C.look c.ways-f.ensures.record_is c.value_in.ensures c.read-r.ensures.0 in
     let other : has_own c.read-r.result.kind ≡ false = sym c.has_own.ensures ∙ c.if-has_own.false in
     second_room C c.ways-f.ensures is other c.if-f.false c.lay_record-x-2.ensures
 
@@ -103,7 +103,7 @@ wrap_laid_b-requires-clause-in_words t c =
 pub returns : goal.returns
 returns t c =
     let C = c.requires.can_place in
-    let is = is_read C.look c.ways-f.ensures.record_is (c.wide32.ensures.0 ∙ c.number_in.ensures) c.read-r.ensures.0 in
+    let is = is_read C.look c.ways-f.ensures.record_is c.value_in.ensures c.read-r.ensures.0 in
     let other : has_own c.read-r.result.kind ≡ false = sym c.has_own.ensures ∙ c.if-has_own.false in
     second_laid C c.ways-f.ensures is other c.if-f.false c.lay_record-x-2.result c.lay_record-x-2.ensures c.tag_b.ensures
     c.past_words-2.ensures.0 refl c.wrap_laid_b.ensures

@@ -16,5 +16,5 @@ returns c =
       alone = λ q. absurd (c.if-n-eq1.false q);
       several = λ q. several_values c.args.r c.args.n c.args.d c.args.e
           c.args.k (λ (u : ℕ). member (set_at c.args.table.now (772 + c.args.r.b)) (put c.args.e c.args.r.c u))
-          c.apart_of-by.ensures.0 c.digit_of-v.ensures c.next_value-w.ensures c.value_way-first-2.ensures c.value_way-second.ensures;
+          c.apart_of-by.ensures.0 c.min-v.ensures c.next_value-w.ensures c.value_way-first-2.ensures c.value_way-second.ensures;
     }
