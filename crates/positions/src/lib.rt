@@ -2,11 +2,12 @@
 #![tactic(auto)]
 
 ghost use Rattle.std.specs.Prelude.{◌≡◌, true, false, not, cond, ◌&&◌, ℕ, ◌+◌, ◌-◌, ◌/◌, ◌^◌, ◌≤◌, ◌<◌, min, max, T, eqb, length, get_or};
+ghost use Rattle.std.specs.Option.{ForSome};
 ghost use Rattle.records.specs.Records.{ProgramTable};
 ghost use Rattle.remaining.specs.Extended.{table_of};
 ghost use Rattle.leaves.specs.Tallies.{extended_size};
 ghost use Rattle.positions.specs.Spots.{digits_by, apart};
-ghost use Rattle.positions.specs.Found.{further, answer_of, NextValue, parted, gap_of, CanFork, ForksParts, LeadsValue, ForksValues};
+ghost use Rattle.positions.specs.Found.{NextValue, gap_of, CanFork, ForksParts, value_way, ForksValues};
 ghost use Rattle.positions.specs.Found.{tables_of, CanLook, ForksRecord, CanGo, FindsWay, FindsRecord};
 ghost use Rattle.positions.specs.Levels.{digits_over, digits_of};
 ghost use Rattle.golog.specs.Written.{entry_in, program_read};
@@ -187,56 +188,34 @@ fn apart_of(d: usize) -> u64
     1 << (4 * d.saturating_sub(1))
 }
 
-// Where a search goes on: to the transitions of record i, read in e, from position k on, which stand `base` further on; or not at all.
+// Where a search goes on: to the transitions of record i, read in e, from position k on, which stand `base` further on.
 #[derive(Clone, Copy)]
 pub struct Way {
-    pub goes: bool,
     pub i: usize,
     pub e: usize,
     pub k: u64,
     pub base: u64,
 }
 
-// The position of a transition, where there is one.
-#[derive(Clone, Copy)]
-pub struct Found {
-    pub there: bool,
-    pub at: u64,
-}
-
-// A record, and its one way, then the other.
+// A record, and its one way, then the other, where it goes them.
 #[derive(Clone, Copy)]
 pub struct Fork {
     pub r: Program,
-    pub first: Way,
-    pub second: Way,
+    pub first: Option<Way>,
+    pub second: Option<Way>,
 }
 
-fn nowhere() -> Way
-    ensures { result.goes ≡ false }
-{
-    Way {
-        goes: false,
-        i: 0,
-        e: 0,
-        k: 0,
-        base: 0,
-    }
-}
-
-// The least value from v on, below n, with which record b has a transition, read in e with the value in placeholder c; else n or more.
-fn next_value(table: &[u32], b: usize, e: usize, c: usize, v: usize, n: usize) -> usize
-    requires { (8256 ≤ length table.now) × (b < 260) × (e < 256) × (v ≤ 17) × (n ≤ 16) }
+// The least value from v on, below n, with which record b has a transition, read in e with the value in placeholder c.
+fn next_value(table: &[u32], b: usize, e: usize, c: usize, v: usize, n: usize) -> Option<usize>
+    requires { (8256 ≤ length table.now) × (b < 260) × (e < 256) × (n ≤ 16) }
     ensures { NextValue (λ (u : ℕ). member (set_at table.now (772 + b)) (put e c u)) v n result }
 {
-    let mut w = v;
-    while w < n {
+    for w in v..n {
         if enabled_in(table, b, put_value(e, c, w)) {
-            return w;
+            return Some(w);
         }
-        w += 1;
     }
-    w
+    None
 }
 
 // Whether the condition of record r, where it has one, holds in e.
@@ -297,37 +276,35 @@ fn fork_parts(r: Program, running: bool, d: usize, table: &[u32], e: usize, k: u
     let b = goes_b(r, h, table, e);
     let by = gap(r.kind, b, d);
     let first = Way {
-        goes: a & ((by == 0) | (k < by)),
         i: r.a,
         e,
         k,
         base: 0,
     };
     let second = Way {
-        goes: b,
         i: r.b,
         e,
         k: k.saturating_sub(by),
         base: by,
     };
-    Fork { r, first, second }
+    Fork {
+        r,
+        first: (a & ((by == 0) | (k < by))).then_some(first),
+        second: b.then_some(second),
+    }
 }
 
-// The way of value u of a choice between n.
-fn value_way(r: Program, e: usize, u: usize, n: usize, k: u64, by: u64) -> Way
-    requires { (n ≤ 16) × (e < 256) × (by ≤ 2 ^ 60) }
-    ensures { LeadsValue r e u n k by result }
+// The way of value u of a choice.
+fn value_way(r: Program, e: usize, u: usize, k: u64, by: u64) -> Way
+    requires { (u < 16) × (e < 256) × (by ≤ 2 ^ 60) }
+    ensures { result ≡ value_way r e u k by }
 {
-    if u < n {
-        return Way {
-            goes: true,
-            i: r.b,
-            e: put_value(e, r.c, u),
-            k,
-            base: u as u64 * by,
-        };
+    Way {
+        i: r.b,
+        e: put_value(e, r.c, u),
+        k,
+        base: u as u64 * by,
     }
-    nowhere()
 }
 
 // The ways of a choice between n values.
@@ -337,15 +314,20 @@ fn fork_values(r: Program, n: usize, d: usize, table: &[u32], e: usize, k: u64) 
     ensures { ForksValues r n d e k (λ (u : ℕ). member (set_at table.now (772 + r.b)) (put e r.c u)) result }
 {
     if n == 1 {
-        let first = value_way(r, e, 0, n, k, 1);
-        let second = nowhere();
-        return Fork { r, first, second };
+        return Fork {
+            r,
+            first: Some(value_way(r, e, 0, k, 1)),
+            second: None,
+        };
     }
     let by = apart_of(d);
     let v = (k / by).min(VALUES as u64) as usize;
-    let w = next_value(table, r.b, e, r.c, v + 1, n);
-    let first = value_way(r, e, v, n, k % by, by);
-    let second = value_way(r, e, w, n, 0, by);
+    let first = if v < n {
+        Some(value_way(r, e, v, k % by, by))
+    } else {
+        None
+    };
+    let second = next_value(table, r.b, e, r.c, v + 1, n).map(|w| value_way(r, e, w, 0, by));
     Fork { r, first, second }
 }
 
@@ -376,29 +358,6 @@ fn ways(
     fork_parts(r, v.running, d, table, e, k)
 }
 
-fn absent() -> Found
-    ensures { result.there ≡ false }
-{
-    Found {
-        there: false,
-        at: 0,
-    }
-}
-
-// What was found, further on.
-fn further_on(by: u64, x: Found) -> Found
-    requires { x.there ≡ true → by + x.at < 2 ^ 64 }
-    ensures { answer_of result ≡ further by (answer_of x) }
-{
-    if x.there {
-        return Found {
-            there: true,
-            at: by + x.at,
-        };
-    }
-    absent()
-}
-
 // The position of the first transition that a way leads to: straight down, since a record that has none is passed by at once.
 fn find_way(
     programs: &[u8],
@@ -406,35 +365,25 @@ fn find_way(
     spans: &[u32],
     digits: &[u32],
     table: &[u32],
-    w: Way,
-) -> Found
+    way: Option<Way>,
+) -> Option<u64>
     requires program_table { ProgramTable programs.now v.n }
-    requires can_go { w.goes ≡ true → CanGo (tables_of programs.now v spans.now digits.now table.now) w }
-    ensures { FindsWay (tables_of programs.now v spans.now digits.now table.now) w result }
+    requires can_go { ForSome way (CanGo (tables_of programs.now v spans.now digits.now table.now)) }
+    ensures { FindsWay (tables_of programs.now v spans.now digits.now table.now) way result }
 {
-    if !w.goes {
-        return absent();
+    let w = way?;
+    if !enabled_in(table, w.i, w.e) {
+        return None;
     }
-    let i = w.i;
-    let e = w.e;
-    if !enabled_in(table, i, e) {
-        return absent();
-    }
-    let f = ways(programs, v, spans, digits, table, i, e, w.k);
+    let f = ways(programs, v, spans, digits, table, w.i, w.e, w.k);
     if kinds::programs::has_own(f.r.kind) {
-        return Found {
-            there: w.k == 0,
-            at: w.base,
-        };
+        return (w.k == 0).then_some(w.base);
     }
-    let first = f.first;
-    let x = find_way(programs, v, spans, digits, table, first);
-    if x.there {
-        return further_on(w.base, x);
+    if let Some(at) = find_way(programs, v, spans, digits, table, f.first) {
+        return Some(w.base + at);
     }
-    let second = f.second;
-    let y = find_way(programs, v, spans, digits, table, second);
-    further_on(w.base, y)
+    let at = find_way(programs, v, spans, digits, table, f.second)?;
+    Some(w.base + at)
 }
 
 // The position of the first transition of record i, read in e, at k or later.
@@ -447,19 +396,13 @@ pub fn find_record(
     i: usize,
     e: usize,
     k: u64,
-) -> Found
+) -> Option<u64>
     requires program_table { ProgramTable programs.now v.n }
     requires can_look { CanLook (tables_of programs.now v spans.now digits.now table.now) i e }
     ensures { FindsRecord (tables_of programs.now v spans.now digits.now table.now) i e k result }
 {
-    let w = Way {
-        goes: true,
-        i,
-        e,
-        k,
-        base: 0,
-    };
-    find_way(programs, v, spans, digits, table, w)
+    let w = Way { i, e, k, base: 0 };
+    find_way(programs, v, spans, digits, table, Some(w))
 }
 
 // Lays out the own transition of record r, which leaves nothing.
@@ -524,18 +467,13 @@ pub fn lay_record(
     if kinds::programs::has_own(r.kind) {
         return lay_own(work, to, r);
     }
-    if f.first.goes {
+    if let Some(w) = f.first {
         let at = to + steps::past_words(kinds::programs::tag_a(r.kind) == 0, 3);
-        let a = f.first.i;
-        let d = f.first.e;
-        let j = f.first.k;
-        let x = lay_record(programs, v, spans, digits, table, work, a, d, at, j);
+        let x = lay_record(programs, v, spans, digits, table, work, w.i, w.e, at, w.k);
         return wrap_laid_a(work, to, r, reading_of(i, e), x);
     }
+    let w = f.second.unwrap();
     let at = to + steps::past_words(kinds::programs::tag_b(r.kind) == 0, 6);
-    let b = f.second.i;
-    let d = f.second.e;
-    let j = f.second.k;
-    let x = lay_record(programs, v, spans, digits, table, work, b, d, at, j);
+    let x = lay_record(programs, v, spans, digits, table, work, w.i, w.e, at, w.k);
     wrap_laid_b(work, to, r, x)
 }
