@@ -3,8 +3,9 @@
 use mathlib.Core.Path.{◌≡◌, refl, sym, ◌∙◌, ap}
 use mathlib.Core.Bool.{Bool, true, false, not, cond}
 use mathlib.Core.List.{List, Memᴰ}
-use Prim.Native.Nat.{ℕ, suc, ◌+◌, ◌*◌, ◌/◌, ◌%◌, ◌≤◌, ◌<◌}
+use Prim.Native.Nat.{ℕ, suc, ◌+◌, ◌*◌, ◌/◌, ◌%◌, ◌^◌, ◌≤◌, ◌<◌}
 use native.Mathlib.Omega.{arith}
+use mir.Val.{bool_byte}
 use lib.Dec.{eqb}
 use lib.ListN.{length, get_or}
 use Rattle.records.specs.Placeholders.{read_in, environment_of}
@@ -36,6 +37,11 @@ unfolding readings
 readings_at {A} F z n l =
     let f : ℕ → List A → A = λ (n : ℕ) (lower : List A). F (read_in n) (environment_of n) in
     up_at z f 66560 n l ∙ entry_is z f n
+
+-- a flag counts 1 where it is set
+pub as_count : (b : Bool) → (bool_byte b ≡ cond b 1 0) × (bool_byte b < 2 ^ 32)
+as_count true = (refl, omega arith)
+as_count false = (refl, omega arith)
 
 -- so of a record and an environment that were looked up
 pub final_reading : (sets : List ℕ) {x : Bool} {n : ℕ} → n < 66560 → x ≡ member (set_at sets (512 + n / 256)) (n % 256) → x ≡ get_or (finals_in sets) n true

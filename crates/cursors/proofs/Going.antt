@@ -2,9 +2,8 @@
 -- them the transitions are those of the meaning. Where a cursor is at a transition, from it on there are that one and those from the next
 -- cursor on. So cursors that rise by one from each found go through all transitions. Assumes nothing.
 use mathlib.Core.Path.{◌≡◌, refl, sym, ◌∙◌, ap}
-use mathlib.Core.Bool.{Bool, true, false, cond}
 use mathlib.Core.List.{List, [], ◌∷◌, map, Memᴰ}
-use mathlib.Core.Option.{none, some}
+use Rattle.std.specs.Prelude.{Some, None, Ok, Err}
 use mathlib.Core.Logic.{⊎_elim}
 use Prim.Native.Nat.{ℕ, suc, ◌+◌, ◌*◌, ◌^◌, ◌≤◌, ◌<◌}
 use native.Mathlib.Omega.{arith}
@@ -22,7 +21,8 @@ use Rattle.positions.proofs.Levels.{step_digits}
 use Rattle.positions.proofs.From.{lt_or_ge, from_first, from_next, from_low}
 use Rattle.positions.proofs.Parts.{rising_at}
 use Rattle.cursors.specs.declared.Cursor.{Cursor}
-use Rattle.cursors.specs.Going.{cursor_at, rest_spots_in, Inside, steps_from, pointed, Points}
+use Rattle.cursors.specs.declared.Passed.{Passed}
+use Rattle.cursors.specs.Going.{cursor_at, rest_spots_in, Inside, steps_from, Points}
 use Rattle.cursors.proofs.Laying.{cursor_before, cursor_behind, cursor_same, rest_rises}
 
 -- a cursor tells its place and its position
@@ -37,13 +37,13 @@ pub cursor_full : (p : ℕ) → cursor_at p (2 ^ 64) ≡ cursor_at (p + 1) 0
 cursor_full p = omega arith
 
 -- the first of some
-split_first : (xs : List Spot) {c : ℕ} → first_of xs ≡ some c → (x : RestTransition) × (ys : List Spot) × (xs ≡ ((c, x) ∷ ys))
+split_first : (xs : List Spot) {c : ℕ} → first_of xs ≡ Some c → (x : RestTransition) × (ys : List Spot) × (xs ≡ ((c, x) ∷ ys))
 split_first [] {c} e = let z : ◌≡◌ {A = ℕ} 0 1 = cc in absurd (omega arith)
 split_first (y ∷ ys) {c} e =
     let at : y.0 ≡ c = cc in
     (y.1, ys, ap (λ (n : ℕ). (n, y.1) ∷ ys) at)
 
-none_first : (xs : List Spot) → first_of xs ≡ none → xs ≡ []
+none_first : (xs : List Spot) → first_of xs ≡ None → xs ≡ []
 none_first [] e = refl
 none_first (y ∷ ys) e = let z : ◌≡◌ {A = ℕ} 0 1 = cc in absurd (omega arith)
 
@@ -77,19 +77,16 @@ module _ {W : World} {s : State} {t : Tables} (Q : Surveyed W s t) where
         ∙ rest_spots_are W s (written_records t.records) (digits_in t) (written_lower t.records Q.prepared.spread.linked) place g
 
     -- what an answer says: the transition that it points at, and after it those from the next cursor on; or there is none
-    module _ {c : ℕ} (r : Cursor) (P : Points W s t place g c r) where
-      pub spot_found : r.there ≡ true → (x : RestTransition) × Memᴰ (cursor_at r.place r.k, x) (rest_spots_in W s t place g)
+    module _ {c : ℕ} (r : Cursor) (P : Points W s t place g c (Ok r)) where
+      pub spot_found : (x : RestTransition) × Memᴰ (cursor_at r.place r.k, x) (rest_spots_in W s t place g)
           × (from_spot c (rest_spots_in W s t place g) ≡ ((cursor_at r.place r.k, x) ∷ from_spot (suc (cursor_at r.place r.k)) (rest_spots_in W s t place g)))
-      spot_found h =
-          let there : pointed r ≡ some (cursor_at r.place r.k) = ap (λ (b : Bool). cond b (some (cursor_at r.place r.k)) none) h in
-          let z = split_first (from_spot c (rest_spots_in W s t place g)) (P.first ∙ there) in
+      spot_found =
+          let z = split_first (from_spot c (rest_spots_in W s t place g)) P.first in
           let next = from_next c (rest_rises Q place g H) z.2 in
           (z.0, (from_first c (rest_spots_in W s t place g) z.2).1, z.2 ∙ ap (λ (ys : List Spot). (cursor_at r.place r.k, z.0) ∷ ys) (sym next))
 
-      pub steps_none : r.there ≡ false → steps_from W s t place g c ≡ []
-      steps_none h =
-          let none_there : pointed r ≡ none = ap (λ (b : Bool). cond b (some (cursor_at r.place r.k)) none) h in
-          ap (map (λ (x : Spot). x.1)) (none_first (from_spot c (rest_spots_in W s t place g)) (P.first ∙ none_there))
+      pub steps_next : steps_from W s t place g c ≡ (spot_found.0 ∷ steps_from W s t place g (suc (cursor_at r.place r.k)))
+      steps_next = ap (map (λ (x : Spot). x.1)) spot_found.2
 
-      pub steps_next : (h : r.there ≡ true) → steps_from W s t place g c ≡ ((spot_found h).0 ∷ steps_from W s t place g (suc (cursor_at r.place r.k)))
-      steps_next h = ap (map (λ (x : Spot). x.1)) (spot_found h).2
+    pub steps_none : {c : ℕ} {p : Passed} → Points W s t place g c (Err p) → steps_from W s t place g c ≡ []
+    steps_none {c} P = ap (map (λ (x : Spot). x.1)) (none_first (from_spot c (rest_spots_in W s t place g)) P.first)

@@ -2,11 +2,12 @@
 -- of the left part, then, where that lets it go, those of the right part. What the pass learns of a left part without one, whether it is
 -- final and whether it has none at all, tells whether it does. Assumes nothing.
 use mathlib.Core.Path.{◌≡◌, refl, sym, ◌∙◌, ap, ap₂, subst}
-use mathlib.Core.Bool.{Bool, true, false, not, cond, ◌&&◌, false≢true}
+use mathlib.Core.Bool.{Bool, true, false, not, cond, ◌&&◌}
 use mathlib.Core.List.{List, [], ◌∷◌, ◌++◌, map}
-use mathlib.Core.Option.{Option, none, some}
+use Rattle.std.specs.Prelude.{Option, Some, None, Result, Ok, Err}
+use Rattle.std.specs.Option.{option_or}
 use Prim.Native.Nat.{ℕ, ◌+◌, ◌-◌, ◌*◌, ◌^◌, ◌≤◌, ◌<◌}
-use native.Mathlib.Nat.{sub-zero, pow-le-pow_right, mul-le-mul_right, add-mul, one-mul}
+use native.Mathlib.Nat.{sub-zero, pow-le-pow_right}
 use native.Mathlib.Omega.{arith}
 use Rattle.records.specs.declared.Program.{Program}
 use Rattle.records.specs.Placeholders.{reading, read_in, environment_of}
@@ -22,44 +23,21 @@ use Rattle.remaining.specs.Leaves.{on_rest, leaf_of, goes_right, wrap_right, res
 use Rattle.words.specs.Words.{At, Stands}
 use Rattle.words.proofs.Standing.{at_unique}
 use Rattle.words.proofs.Reading.{Parts}
-use Rattle.positions.specs.declared.Found.{Found}
 use Rattle.positions.specs.Spots.{Spot, moved, spots_of, rest_spots, from_spot}
 use Rattle.positions.specs.Rising.{Rising}
-use Rattle.positions.specs.Found.{first_of, further, or_else, Tables, digits_in, spots_in, Surveyed, CanLook, FindsRecord}
+use Rattle.positions.specs.Found.{first_of, further, Tables, digits_in, spots_in, Surveyed, CanLook, FindsRecord}
 use Rattle.positions.proofs.Rising.{rising_wider}
 use Rattle.positions.proofs.Forking.{rises}
 use Rattle.positions.proofs.From.{found_moved, found_append, found_none}
 use Rattle.cursors.specs.declared.Cursor.{Cursor}
+use Rattle.cursors.specs.declared.Passed.{Passed}
 use Rattle.cursors.specs.Ended.{CanEnd}
 use Rattle.cursors.specs.Going.{cursor_at, rest_spots_in, Inside, pointed, Points, CanPoint, FindsLeaf}
 use Rattle.cursors.proofs.Ending.{inside_left, inside_right, inside_leaf, inside_low}
 
--- an answer without a transition
-pub record Passes (done idle : Bool) (r : Cursor) : Type 0 where
-  pub none_there : r.there ≡ false
-  pub done_is : r.done ≡ done
-  pub idle_is : r.idle ≡ idle
-
-pub passes : {done idle : Bool} {r : Cursor} → (r.there ≡ false) × (r.done ≡ done) × (r.idle ≡ idle) → Passes done idle r
-passes (a, b, c) = record { none_there = a; done_is = b; idle_is = c }
-
-pointed_none : (r : Cursor) → r.there ≡ false → pointed r ≡ none
-pointed_none r e = ap (λ (b : Bool). cond b (some (cursor_at r.place r.k)) none) e
-
 further_zero : (m : Option ℕ) → further 0 m ≡ m
-further_zero none = refl
-further_zero (some k) = ap some (omega arith)
-
-further_if : (by at : ℕ) (b : Bool) → further by (cond b (some at) none) ≡ cond b (some (by + at)) none
-further_if by at true = refl
-further_if by at false = refl
-
--- a position is below 2 ^ 64, so that a record behind the cursor's place is searched from its first on
-pub behind : (N at place k : ℕ) → place < at → k < N → 0 ≡ place * N + k - at * N
-behind N at place k l h =
-    let next : (place + 1) * N ≤ at * N = mul-le-mul_right N (omega arith) in
-    let same : (place + 1) * N ≡ place * N + N = add-mul place 1 N ∙ ap (λ (n : ℕ). place * N + n) (one-mul N) in
-    omega (arith, next, same, h)
+further_zero None = refl
+further_zero (Some k) = ap Some (omega arith)
 
 -- a leaf
 module _ (W : World) (s : State) (t : Tables) (n at c : ℕ) where
@@ -91,35 +69,40 @@ module _ {t : Tables} (n : ℕ) (C : CanLook t (read_in n) (environment_of n)) {
         twice true = refl
         twice false = refl
 
-  -- before the cursor's place there is none
-  pub leaf_before : (at place k : ℕ) {r : Cursor} → at < place → Passes done idle r → FindsLeaf t n at place k r
-  leaf_before at place k {r} l P W s Q = record {
-    first =
-        leaf_first W s t n at (cursor_at place k)
-        ∙ ap (λ (xs : List Spot). further (at * 2 ^ 64) (first_of xs)) (found_none (cursor_at place k - at * 2 ^ 64) below (omega arith))
-        ∙ sym (pointed_none r P.none_there);
-    final = λ z. P.done_is ∙ leaf_final Q;
-    idle = λ z. P.idle_is ∙ leaf_idle Q;
+  leaf_none : (at place k : ℕ)
+      → ((W : World) (s : State) → Surveyed W s t → first_of (from_spot (cursor_at place k - at * 2 ^ 64) (spots_in W s t (read_in n) (environment_of n))) ≡ None)
+      → FindsLeaf t n at place k (Err (record { done = done; idle = idle }))
+  leaf_none at place k h W s Q = record {
+    first = leaf_first W s t n at (cursor_at place k) ∙ ap (further (at * 2 ^ 64)) (h W s Q);
+    final = leaf_final Q;
+    idle = leaf_idle Q;
   }
+
+  -- before the cursor's place there is none
+  pub leaf_before : (at place k : ℕ) → at < place → FindsLeaf t n at place k (Err (record { done = done; idle = idle }))
+  leaf_before at place k l = leaf_none at place k (λ W s Q. ap first_of (found_none (cursor_at place k - at * 2 ^ 64) (below Q) (omega arith)))
     where
       few : 16 ^ digits_in t (read_in n) ≤ 16 ^ 16
       few = pow-le-pow_right (omega arith) C.low
 
-      below : Rising 0 (2 ^ 64) (spots_in W s t (read_in n) (environment_of n))
-      below = rising_wider (omega arith) few (rises Q (read_in n) (environment_of n) (environment_small n))
+      below : {W : World} {s : State} → Surveyed W s t → Rising 0 (2 ^ 64) (spots_in W s t (read_in n) (environment_of n))
+      below Q = rising_wider (omega arith) few (rises Q (read_in n) (environment_of n) (environment_small n))
 
   -- at it, or behind it, the record's
-  pub leaf_at : (at place k : ℕ) {j : ℕ} (f : Found) → j ≡ cursor_at place k - at * 2 ^ 64 → FindsRecord t (read_in n) (environment_of n) j f
-      → FindsLeaf t n at place k (record { there = f.there; place = at; k = f.at; done = done; idle = idle })
-  leaf_at at place k f e F W s Q = record {
-    first =
-        leaf_first W s t n at (cursor_at place k)
-        ∙ ap (λ (j : ℕ). further (at * 2 ^ 64) (first_of (from_spot j (spots_in W s t (read_in n) (environment_of n))))) (sym e)
-        ∙ ap (further (at * 2 ^ 64)) (F W s Q)
-        ∙ further_if (at * 2 ^ 64) f.at f.there;
-    final = λ z. leaf_final Q;
-    idle = λ z. leaf_idle Q;
-  }
+  module _ (at place k : ℕ) {j : ℕ} (e : j ≡ cursor_at place k - at * 2 ^ 64) where
+    pub leaf_at : {m : ℕ} → FindsRecord t (read_in n) (environment_of n) j (Some m) → FindsLeaf t n at place k (Ok (record { place = at; k = m }))
+    leaf_at F W s Q = record {
+      first =
+          leaf_first W s t n at (cursor_at place k)
+          ∙ ap (λ (j : ℕ). further (at * 2 ^ 64) (first_of (from_spot j (spots_in W s t (read_in n) (environment_of n))))) (sym e)
+          ∙ ap (further (at * 2 ^ 64)) (F W s Q);
+      final = tt;
+      idle = tt;
+    }
+
+    pub leaf_passed : FindsRecord t (read_in n) (environment_of n) j None → FindsLeaf t n at place k (Err (record { done = done; idle = idle }))
+    leaf_passed F =
+        leaf_none at place k (λ W s Q. ap (λ (j : ℕ). first_of (from_spot j (spots_in W s t (read_in n) (environment_of n)))) (sym e) ∙ F W s Q)
 
 -- a construct
 abbrev written : Tables → ℕ → Program
@@ -148,11 +131,11 @@ module _ (W : World) (s : State) (t : Tables) (tag : ℕ) (l r : Rest) where
       second false = refl
 
   node_first : (place c : ℕ) → first_of (from_spot c (rest_spots_in W s t place (node tag l r)))
-      ≡ or_else (first_of (from_spot c (rest_spots_in W s t (place + 3) l))) (cond right_goes (first_of (from_spot c (rest_spots_in W s t (place + 3 + 3 * nodes l) r))) none)
+      ≡ option_or (first_of (from_spot c (rest_spots_in W s t (place + 3) l))) (cond right_goes (first_of (from_spot c (rest_spots_in W s t (place + 3 + 3 * nodes l) r))) None)
   unfolding rest_spots
   node_first place c =
       found_append c (map (moved 0 (λ (g : Rest). node tag g r)) L) (map (moved 0 (wrap_right tag l)) (only right_goes R))
-      ∙ ap₂ or_else (same (λ (g : Rest). node tag g r) L) (second right_goes)
+      ∙ ap₂ option_or (same (λ (g : Rest). node tag g r) L) (second right_goes)
     where
       L : List Spot
       L = rest_spots_in W s t (place + 3) l
@@ -163,87 +146,74 @@ module _ (W : World) (s : State) (t : Tables) (tag : ℕ) (l r : Rest) where
       same : (f : Rest → Rest) (xs : List Spot) → first_of (from_spot c (map (moved 0 f) xs)) ≡ first_of (from_spot c xs)
       same f xs = found_moved c 0 f xs ∙ further_zero _ ∙ ap (λ (n : ℕ). first_of (from_spot n xs)) (sub-zero c)
 
-      second : (b : Bool) → first_of (from_spot c (map (moved 0 (wrap_right tag l)) (only b R))) ≡ cond b (first_of (from_spot c R)) none
+      second : (b : Bool) → first_of (from_spot c (map (moved 0 (wrap_right tag l)) (only b R))) ≡ cond b (first_of (from_spot c R)) None
       second true = same (wrap_right tag l) R
       second false = refl
 
-or_there : (x : Cursor) (m : Option ℕ) → x.there ≡ true → or_else (pointed x) m ≡ pointed x
-or_there x m e = rw e
-
 -- the left part was searched
-module _ {g : Rest} {w : List ℕ} {place tag m : ℕ} (D : Parts g w place tag m) {W : World} {s : State} {t : Tables} {c : ℕ} {x : Cursor} (X : Points W s t (place + 3) D.l c x) where
+module _ {g : Rest} {w : List ℕ} {place tag m : ℕ} (D : Parts g w place tag m) (W : World) (s : State) (t : Tables) (c : ℕ) where
   abbrev goes : Bool
   goes = goes_right tag (rest_final W s (written t) D.l) (is_none (rest_transitions W s (written t) D.l))
 
   abbrev R : Option ℕ
   R = first_of (from_spot c (rest_spots_in W s t (place + 3 + 3 * m) D.r))
 
-  both_first : first_of (from_spot c (rest_spots_in W s t place g)) ≡ or_else (pointed x) (cond goes R none)
-  both_first =
+  both_first : {x : Result Cursor Passed} → Points W s t (place + 3) D.l c x → first_of (from_spot c (rest_spots_in W s t place g)) ≡ option_or (pointed x) (cond goes R None)
+  both_first X =
       ap (λ (g : Rest). first_of (from_spot c (rest_spots_in W s t place g))) D.is
       ∙ node_first W s t tag D.l D.r place c
-      ∙ ap₂ (λ (a : Option ℕ) (n : ℕ). or_else a (cond goes (first_of (from_spot c (rest_spots_in W s t (place + 3 + 3 * n) D.r))) none)) X.first (sym D.left_is)
+      ∙ ap₂ (λ (a : Option ℕ) (n : ℕ). option_or a (cond goes (first_of (from_spot c (rest_spots_in W s t (place + 3 + 3 * n) D.r))) None)) X.first (sym D.left_is)
 
   -- it has one
-  pub left_there : x.there ≡ true → Points W s t place g c x
-  left_there h = record {
-    first = both_first ∙ or_there x (cond goes R none) h;
-    final = λ z. absurd (false≢true (sym z ∙ h));
-    idle = λ z. absurd (false≢true (sym z ∙ h));
-  }
+  pub left_there : {x : Cursor} → Points W s t (place + 3) D.l c (Ok x) → Points W s t place g c (Ok x)
+  left_there X = record { first = both_first X; final = tt; idle = tt }
 
   -- it has none: whether the right part goes
-  module _ (no : x.there ≡ false) {b : Bool} (eb : b ≡ goes_right tag x.done x.idle) where
+  module _ {x : Passed} (X : Points W s t (place + 3) D.l c (Err x)) {b : Bool} (eb : b ≡ goes_right tag x.done x.idle) where
     goes_is : goes ≡ b
-    goes_is = sym (eb ∙ ap₂ (goes_right tag) (X.final no) (X.idle no))
+    goes_is = sym (eb ∙ ap₂ (goes_right tag) X.final X.idle)
 
-    right_first : first_of (from_spot c (rest_spots_in W s t place g)) ≡ cond b R none
-    right_first = both_first ∙ ap₂ (λ (a : Option ℕ) (b : Bool). or_else a (cond b R none)) (pointed_none x no) goes_is
+    right_first : first_of (from_spot c (rest_spots_in W s t place g)) ≡ cond b R None
+    right_first = both_first X ∙ ap (λ (b : Bool). cond b R None) goes_is
 
     both_final : (x.done && rest_final W s (written t) D.r) ≡ rest_final W s (written t) g
     unfolding rest_final
-    both_final = ap (λ (a : Bool). a && rest_final W s (written t) D.r) (X.final no) ∙ ap (rest_final W s (written t)) (sym D.is)
+    both_final = ap (λ (a : Bool). a && rest_final W s (written t) D.r) X.final ∙ ap (rest_final W s (written t)) (sym D.is)
 
     both_idle : (x.idle && cond b (is_none (rest_transitions W s (written t) D.r)) true) ≡ is_none (rest_transitions W s (written t) g)
     both_idle =
-        ap₂ (λ (a b : Bool). a && cond b (is_none (rest_transitions W s (written t) D.r)) true) (X.idle no) (sym goes_is)
+        ap₂ (λ (a b : Bool). a && cond b (is_none (rest_transitions W s (written t) D.r)) true) X.idle (sym goes_is)
         ∙ sym (node_none W s t tag D.l D.r)
         ∙ ap (λ (g : Rest). is_none (rest_transitions W s (written t) g)) (sym D.is)
 
-    pub right_stays : b ≡ false → {d : Bool} → d ≡ (x.done && rest_final W s (written t) D.r) → {z : Cursor} → Passes d x.idle z → Points W s t place g c z
-    right_stays nb ed {z} Z = record {
-      first = right_first ∙ ap (λ (b : Bool). cond b R none) nb ∙ sym (pointed_none z Z.none_there);
-      final = λ q. Z.done_is ∙ ed ∙ both_final;
-      idle = λ q. Z.idle_is ∙ sym (and_true x.idle) ∙ ap (λ (b : Bool). x.idle && cond b (is_none (rest_transitions W s (written t) D.r)) true) (sym nb) ∙ both_idle;
+    pub right_stays : b ≡ false → {d : Bool} → d ≡ (x.done && rest_final W s (written t) D.r) → Points W s t place g c (Err (record { done = d; idle = x.idle }))
+    right_stays nb ed = record {
+      first = right_first ∙ ap (λ (b : Bool). cond b R None) nb;
+      final = ed ∙ both_final;
+      idle = sym (and_true x.idle) ∙ ap (λ (b : Bool). x.idle && cond b (is_none (rest_transitions W s (written t) D.r)) true) (sym nb) ∙ both_idle;
     }
       where
         and_true : (a : Bool) → (a && true) ≡ a
         and_true true = refl
         and_true false = refl
 
-    module _ (yb : b ≡ true) {y : Cursor} (Y : Points W s t (place + 3 + 3 * m) D.r c y) where
-      pub right_there : y.there ≡ true → Points W s t place g c y
-      right_there h = record {
-        first = right_first ∙ ap (λ (b : Bool). cond b R none) yb ∙ Y.first;
-        final = λ z. absurd (false≢true (sym z ∙ h));
-        idle = λ z. absurd (false≢true (sym z ∙ h));
-      }
+    module _ (yb : b ≡ true) where
+      pub right_there : {y : Cursor} → Points W s t (place + 3 + 3 * m) D.r c (Ok y) → Points W s t place g c (Ok y)
+      right_there Y = record { first = right_first ∙ ap (λ (b : Bool). cond b R None) yb ∙ Y.first; final = tt; idle = tt }
 
-      pub neither_there : y.there ≡ false → {z : Cursor} → Passes (x.done && y.done) (x.idle && y.idle) z → Points W s t place g c z
-      neither_there h {z} Z = record {
-        first = right_first ∙ ap (λ (b : Bool). cond b R none) yb ∙ Y.first ∙ pointed_none y h ∙ sym (pointed_none z Z.none_there);
-        final = λ q. Z.done_is ∙ ap (λ (a : Bool). x.done && a) (Y.final h) ∙ both_final;
-        idle = λ q. Z.idle_is
-            ∙ ap (λ (a : Bool). x.idle && a) (Y.idle h)
-            ∙ ap (λ (b : Bool). x.idle && cond b (is_none (rest_transitions W s (written t) D.r)) true) (sym yb)
-            ∙ both_idle;
+      pub neither_there : {y : Passed} → Points W s t (place + 3 + 3 * m) D.r c (Err y)
+          → Points W s t place g c (Err (record { done = x.done && y.done; idle = x.idle && y.idle }))
+      neither_there Y = record {
+        first = right_first ∙ ap (λ (b : Bool). cond b R None) yb ∙ Y.first;
+        final = ap (λ (a : Bool). x.done && a) Y.final ∙ both_final;
+        idle = ap (λ (a : Bool). x.idle && a) Y.idle ∙ ap (λ (b : Bool). x.idle && cond b (is_none (rest_transitions W s (written t) D.r)) true) (sym yb) ∙ both_idle;
       }
 
 -- nothing is left
-pub gone_points : (W : World) (s : State) (t : Tables) (place c : ℕ) {g : Rest} {z : Cursor} → g ≡ gone → Passes true true z → Points W s t place g c z
+pub gone_points : (W : World) (s : State) (t : Tables) (place c : ℕ) {g : Rest} → g ≡ gone → Points W s t place g c (Err (record { done = true; idle = true }))
 unfolding rest_spots rest_final rest_transitions
-gone_points W s t place c {g} {z} e Z =
-    subst (λ (g : Rest). Points W s t place g c z) (sym e) (record { first = sym (pointed_none z Z.none_there); final = λ q. Z.done_is; idle = λ q. Z.idle_is })
+gone_points W s t place c e =
+    subst (λ (g : Rest). Points W s t place g c (Err (record { done = true; idle = true }))) (sym e) (record { first = refl; final = refl; idle = refl })
 
 -- what is asked of the parts, and of a leaf
 module _ {t : Tables} {w : List ℕ} {place : ℕ} (K : CanPoint t w place) where
@@ -283,6 +253,6 @@ module _ {t : Tables} {w : List ℕ} {place : ℕ} (K : CanPoint t w place) wher
   }
 
 -- a leaf's are found of its record
-pub leaf_points : {t : Tables} (at place k : ℕ) {n j : ℕ} {z : Cursor} → FindsLeaf t n at place k z
+pub leaf_points : {t : Tables} (at place k : ℕ) {n j : ℕ} {z : Result Cursor Passed} → FindsLeaf t n at place k z
     → {W : World} {s : State} → Surveyed W s t → {g : Rest} → g ≡ leaf j → n ≡ j → Points W s t at g (cursor_at place k) z
 leaf_points {t} at place k {n} {j} {z} F {W} {s} Q e q = subst (λ (g : Rest). Points W s t at g (cursor_at place k) z) (sym (e ∙ ap leaf (sym q))) (F W s Q)

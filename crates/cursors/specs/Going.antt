@@ -1,9 +1,8 @@
 -- Own vocabulary: cursors into the transitions of a remaining program whose records are read in environments: the place in the work area of a
 -- record's node, and a position among the record's transitions. What is asked and what is answered where the first from a cursor on is
 -- found, and where the one at a cursor is laid out. Assumes nothing.
-use Rattle.std.specs.Prelude.{◌≡◌, false, cond, ℕ, ◌+◌, ◌*◌, ◌^◌, ◌≤◌, ◌<◌, eqb}
+use Rattle.std.specs.Prelude.{◌≡◌, Option, Some, None, Result, Ok, Err, IfErr, ℕ, ◌+◌, ◌*◌, ◌^◌, ◌≤◌, ◌<◌, eqb}
 use mathlib.Core.List.{List, map, Memᴰ}
-use Rattle.std.proofs.Math.Option.{Option, none, some}
 use Rattle.records.specs.Placeholders.{environments, read_in}
 use Rattle.golog.specs.declared.State.{State}
 use Rattle.golog.specs.World.{World}
@@ -18,6 +17,7 @@ use Rattle.positions.specs.Spots.{Spot, rest_spots, from_spot}
 use Rattle.positions.specs.Found.{first_of, Tables, digits_in, Surveyed}
 use Rattle.positions.specs.Placed.{Placed}
 use Rattle.cursors.specs.declared.Cursor.{Cursor}
+use Rattle.cursors.specs.declared.Passed.{Passed}
 
 -- a cursor as one number: the place counts first
 abbrev pub cursor_at : (place k : ℕ) → ℕ
@@ -37,15 +37,16 @@ pub record Inside (t : Tables) (g : Rest) : Type 0 where
   pub low : largest (λ (n : ℕ). digits_in t (read_in n)) g ≤ 16
 
 -- where an answer points
-abbrev pub pointed : Cursor → Option ℕ
-pointed r = cond r.there (some (cursor_at r.place r.k)) none
+abbrev pub pointed : Result Cursor Passed → Option ℕ
+pointed (Ok c) = Some (cursor_at c.place c.k)
+pointed (Err p) = None
 
 -- the answer r for g, which stands at a place: the first transition from cursor c on; where there is none, whether g is final, and whether it
 -- has no transition at all
-pub record Points (W : World) (s : State) (t : Tables) (place : ℕ) (g : Rest) (c : ℕ) (r : Cursor) : Type 0 where
+pub record Points (W : World) (s : State) (t : Tables) (place : ℕ) (g : Rest) (c : ℕ) (r : Result Cursor Passed) : Type 0 where
   pub first : first_of (from_spot c (rest_spots_in W s t place g)) ≡ pointed r
-  pub final : r.there ≡ false → r.done ≡ rest_final W s (written_records t.records) g
-  pub idle : r.there ≡ false → r.idle ≡ is_none (rest_transitions W s (written_records t.records) g)
+  pub final : IfErr r (λ p. p.done ≡ rest_final W s (written_records t.records) g)
+  pub idle : IfErr r (λ p. p.idle ≡ is_none (rest_transitions W s (written_records t.records) g))
 
 -- a remaining program of the table stands at a place, and the sets are those of some state
 pub record CanPoint (t : Tables) (w : List ℕ) (place : ℕ) : Type 0 where
@@ -57,10 +58,10 @@ pub record CanPoint (t : Tables) (w : List ℕ) (place : ℕ) : Type 0 where
   pub inside : Inside t rest
 
 -- in every state that the sets are of, of a record's leaf, number n, and of what stands there
-abbrev pub FindsLeaf : Tables → (n at place k : ℕ) → Cursor → Type 0
+abbrev pub FindsLeaf : Tables → (n at place k : ℕ) → Result Cursor Passed → Type 0
 FindsLeaf t n at place k r = (W : World) (s : State) → Surveyed W s t → Points W s t at (leaf n) (cursor_at place k) r
 
-abbrev pub FindsRest : Tables → (w : List ℕ) (at place k : ℕ) → Cursor → Type 0
+abbrev pub FindsRest : Tables → (w : List ℕ) (at place k : ℕ) → Result Cursor Passed → Type 0
 FindsRest t w at place k r = (W : World) (s : State) → Surveyed W s t → (g : Rest) → At g w at → Points W s t at g (cursor_at place k) r
 
 -- it stands below `to`, has a transition at the cursor in the state that it is looked at in, and there is room for what any of its transitions

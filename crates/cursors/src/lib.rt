@@ -2,7 +2,7 @@
 // at least, and their transitions by cursors. A leaf's number is that of its record, read in its environment (records/specs/Placeholders.antt).
 #![tactic(auto)]
 
-ghost use Rattle.std.specs.Prelude.{◌≡◌, false, cond, ◌&&◌, ◌-◌, ◌*◌, ◌^◌, ◌≤◌, ◌<◌, length};
+ghost use Rattle.std.specs.Prelude.{◌≡◌, ◌&&◌, ◌-◌, ◌*◌, ◌^◌, ◌≤◌, ◌<◌, length};
 ghost use Rattle.records.specs.Records.{ProgramTable};
 ghost use Rattle.records.specs.Placeholders.{read_in, environment_of};
 ghost use Rattle.remaining.specs.Rest.{Rest};
@@ -31,16 +31,7 @@ pub fn final_rest(table: &[u32], work: &[u32], at: usize) -> bool
         return positions::final_in(table, n / ENVIRONMENTS, n % ENVIRONMENTS);
     }
     let left = words::size_at(work, at + 3);
-    if final_rest(table, work, at + 3) {
-        return final_rest(table, work, at + 3 + 3 * left);
-    }
-    false
-}
-
-fn one_if(b: bool) -> usize
-    ensures { (result ≡ cond b 1 0) × (result < 2 ^ 32) }
-{
-    if b { 1 } else { 0 }
+    final_rest(table, work, at + 3) && final_rest(table, work, at + 3 + 3 * left)
 }
 
 // The totals of the remaining program at `at`: as many as there are records that go and have a transition, so 0 where there is none.
@@ -63,8 +54,8 @@ pub fn total_rest(table: &[u32], distances: &[u32], work: &[u32], at: usize) -> 
         let n = words::record_at(work, at);
         let i = n / ENVIRONMENTS;
         let e = n % ENVIRONMENTS;
-        let count = one_if(positions::enabled_in(table, i, e));
-        let far = records::wide32(records::number_in(distances, i, 0));
+        let count = usize::from(positions::enabled_in(table, i, e));
+        let far = records::value_in(distances, i, 0) as usize;
         return Totals {
             done: positions::final_in(table, i, e),
             count,
@@ -78,27 +69,18 @@ pub fn total_rest(table: &[u32], distances: &[u32], work: &[u32], at: usize) -> 
     ends::join_totals(tag, l, r)
 }
 
-// Where a transition is: the place of its record's node, and its position among those of the record. Where there is none, whether what was
-// searched is final, and whether it has no transition at all.
+// Where a transition is: the place of its record's node, and its position among those of the record.
 #[derive(Clone, Copy)]
 pub struct Cursor {
-    pub there: bool,
     pub place: usize,
     pub k: u64,
-    pub done: bool,
-    pub idle: bool,
 }
 
-fn passed(done: bool, idle: bool) -> Cursor
-    ensures { (result.there ≡ false) × (result.done ≡ done) × (result.idle ≡ idle) }
-{
-    Cursor {
-        there: false,
-        place: 0,
-        k: 0,
-        done,
-        idle,
-    }
+// Where there is none: whether what was searched is final, and whether it has no transition at all.
+#[derive(Clone, Copy)]
+pub struct Passed {
+    pub done: bool,
+    pub idle: bool,
 }
 
 // The position that a cursor leaves to a record's node at its place or behind it.
@@ -120,26 +102,24 @@ fn find_leaf(
     at: usize,
     place: usize,
     k: u64,
-) -> Cursor
+) -> Result<Cursor, Passed>
     requires program_table { ProgramTable programs.now v.n }
     requires can_look { CanLook (tables_of programs.now v spans.now digits.now table.now) (read_in n) (environment_of n) }
     ensures { FindsLeaf (tables_of programs.now v spans.now digits.now table.now) n at place k result }
 {
     let i = n / ENVIRONMENTS;
     let e = n % ENVIRONMENTS;
-    let done = positions::final_in(table, i, e);
-    let idle = !positions::enabled_in(table, i, e);
+    let passed = Passed {
+        done: positions::final_in(table, i, e),
+        idle: !positions::enabled_in(table, i, e),
+    };
     if at < place {
-        return passed(done, idle);
+        return Err(passed);
     }
     let j = position(at, place, k);
-    let f = positions::find_record(programs, v, spans, digits, table, i, e, j);
-    Cursor {
-        there: f.there,
-        place: at,
-        k: f.at,
-        done,
-        idle,
+    match positions::find_record(programs, v, spans, digits, table, i, e, j) {
+        Some(k) => Ok(Cursor { place: at, k }),
+        None => Err(passed),
     }
 }
 
@@ -148,10 +128,7 @@ fn final_after(done: bool, table: &[u32], work: &[u32], at: usize) -> bool
     requires { CanEnd table.now work.now at }
     ensures { (g : Rest) → At g work.now at → result ≡ (done && final_by_table (finals_in table.now) g) }
 {
-    if done {
-        return final_rest(table, work, at);
-    }
-    false
+    done && final_rest(table, work, at)
 }
 
 // The first transition from the cursor on of the remaining program at `at`: one pass. Of records before the cursor's place only the sets are
@@ -166,14 +143,17 @@ pub fn find_rest(
     at: usize,
     place: usize,
     k: u64,
-) -> Cursor
+) -> Result<Cursor, Passed>
     requires program_table { ProgramTable programs.now v.n }
     requires can_point { CanPoint (tables_of programs.now v spans.now digits.now table.now) work.now at }
     ensures { FindsRest (tables_of programs.now v spans.now digits.now table.now) work.now at place k result }
 {
     let tag = words::tag_at(work, at);
     if tag == words::GONE {
-        return passed(true, true);
+        return Err(Passed {
+            done: true,
+            idle: true,
+        });
     }
     if tag == words::LEAF {
         let n = words::record_at(work, at);
@@ -181,18 +161,24 @@ pub fn find_rest(
     }
     let left = at + 3;
     let right = left + 3 * words::size_at(work, left);
-    let x = find_rest(programs, v, spans, digits, table, work, left, place, k);
-    if x.there {
-        return x;
-    }
+    let x = match find_rest(programs, v, spans, digits, table, work, left, place, k) {
+        Ok(found) => return Ok(found),
+        Err(passed) => passed,
+    };
     if !ends::goes_right(tag, x.done, x.idle) {
-        return passed(final_after(x.done, table, work, right), x.idle);
+        return Err(Passed {
+            done: final_after(x.done, table, work, right),
+            idle: x.idle,
+        });
     }
-    let y = find_rest(programs, v, spans, digits, table, work, right, place, k);
-    if y.there {
-        return y;
-    }
-    passed(x.done & y.done, x.idle & y.idle)
+    let y = match find_rest(programs, v, spans, digits, table, work, right, place, k) {
+        Ok(found) => return Ok(found),
+        Err(passed) => passed,
+    };
+    Err(Passed {
+        done: x.done & y.done,
+        idle: x.idle & y.idle,
+    })
 }
 
 // Puts a copy of the right part at `from` beside what a transition of the left one left.

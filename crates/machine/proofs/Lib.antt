@@ -1,5 +1,4 @@
 pub mod Windows
-pub mod Copied
 pub mod Reading
 pub mod Marking
 pub mod Filling

@@ -42,35 +42,24 @@ pub const TABLE: usize = enabled::SETS * sets::WORDS;
 // All places: behind the sets there is one more, which is not written here.
 pub const PLACES: usize = SETS + 2 * TABLE + 1;
 
-// Makes one table the same as another.
-fn copy_numbers(to: &mut [u32], from: &[u32])
-    requires { length to.old ≡ length from.now }
-    ensures { to.new ≡ from.now }
-{
-    let mut i = 0;
-    while i < to.len() {
-        to[i] = from[i];
-        i += 1;
-    }
-}
-
 // Writes a table at place `at`.
 fn put_numbers(numbers: &mut [u32], at: usize, from: &[u32])
     requires { at + length «from».now ≤ length numbers.old }
     ensures { PutAt at «from».now numbers.old numbers.new }
 {
     let to = at + from.len();
-    copy_numbers(&mut numbers[at..to], from);
+    numbers[at..to].copy_from_slice(from);
 }
 
 // The mark of an action: 0 where no record performs it, 1 where its effects contradict each other in no state, else 2.
+// Kept: a number, since the marks stand in the lent table of numbers, where `prepare` promises them (clause `told`, record Marks).
 fn mark_of(performed: bool, conflicts: bool) -> u32
     ensures { result ≡ mark_of performed conflicts }
 {
-    if performed {
-        if conflicts { 2 } else { 1 }
-    } else {
-        0
+    match (performed, conflicts) {
+        (false, _) => 0,
+        (true, false) => 1,
+        (true, true) => 2,
     }
 }
 
@@ -88,10 +77,8 @@ fn marks_of(
     let performed = leaves::performed(programs, v.p);
     let may = state::exclusion::may_conflict(formulas, effects, actions, &performed);
     let mut marks = [0u32; ACTIONS];
-    let mut a = 0;
-    while a < ACTIONS {
+    for a in 0..ACTIONS {
         marks[a] = mark_of(performed[a], may[a]);
-        a += 1;
     }
     marks
 }
@@ -134,7 +121,7 @@ fn spans_in(numbers: &[u32]) -> [u32; leaves::RECORDS]
     ensures { result ≡ spans_on numbers.now }
 {
     let mut spans = [0u32; leaves::RECORDS];
-    copy_numbers(&mut spans, &numbers[SPANS..DIGITS]);
+    spans.copy_from_slice(&numbers[SPANS..DIGITS]);
     spans
 }
 
@@ -144,7 +131,7 @@ fn marks_in(numbers: &[u32]) -> [u32; ACTIONS]
     ensures { result ≡ marks_on numbers.now }
 {
     let mut marks = [0u32; ACTIONS];
-    copy_numbers(&mut marks, &numbers[MARKS..MARKS_END]);
+    marks.copy_from_slice(&numbers[MARKS..MARKS_END]);
     marks
 }
 
@@ -154,14 +141,12 @@ fn fill_possible(fluents: &[u8], effects: &[u8], actions: &[u8], marks: &[u32], 
     ensures { ActionsFilled fluents.now effects.now actions.now marks.now most_actions
         table.old table.new }
 {
-    let mut a = 0;
-    while a < ACTIONS {
+    for a in 0..ACTIONS {
         let mark = marks[a];
         if mark != 0 {
             let set = possible::set_of(fluents, effects, actions, table, a, mark != 1);
             sets::put_set(table, enabled::POSSIBLE + a, set);
         }
-        a += 1;
     }
 }
 

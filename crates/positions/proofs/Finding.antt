@@ -1,9 +1,11 @@
 -- Why a search goes down by ways: the first transition that a way leads to is its record's own, or what the record's two ways lead to, further
 -- on; the record number falls, and positions stay below 2 ^ 64. Assumes nothing.
 use mathlib.Core.Path.{◌≡◌, refl, sym, ◌∙◌, ap, ap₂, subst}
-use mathlib.Core.Bool.{Bool, true, false, cond, false≢true}
+use mathlib.Core.Bool.{Bool, true, false, false≢true}
 use mathlib.Core.List.{List, [], ◌∷◌, Memᴰ}
-use mathlib.Core.Option.{Option, none, some}
+use Rattle.std.specs.Bool.{then_some}
+use Rattle.std.specs.Prelude.{Option, Some, None}
+use Rattle.std.specs.Option.{option_or, ForSome}
 use Prim.Native.Nat.{ℕ, zero, suc, ◌+◌, ◌^◌, ◌≤◌, ◌<◌}
 use native.Mathlib.Nat.{pow-le-pow_right, add-zero, zero-add}
 use native.Mathlib.Omega.{arith}
@@ -23,9 +25,8 @@ use Rattle.remaining.specs.Leaves.{RestTransition}
 use Rattle.remaining.proofs.Written.{picks_b}
 use Rattle.positions.specs.declared.Way.{Way}
 use Rattle.positions.specs.declared.Fork.{Fork}
-use Rattle.positions.specs.declared.Found.{Found}
 use Rattle.positions.specs.Spots.{Spot, from_spot}
-use Rattle.positions.specs.Found.{answer_of, first_of, further, or_else, Tables, digits_in, spots_in, Surveyed, way_first, Leads, Forks, Forked, CanFork, ForksParts, ForksValues, CanLook, CanGo}
+use Rattle.positions.specs.Found.{first_of, further, Tables, digits_in, spots_in, Surveyed, way_first, Leads, Forks, Forked, CanFork, ForksParts, ForksValues, CanLook, CanGo}
 use Rattle.positions.proofs.Levels.{digits_linked}
 use Rattle.positions.proofs.From.{found_below}
 use Rattle.positions.proofs.Parts.{empty}
@@ -92,19 +93,18 @@ pub parts_record : {r : Program} {running : Bool} {d e k : ℕ} {sets : List ℕ
 parts_record F = ap (λ (f : Fork). f.r) F.is
 
 -- what falls along ways: a way that does not go is the least
-unfoldable pub rank : Way → ℕ
-rank w = cond w.goes (suc w.i) 0
+unfoldable pub rank : Option Way → ℕ
+rank None = 0
+rank (Some w) = suc w.i
 
-pub rank_falls : (w x : Way) → w.goes ≡ true → (x.goes ≡ true → x.i < w.i) → rank x < rank w
+pub rank_falls : (i : ℕ) (x : Option Way) → ForSome x (λ (y : Way). y.i < i) → rank x < suc i
 unfolding rank
-rank_falls w x goes h = go x.goes refl
-  where
-    is : cond w.goes (suc w.i) 0 ≡ suc w.i
-    is = ap (λ (b : Bool). cond b (suc w.i) 0) goes
+rank_falls i None h = omega arith
+rank_falls i (Some y) h = omega (arith, h y refl)
 
-    go : (b : Bool) → x.goes ≡ b → cond b (suc x.i) 0 < cond w.goes (suc w.i) 0
-    go true q = omega (arith, h q, is)
-    go false q = omega (arith, is)
+pub rank_is : {x : Option Way} {w : Way} → x ≡ Some w → rank x ≡ suc w.i
+unfolding rank
+rank_is q = ap rank q
 
 -- where a way leads on
 pub look_lower : {t : Tables} {i e : ℕ} → CanLook t i e → {x : Way} → Leads t i x → (x.i < i) × (digits_in t x.i ≤ digits_in t i)
@@ -133,7 +133,7 @@ module _ {t : Tables} {w : Way} (C : CanGo t w) where
       record { look = look_on C.look L; bounded = omega (arith, L.bounded) }
 
   -- what it finds fits
-  pub way_fits : {n : ℕ} → first_of (from_spot w.k (spots_in C.look.world C.look.state t w.i w.e)) ≡ some n → w.base + n < 2 ^ 64
+  pub way_fits : {n : ℕ} → first_of (from_spot w.k (spots_in C.look.world C.look.state t w.i w.e)) ≡ Some n → w.base + n < 2 ^ 64
   way_fits q = let b = found_below w.k (rises C.look.surveyed w.i w.e C.look.small) q in omega (arith, b.1, C.bounded)
 
 -- a record with a transition of its own chooses no value
@@ -145,66 +145,46 @@ own_plain =
     (λ e. absurd (false≢true e)) (λ k e. absurd (false≢true e))
 
 -- the first of one alone, at position 0
-own_first : (x : RestTransition) (base k : ℕ) → further base (first_of (from_spot k ((0, x) ∷ []))) ≡ cond (eqb k 0) (some base) none
-own_first x base zero = ap some (add-zero base)
+own_first : (x : RestTransition) (base k : ℕ) → further base (first_of (from_spot k ((0, x) ∷ []))) ≡ then_some (eqb k 0) base
+own_first x base zero = ap Some (add-zero base)
 own_first x base (suc k) = rw (lt-ltb 0 (suc k) (omega arith), eqb-suc-zero k)
 
-module _ {W : World} {s : State} {t : Tables} (Q : Surveyed W s t) (w : Way) where
-  -- nowhere
-  pub finds_nowhere : w.goes ≡ false → way_first W s t w ≡ none
-  finds_nowhere q = ap (λ (b : Bool). cond {A = Option ℕ} b (further w.base (first_of (from_spot w.k (spots_in W s t w.i w.e)))) none) q
+module _ {W : World} {s : State} {t : Tables} (Q : Surveyed W s t) {x : Option Way} {w : Way} (is : x ≡ Some w) where
+  on : {o : Option ℕ} → first_of (from_spot w.k (spots_in W s t w.i w.e)) ≡ o → way_first W s t x ≡ further w.base o
+  on q = ap (way_first W s t) is ∙ ap (further w.base) q
 
-  module _ (goes : w.goes ≡ true) where
-    on : (o : Option ℕ) → first_of (from_spot w.k (spots_in W s t w.i w.e)) ≡ o → way_first W s t w ≡ further w.base o
-    on o q = ap (λ (b : Bool). cond {A = Option ℕ} b (further w.base (first_of (from_spot w.k (spots_in W s t w.i w.e)))) none) goes ∙ ap (further w.base) q
+  -- at a record without a transition
+  pub finds_idle : w.i < t.many → w.e < environments → member (set_at t.sets (772 + w.i)) w.e ≡ false → way_first W s t x ≡ None
+  finds_idle l h q =
+      on (ap (λ (l : List Spot). first_of (from_spot w.k l)) (empty (spots_in W s t w.i w.e) (not-false _ (sym (enabled_is Q w.i w.e l h) ∙ q))))
 
-    -- at a record without a transition
-    pub finds_idle : w.i < t.many → w.e < environments → member (set_at t.sets (772 + w.i)) w.e ≡ false → way_first W s t w ≡ none
-    finds_idle l h q =
-        on none (ap (λ (l : List Spot). first_of (from_spot w.k l)) (empty (spots_in W s t w.i w.e) (not-false _ (sym (enabled_is Q w.i w.e l h) ∙ q))))
+  -- at its own
+  pub finds_own :
+      w.i < t.many → w.e < environments → member (set_at t.sets (772 + w.i)) w.e ≡ true → has_own (t.records w.i).kind ≡ true
+      → way_first W s t x ≡ then_some (eqb w.k 0) w.base
+  finds_own l h q own =
+      on (ap (λ (l : List Spot). first_of (from_spot w.k l))
+      (spots_own Q w.i w.e h own (own_plain (t.records w.i).kind own) (not-true _ (sym (enabled_is Q w.i w.e l h) ∙ q))))
+      ∙ own_first _ w.base w.k
 
-    -- at its own
-    pub finds_own :
-        w.i < t.many → w.e < environments → member (set_at t.sets (772 + w.i)) w.e ≡ true → has_own (t.records w.i).kind ≡ true
-        → way_first W s t w ≡ cond (eqb w.k 0) (some w.base) none
-    finds_own l h q own =
-        on _ (ap (λ (l : List Spot). first_of (from_spot w.k l))
-        (spots_own Q w.i w.e h own (own_plain (t.records w.i).kind own) (not-true _ (sym (enabled_is Q w.i w.e l h) ∙ q))))
-        ∙ own_first _ w.base w.k
+  -- by the one way, by the other, or by none
+  module _ {f : Fork} (F : Forks W s t w.i w.e w.k f) where
+    pub by_first : {n : ℕ} → way_first W s t f.first ≡ Some n → first_of (from_spot w.k (spots_in W s t w.i w.e)) ≡ Some n
+    by_first q = F.found ∙ ap (λ (o : Option ℕ). option_or o (way_first W s t f.second)) q
 
-    -- by the one way, by the other, or by none
-    module _ {f : Fork} (F : Forks W s t w.i w.e w.k f) where
-      pub by_first : {n : ℕ} → way_first W s t f.first ≡ some n → first_of (from_spot w.k (spots_in W s t w.i w.e)) ≡ some n
-      by_first q = F.found ∙ ap (λ (o : Option ℕ). or_else o (way_first W s t f.second)) q
+    pub by_second : {o : Option ℕ} → way_first W s t f.first ≡ None → way_first W s t f.second ≡ o → first_of (from_spot w.k (spots_in W s t w.i w.e)) ≡ o
+    by_second q p = F.found ∙ ap₂ option_or q p
 
-      pub by_second : {o : Option ℕ} → way_first W s t f.first ≡ none → way_first W s t f.second ≡ o → first_of (from_spot w.k (spots_in W s t w.i w.e)) ≡ o
-      by_second q p = F.found ∙ ap₂ or_else q p
+    pub finds_first : {n : ℕ} → way_first W s t f.first ≡ Some n → way_first W s t x ≡ Some (w.base + n)
+    finds_first q = on (by_first q)
 
-      pub finds_first : {n : ℕ} → way_first W s t f.first ≡ some n → way_first W s t w ≡ some (w.base + n)
-      finds_first {n} q = on (some n) (by_first q)
-
-      pub finds_second : {n : ℕ} → way_first W s t f.first ≡ none → way_first W s t f.second ≡ some n → way_first W s t w ≡ some (w.base + n)
-      finds_second {n} q p = on (some n) (by_second q p)
-
-      pub finds_none : way_first W s t f.first ≡ none → way_first W s t f.second ≡ none → way_first W s t w ≡ none
-      finds_none q p = on none (by_second q p)
-
-      -- either, as one answer
-      pub finds_other : {o : Option ℕ} → way_first W s t f.first ≡ none → way_first W s t f.second ≡ o → way_first W s t w ≡ further w.base o
-      finds_other {o = some n} q p = finds_second q p
-      finds_other {o = none} q p = finds_none q p
-
--- an answer that is there, or not
-pub answer_there : (r : Found) → r.there ≡ true → answer_of r ≡ some r.at
-answer_there r q = ap (λ (b : Bool). cond {A = Option ℕ} b (some r.at) none) q
-
-pub answer_none : (r : Found) → r.there ≡ false → answer_of r ≡ none
-answer_none r q = ap (λ (b : Bool). cond {A = Option ℕ} b (some r.at) none) q
+    pub finds_other : {o : Option ℕ} → way_first W s t f.first ≡ None → way_first W s t f.second ≡ o → way_first W s t x ≡ further w.base o
+    finds_other q p = on (by_second q p)
 
 -- a way to a record itself
-pub can_start : {t : Tables} {i e : ℕ} → CanLook t i e → (k : ℕ) → CanGo t (record { goes = true; i = i; e = e; k = k; base = 0 })
+pub can_start : {t : Tables} {i e : ℕ} → CanLook t i e → (k : ℕ) → CanGo t (record { i = i; e = e; k = k; base = 0 })
 can_start {t} {i} C k = let l = C.low in record { look = C; bounded = let few : 16 ^ digits_in t i ≤ 16 ^ 16 = pow-le-pow_right (omega arith) l in omega arith }
 
 pub further_none : (o : Option ℕ) → o ≡ further 0 o
-further_none none = refl
-further_none (some n) = ap some (sym (zero-add n))
+further_none None = refl
+further_none (Some n) = ap Some (sym (zero-add n))

@@ -3,8 +3,10 @@
 use mathlib.Core.Path.{◌≡◌, refl, sym, ◌∙◌, ap, ap₂, subst, subst₂, fun_ext}
 use mathlib.Core.Bool.{Bool, true, false, not, cond, ◌&&◌, ◌||◌, false≢true}
 use mathlib.Core.List.{List, [], ◌∷◌, ◌++◌, map, Memᴰ}
-use mathlib.Core.Logic.{◌⊎◌, inl, inr}
-use mathlib.Core.Option.{Option, none}
+use mathlib.Core.Logic.{◌⊎◌, inl, inr, ⊎_elim}
+use Rattle.std.specs.Bool.{then_some}
+use Rattle.std.specs.Prelude.{Option, Some, None}
+use Rattle.std.specs.Option.{option_or, is_some, ForSome}
 use Prim.Native.Nat.{ℕ, suc, ◌+◌, ◌-◌, ◌*◌, ◌^◌, ◌≤◌, ◌<◌, max}
 use native.Mathlib.Nat.{pow-succ', pow-le-pow_right, one-le-pow}
 use native.Mathlib.Omega.{arith}
@@ -30,12 +32,25 @@ use Rattle.remaining.specs.Leaves.{RestTransition, on_rest, wrap_a, wrap_b, own_
 use Rattle.remaining.proofs.Written.{read_kind, read_a, read_b, read_condition, read_pick, read_chosen, written_at, written_lower}
 use Rattle.positions.specs.Spots.{digits_by, Spot, moved, apart, spots_with, spots_picked, spots_of, from_spot}
 use Rattle.positions.specs.Rising.{Rising, Spread}
-use Rattle.positions.specs.Found.{first_of, further, or_else, Tables, digits_in, spots_in, Surveyed, way_first, Leads, Forks, parted, gap_of, fork_parts}
+use Rattle.positions.specs.Found.{first_of, Tables, digits_in, spots_in, Surveyed, way_first, Leads, Forks, parted, gap_of, fork_parts}
 use Rattle.positions.specs.declared.Fork.{Fork}
+use Rattle.positions.specs.declared.Way.{Way}
 use Rattle.positions.proofs.Listed.{spots_parts, spots_plain, spots_pick, spots_are, none_bare}
 use Rattle.positions.proofs.Rising.{rising_wider, spots_rise}
 use Rattle.positions.proofs.Levels.{digits_linked}
 use Rattle.positions.proofs.Parts.{parts_found, parts_laid}
+
+-- no value is not one, and one is itself
+pub none_some : {A : Type 0} {y : A} → None ≡ Some y → ⊥
+none_some q = absurd (false≢true (ap is_some q))
+
+pub some_is : {A : Type 0} {x y : A} → Some x ≡ Some y → x ≡ y
+some_is q = cc
+
+-- a value that is there, where a test holds
+pub of_there : {A : Type 0} {x y : A} (b : Bool) → then_some b x ≡ Some y → (b ≡ true) × (x ≡ y)
+of_there true q = (refl, cc)
+of_there false q = absurd (none_some q)
 
 -- parts that stand apart do so by something
 apart_some : (d : ℕ) → apart d ≡ 0 → ⊥
@@ -285,17 +300,31 @@ module _ {W : World} {s : State} {t : Tables} (Q : Surveyed W s t) where
         abbrev f : Fork
         f = fork_parts (t.records i) h t.running (digits_in t i) e k fin en
 
+        abbrev to_a : Way
+        to_a = record { i = r.a; e = e; k = k; base = 0 }
+
+        abbrev to_b : (by : ℕ) → Way
+        to_b by = record { i = r.b; e = e; k = k - by; base = by }
+
+        abbrev by_sets : ℕ
+        by_sets = gap_of r.kind (uses_b r.kind fin h (not en)) (digits_in t i)
+
+        goes_there : (b : Bool) (w : Way) → cond b (way_first W s t (Some w)) None ≡ way_first W s t (then_some b w)
+        goes_there true w = refl
+        goes_there false w = refl
+
         by_ways : (x u : Bool) → Option ℕ
         by_ways x u =
             let by = gap_of r.kind u (digits_in t i) in
-            or_else (cond (x && (eqb by 0 || ltb k by)) (further 0 (first_of (from_spot k As))) none) (cond u (further by (first_of (from_spot (k - by) Bs))) none)
+            option_or (cond (x && (eqb by 0 || ltb k by)) (way_first W s t (Some to_a)) None) (cond u (way_first W s t (Some (to_b by))) None)
 
-        found : first_of (from_spot k (spots_in W s t i e)) ≡ or_else (way_first W s t f.first) (way_first W s t f.second)
+        found : first_of (from_spot k (spots_in W s t i e)) ≡ option_or (way_first W s t f.first) (way_first W s t f.second)
         unfolding by_ways
         found =
             ap (λ (l : List Spot). first_of (from_spot k l)) shape
             ∙ parts_found ua ub (not (is_none As)) (gap_of r.kind ub (digits_in t i)) k FA FB As Bs refl below
             ∙ ap₂ by_ways (sym goes_same) (sym ub_same)
+            ∙ ap₂ option_or (goes_there _ to_a) (goes_there _ (to_b by_sets))
 
         Lies : (x u : Bool) → RestTransition → Type 0
         Lies x u z =
@@ -308,28 +337,33 @@ module _ {W : World} {s : State} {t : Tables} (Q : Surveyed W s t) where
         unfolding R Lies
         parts_fork = record {
           found = found;
-          laid = λ x m. subst₂ (λ (b u : Bool). Lies b u x) (sym goes_same) (sym ub_same)
+          laid = λ x m. ⊎_elim
+              (λ (g, y, l, q). inl (to_a, ap (λ (b : Bool). then_some b to_a) g, y, l, q))
+              (λ (g, u, y, l, q). inr (ap (λ (b : Bool). then_some b to_a) g, to_b by_sets, ap (λ (b : Bool). then_some b (to_b by_sets)) u, y, l, q))
+              (subst₂ (λ (b u : Bool). Lies b u x) (sym goes_same) (sym ub_same)
               (parts_laid ua ub (not (is_none As)) (gap_of r.kind ub (digits_in t i)) k FA FB As Bs refl below
-              (one_goes fa h t.running (is_none As) (digits_in t i) r.kind) x (subst (Memᴰ (k, x)) shape m));
+              (one_goes fa h t.running (is_none As) (digits_in t i) r.kind) x (subst (Memᴰ (k, x)) shape m)));
         }
 
         -- where they lead
-        pub parts_first : f.first.goes ≡ true → Leads t i f.first
-        parts_first q =
-            let u : ua ≡ true = and_left ua en (and_left (ua && en) _ q) in
+        pub parts_first : ForSome f.first (Leads t i)
+        parts_first w q =
+            let g = of_there _ q in
+            let u : ua ≡ true = and_left ua en (and_left (ua && en) _ g.0) in
             let link = link_a r (uses_a_lem r.kind h t.running (subst T (sym u) tt)) in
-            record { named = link; small = small; bounded = omega (arith, grown (digits_linked t.records Q.prepared.endable (digits_in t) S i r.a link)) }
+            subst (Leads t i) g.1 (record { named = link; small = small; bounded = omega (arith, grown (digits_linked t.records Q.prepared.endable (digits_in t) S i r.a link)) })
 
-        pub parts_second : f.second.goes ≡ true → Leads t i f.second
-        parts_second q =
-            let u : ub ≡ true = sym ub_same ∙ q in
+        pub parts_second : ForSome f.second (Leads t i)
+        parts_second w q =
+            let g = of_there _ q in
+            let u : ub ≡ true = sym ub_same ∙ g.0 in
             let link = link_b r (uses_b_lem r.kind fa h (is_none As) (subst T (sym u) tt)) in
-            record {
+            subst (Leads t i) g.1 (record {
               named = link;
               small = small;
-              bounded = subst (λ (b : Bool). gap_of r.kind b (digits_in t i) + 16 ^ digits_in t r.b ≤ 16 ^ digits_in t i) (sym q)
+              bounded = subst (λ (b : Bool). gap_of r.kind b (digits_in t i) + 16 ^ digits_in t r.b ≤ 16 ^ digits_in t i) (sym g.0)
                   (room link (parted r.kind) refl u);
-            }
+            })
           where
             room : Memᴰ r.b (links r) → (b : Bool) → parted r.kind ≡ b → ub ≡ true → cond b (apart (digits_in t i)) 0 + 16 ^ digits_in t r.b ≤ 16 ^ digits_in t i
             room link true z u =

@@ -5,7 +5,8 @@ use mathlib.Core.Bool.{Bool, true, false}
 use mathlib.Core.List.Memᴰ
 use mathlib.Core.List.{List, [], ◌∷◌, ◌++◌, map, Memᴰ}
 use mathlib.Core.Logic.{◌⊎◌, inl, inr, ⊎_elim}
-use mathlib.Core.Option.{some}
+use Rattle.std.specs.Prelude.{Some}
+use Rattle.std.specs.Option.{option_or}
 use Prim.Native.Nat.{ℕ, suc, ◌-◌, ◌≤◌, ◌<◌}
 use native.Mathlib.Omega.{arith}
 use borrow.Author.Tests.{ltb-true, ltb-false, lt-ltb, le-ltb}
@@ -14,7 +15,7 @@ use Rattle.golog.specs.Transitions.{is_none}
 use Rattle.remaining.specs.Rest.{Rest}
 use Rattle.positions.specs.Spots.{Spot, moved, from_spot}
 use Rattle.positions.specs.Rising.{Rising, nobody, then}
-use Rattle.positions.specs.Found.{first_of, further, or_else}
+use Rattle.positions.specs.Found.{first_of, further}
 
 pub lt_or_ge : (n k : ℕ) → (n < k) ⊎ (k ≤ n)
 lt_or_ge n k = go (ltb n k) refl
@@ -99,16 +100,16 @@ pub found_moved : (k by : ℕ) (f : Rest → Rest) (xs : List Spot) → first_of
 found_moved k by f xs = ap first_of (from_moved k by f xs) ∙ first_moved by f (from_spot (k - by) xs)
 
 -- the first of two lists, one after the other
-pub found_append : (k : ℕ) (xs ys : List Spot) → first_of (from_spot k (xs ++ ys)) ≡ or_else (first_of (from_spot k xs)) (first_of (from_spot k ys))
+pub found_append : (k : ℕ) (xs ys : List Spot) → first_of (from_spot k (xs ++ ys)) ≡ option_or (first_of (from_spot k xs)) (first_of (from_spot k ys))
 found_append k [] ys = refl
 found_append k (x ∷ xs) ys =
     ⊎_elim
     (λ (l : x.0 < k).
     ap first_of (from_below k x (xs ++ ys) l)
     ∙ found_append k xs ys
-    ∙ ap (λ (l : List Spot). or_else (first_of l) (first_of (from_spot k ys))) (sym (from_below k x xs l)))
+    ∙ ap (λ (l : List Spot). option_or (first_of l) (first_of (from_spot k ys))) (sym (from_below k x xs l)))
     (λ (l : k ≤ x.0).
-    ap first_of (from_above k x (xs ++ ys) l) ∙ ap (λ (l : List Spot). or_else (first_of l) (first_of (from_spot k ys))) (sym (from_above k x xs l)))
+    ap first_of (from_above k x (xs ++ ys) l) ∙ ap (λ (l : List Spot). option_or (first_of l) (first_of (from_spot k ys))) (sym (from_above k x xs l)))
     (lt_or_ge x.0 k)
 
 -- none of those below k
@@ -117,13 +118,13 @@ found_none k nobody l = refl
 found_none k (then {x = x} {xs = xs} a b r) l = from_below k x xs (omega arith) ∙ found_none k r l
 
 -- it stands below what all stand below, and at k or later
-pub found_below : {lo hi n : ℕ} {xs : List Spot} (k : ℕ) → Rising lo hi xs → first_of (from_spot k xs) ≡ some n → (k ≤ n) × (n < hi)
+pub found_below : {lo hi n : ℕ} {xs : List Spot} (k : ℕ) → Rising lo hi xs → first_of (from_spot k xs) ≡ Some n → (k ≤ n) × (n < hi)
 found_below {n = n} k nobody e = let z : ◌≡◌ {A = ℕ} 0 1 = cc in absurd (omega arith)
 found_below {n = n} k (then {x = x} {xs = xs} a b r) e =
     ⊎_elim
     (λ (l : x.0 < k). found_below k r (ap first_of (sym (from_below k x xs l)) ∙ e))
     (λ (l : k ≤ x.0).
-    let same : some x.0 ≡ some n = ap first_of (sym (from_above k x xs l)) ∙ e in
+    let same : Some x.0 ≡ Some n = ap first_of (sym (from_above k x xs l)) ∙ e in
     let at : x.0 ≡ n = cc in
     (omega arith, omega arith))
     (lt_or_ge x.0 k)

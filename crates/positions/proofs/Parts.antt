@@ -4,7 +4,8 @@ use mathlib.Core.Path.{◌≡◌, refl, sym, ◌∙◌, ap, ap₂}
 use mathlib.Core.Bool.{Bool, true, false, not, cond, ◌&&◌, ◌||◌, false≢true}
 use mathlib.Core.List.{List, [], ◌∷◌, ◌++◌, map, Memᴰ}
 use mathlib.Core.Logic.{◌⊎◌, inl, inr, ⊎_elim}
-use mathlib.Core.Option.{none}
+use Rattle.std.specs.Prelude.{None}
+use Rattle.std.specs.Option.{option_or}
 use Prim.Native.Nat.{ℕ, ◌+◌, ◌-◌, ◌≤◌, ◌<◌}
 use native.Mathlib.Nat.{sub-zero}
 use native.Mathlib.Omega.{arith}
@@ -17,7 +18,7 @@ use Rattle.remaining.specs.Rest.{Rest}
 use Rattle.remaining.specs.Leaves.{RestTransition, on_rest}
 use Rattle.positions.specs.Spots.{Spot, moved, from_spot}
 use Rattle.positions.specs.Rising.{Rising, nobody, then}
-use Rattle.positions.specs.Found.{first_of, further, or_else}
+use Rattle.positions.specs.Found.{first_of, further}
 use Rattle.positions.proofs.From.{found_moved, found_append, found_none}
 
 -- each stands in bounds
@@ -58,37 +59,37 @@ module _ (ua ub en : Bool) (by k : ℕ) (f g : Rest → Rest) (As Bs : List Spot
   goes = (ua && en) && (eqb by 0 || ltb k by)
 
   -- where it does not, it has none from k on
-  left_out : (en && (eqb by 0 || ltb k by)) ≡ false → first_of (from_spot k As) ≡ none
+  left_out : (en && (eqb by 0 || ltb k by)) ≡ false → first_of (from_spot k As) ≡ None
   left_out q = by_enabled en refl
     where
-      beyond : (eqb by 0 || ltb k by) ≡ false → first_of (from_spot k As) ≡ none
+      beyond : (eqb by 0 || ltb k by) ≡ false → first_of (from_spot k As) ≡ None
       beyond n =
           let o = or_neither (eqb by 0) (ltb k by) n in
           ⊎_elim (λ (z : by ≡ 0). absurd (eqb-false by 0 o.0 z)) (λ (r : Rising 0 by As). ap first_of (found_none k r (ltb-false k by o.1))) below
 
-      by_enabled : (b : Bool) → en ≡ b → first_of (from_spot k As) ≡ none
+      by_enabled : (b : Bool) → en ≡ b → first_of (from_spot k As) ≡ None
       by_enabled true z = beyond (sym (ap (λ (b : Bool). b && (eqb by 0 || ltb k by)) z) ∙ q)
       by_enabled false z = ap (λ (l : List Spot). first_of (from_spot k l)) (empty As (not-false (is_none As) (sym is-enabled ∙ z)))
 
-  first_found : (u : Bool) → first_of (from_spot k (map (moved 0 f) (only u As))) ≡ cond ((u && en) && (eqb by 0 || ltb k by)) (further 0 (first_of (from_spot k As))) none
+  first_found : (u : Bool) → first_of (from_spot k (map (moved 0 f) (only u As))) ≡ cond ((u && en) && (eqb by 0 || ltb k by)) (further 0 (first_of (from_spot k As))) None
   first_found false = refl
   first_found true =
       found_moved k 0 f As
       ∙ ap (λ (n : ℕ). further 0 (first_of (from_spot n As))) (sub-zero k)
       ∙ go (en && (eqb by 0 || ltb k by)) refl
     where
-      go : (b : Bool) → (en && (eqb by 0 || ltb k by)) ≡ b → further 0 (first_of (from_spot k As)) ≡ cond b (further 0 (first_of (from_spot k As))) none
+      go : (b : Bool) → (en && (eqb by 0 || ltb k by)) ≡ b → further 0 (first_of (from_spot k As)) ≡ cond b (further 0 (first_of (from_spot k As))) None
       go true q = refl
       go false q = ap (further 0) (left_out q)
 
-  second_found : (u : Bool) → first_of (from_spot k (map (moved by g) (only u Bs))) ≡ cond u (further by (first_of (from_spot (k - by) Bs))) none
+  second_found : (u : Bool) → first_of (from_spot k (map (moved by g) (only u Bs))) ≡ cond u (further by (first_of (from_spot (k - by) Bs))) None
   second_found true = found_moved k by g Bs
   second_found false = refl
 
   pub parts_found :
       first_of (from_spot k (map (moved 0 f) (only ua As) ++ map (moved by g) (only ub Bs)))
-      ≡ or_else (cond ((ua && en) && (eqb by 0 || ltb k by)) (further 0 (first_of (from_spot k As))) none) (cond ub (further by (first_of (from_spot (k - by) Bs))) none)
-  parts_found = found_append k (map (moved 0 f) (only ua As)) (map (moved by g) (only ub Bs)) ∙ ap₂ or_else (first_found ua) (second_found ub)
+      ≡ option_or (cond ((ua && en) && (eqb by 0 || ltb k by)) (further 0 (first_of (from_spot k As))) None) (cond ub (further by (first_of (from_spot (k - by) Bs))) None)
+  parts_found = found_append k (map (moved 0 f) (only ua As)) (map (moved by g) (only ub Bs)) ∙ ap₂ option_or (first_found ua) (second_found ub)
 
   pub parts_laid :
       (ub ≡ true → by ≡ 0 → (ua && en) ≡ false) → (x : RestTransition) → Memᴰ (k, x) (map (moved 0 f) (only ua As) ++ map (moved by g) (only ub Bs))

@@ -1,7 +1,7 @@
 -- Why laying out goes down by ways: the transition at k is the record's own, or the one that a way leads to, in the construct of the part. Parts
 -- are less high, so there is room for that construct. Assumes nothing.
 use mathlib.Core.Path.{◌≡◌, refl, sym, ◌∙◌, ap, ap₂, subst}
-use mathlib.Core.Bool.{true, false, false≢true}
+use mathlib.Core.Bool.{true, false}
 use mathlib.Core.List.Memᴰ
 use mathlib.Core.List.{List, Memᴰ}
 use mathlib.Core.Logic.{⊎_elim}
@@ -9,6 +9,8 @@ use Prim.Native.Nat.{ℕ, suc, ◌+◌, ◌*◌, ◌^◌, ◌≤◌, ◌<◌}
 use native.Mathlib.Omega.{arith}
 use lib.Dec.{T, eqb}
 use lib.ListN.{get_or}
+use Rattle.std.specs.Prelude.{Some, None}
+use Rattle.std.specs.Option.{is_some, IsSome}
 use Rattle.records.specs.declared.Program.{Program}
 use Rattle.records.specs.Records.{TwoBytes}
 use Rattle.records.specs.Placeholders.{environments, reading}
@@ -37,7 +39,7 @@ use Rattle.positions.specs.Read.{Readable}
 use Rattle.positions.specs.Placed.{CanPlace, Placed, LaidOwn, WrappedLaid}
 use Rattle.positions.proofs.Listed.{spots_are}
 use Rattle.positions.proofs.Parts.{some_member}
-use Rattle.positions.proofs.Forking.{spots_own}
+use Rattle.positions.proofs.Forking.{none_some, some_is, spots_own}
 use Rattle.positions.proofs.Finding.{look_lower, look_on, own_plain}
 
 -- how many values are listed matters only where a value is chosen
@@ -125,22 +127,23 @@ module _ {t : Tables} {w : List ℕ} {i e to k : ℕ} (C : CanPlace t w i e to k
       forked = F.forked (ap (λ (r : Program). has_own r.kind) F.record_is ∙ sym (ap has_own same_kind) ∙ other)
 
       -- the one way, where it goes
-      module _ (goes : f.first.goes ≡ true) where
-        pub first_leads : Leads t i f.first
-        first_leads = forked.first goes
+      module _ {y : Way} (goes : f.first ≡ Some y) where
+        pub first_leads : Leads t i y
+        first_leads = forked.first y goes
 
         first_there : {W : World} {s : State} → Surveyed W s t → (x : RestTransition) → Memᴰ (k, x) (spots_in W s t i e)
-            → (y : RestTransition) × Memᴰ (f.first.k, y) (spots_in W s t f.first.i f.first.e) × (x ≡ on_rest (wrap_a (tag_a q.kind) (sibling_a q (reading i e))) y)
+            → (z : RestTransition) × Memᴰ (y.k, z) (spots_in W s t y.i y.e) × (x ≡ on_rest (wrap_a (tag_a q.kind) (sibling_a q (reading i e))) z)
         first_there {W} {s} Q x m =
-            ⊎_elim (λ (g, y, l, z). (y, l, z ∙ ap (λ (q : Program). on_rest (wrap_a (tag_a q.kind) (sibling_a q (reading i e))) y) (sym is)))
-            (λ z. absurd (false≢true (sym z.0 ∙ goes))) ((forked.forks W s Q).laid x m)
+            ⊎_elim (λ (u, g, z, l, same). subst (λ (u : Way). (z : RestTransition) × Memᴰ (u.k, z) (spots_in W s t u.i u.e) × (x ≡ on_rest (wrap_a (tag_a q.kind) (sibling_a q (reading i e))) z)) (some_is (sym g ∙ goes))
+            (z, l, same ∙ ap (λ (q : Program). on_rest (wrap_a (tag_a q.kind) (sibling_a q (reading i e))) z) (sym is)))
+            (λ z. absurd (none_some (sym z.0 ∙ goes))) ((forked.forks W s Q).laid x m)
 
-        pub can_first : (n : ℕ) → n ≤ 3 → CanPlace t w f.first.i f.first.e (to + n) f.first.k
+        pub can_first : (n : ℕ) → n ≤ 3 → CanPlace t w y.i y.e (to + n) y.k
         can_first n few = let z = first_there C.look.surveyed C.move C.there in can_way n (omega arith) first_leads z.0 z.1
 
         -- what a call with it answers
-        module _ {w₁ : List ℕ} {at entry size : ℕ} (B : (W : World) (s : State) → Surveyed W s t → (y : RestTransition)
-            → Memᴰ (f.first.k, y) (spots_in W s t f.first.i f.first.e) → Placed y at w w₁ entry size) where
+        module _ {w₁ : List ℕ} {at entry size : ℕ} (B : (W : World) (s : State) → Surveyed W s t → (v : RestTransition)
+            → Memᴰ (y.k, v) (spots_in W s t y.i y.e) → Placed v at w w₁ entry size) where
           pub first_room : Room w₁ to (size + 2)
           first_room = let z = first_there C.look.surveyed C.move C.there in way_room first_leads z.1 (B _ _ C.look.surveyed z.0 z.1)
 
@@ -153,47 +156,57 @@ module _ {t : Tables} {w : List ℕ} {i e to k : ℕ} (C : CanPlace t w i e to k
               (z.2 ∙ ap (λ (m : ℕ). on_rest (wrap_a (tag_a q.kind) (sibling_a q m)) z.0) (sym ej))
 
         -- the same, where the answer is one value
-        module _ {w₁ : List ℕ} {at : ℕ} (z : Laid) (B : (W : World) (s : State) → Surveyed W s t → (y : RestTransition)
-            → Memᴰ (f.first.k, y) (spots_in W s t f.first.i f.first.e) → Placed y at w w₁ z.entry z.size) where
-          pub first_laid : {w' : List ℕ} {n tag j : ℕ} {y : Laid} → tag ≡ tag_a q.kind → n ≡ past (eqb tag 0) 3 → at ≡ to + n → j ≡ reading i e
-              → WrappedLaid (wrap_a (tag_a q.kind) (sibling_a q j)) (to + past (eqb (tag_a q.kind) 0) 3) to w₁ w' z y
-              → (W : World) (s : State) → Surveyed W s t → (x : RestTransition) → Memᴰ (k, x) (spots_in W s t i e) → Placed x to w w' y.entry y.size
-          first_laid {w'} {y = y} et en ea ej X W s Q x m =
-              subst (λ (c : ℕ). Placed x to w w' c y.size) (sym X.entry_is) (first_placed B et en ea ej X.wrapped W s Q x m)
+        module _ {w₁ : List ℕ} {at : ℕ} (z : Laid) (B : (W : World) (s : State) → Surveyed W s t → (v : RestTransition)
+            → Memᴰ (y.k, v) (spots_in W s t y.i y.e) → Placed v at w w₁ z.entry z.size) where
+          pub first_laid : {w' : List ℕ} {n tag j : ℕ} {p : Laid} → tag ≡ tag_a q.kind → n ≡ past (eqb tag 0) 3 → at ≡ to + n → j ≡ reading i e
+              → WrappedLaid (wrap_a (tag_a q.kind) (sibling_a q j)) (to + past (eqb (tag_a q.kind) 0) 3) to w₁ w' z p
+              → (W : World) (s : State) → Surveyed W s t → (x : RestTransition) → Memᴰ (k, x) (spots_in W s t i e) → Placed x to w w' p.entry p.size
+          first_laid {w'} {p = p} et en ea ej X W s Q x m =
+              subst (λ (c : ℕ). Placed x to w w' c p.size) (sym X.entry_is) (first_placed B et en ea ej X.wrapped W s Q x m)
 
       -- the other, where it does not
-      module _ (stays : f.first.goes ≡ false) where
+      module _ (stays : f.first ≡ None) where
         second_there : {W : World} {s : State} → Surveyed W s t → (x : RestTransition) → Memᴰ (k, x) (spots_in W s t i e)
-            → (f.second.goes ≡ true) × (y : RestTransition) × Memᴰ (f.second.k, y) (spots_in W s t f.second.i f.second.e) × (x ≡ on_rest (wrap_b (tag_b q.kind) q.a) y)
+            → (y : Way) × (f.second ≡ Some y) × (z : RestTransition) × Memᴰ (y.k, z) (spots_in W s t y.i y.e) × (x ≡ on_rest (wrap_b (tag_b q.kind) q.a) z)
         second_there {W} {s} Q x m =
-            ⊎_elim (λ z. absurd (false≢true (sym stays ∙ z.0)))
-            (λ (g, h, y, l, z). (h, y, l, z ∙ ap (λ (q : Program). on_rest (wrap_b (tag_b q.kind) q.a) y) (sym is))) ((forked.forks W s Q).laid x m)
+            ⊎_elim (λ z. absurd (none_some (sym stays ∙ z.1)))
+            (λ (g, y, h, z, l, same). (y, h, z, l, same ∙ ap (λ (q : Program). on_rest (wrap_b (tag_b q.kind) q.a) z) (sym is))) ((forked.forks W s Q).laid x m)
 
-        pub second_leads : Leads t i f.second
-        second_leads = forked.second (second_there C.look.surveyed C.move C.there).0
+        pub second_goes : IsSome f.second
+        second_goes = let z = second_there C.look.surveyed C.move C.there in ap is_some z.1
 
-        pub can_second : (n : ℕ) → n ≤ 6 → CanPlace t w f.second.i f.second.e (to + n) f.second.k
-        can_second n few = let z = second_there C.look.surveyed C.move C.there in can_way n few second_leads z.1 z.2
+        module _ {y : Way} (goes : f.second ≡ Some y) where
+          pub second_leads : Leads t i y
+          second_leads = forked.second y goes
 
-        module _ {w₁ : List ℕ} {at entry size : ℕ} (B : (W : World) (s : State) → Surveyed W s t → (y : RestTransition)
-            → Memᴰ (f.second.k, y) (spots_in W s t f.second.i f.second.e) → Placed y at w w₁ entry size) where
-          pub second_room : Room w₁ to (size + 2)
-          second_room = let z = second_there C.look.surveyed C.move C.there in way_room second_leads z.2 (B _ _ C.look.surveyed z.1 z.2)
-
-          pub second_placed : {w' : List ℕ} {n tag size' : ℕ} → tag ≡ tag_b q.kind → n ≡ past (eqb tag 0) 6 → at ≡ to + n
-              → Wrapped (wrap_b (tag_b q.kind) q.a) (to + past (eqb (tag_b q.kind) 0) 6) to size size' w₁ w'
-              → (W : World) (s : State) → Surveyed W s t → (x : RestTransition) → Memᴰ (k, x) (spots_in W s t i e) → Placed x to w w' entry size'
-          second_placed et en ea X W s Q x m =
+          second_at : {W : World} {s : State} → Surveyed W s t → (x : RestTransition) → Memᴰ (k, x) (spots_in W s t i e)
+              → (z : RestTransition) × Memᴰ (y.k, z) (spots_in W s t y.i y.e) × (x ≡ on_rest (wrap_b (tag_b q.kind) q.a) z)
+          second_at {W} {s} Q x m =
               let z = second_there Q x m in
-              wrap_placed _ z.1 (B W s Q z.1 z.2) X (ea ∙ ap (λ (n : ℕ). to + n) (en ∙ ap (λ (g : ℕ). past (eqb g 0) 6) et)) (omega arith) z.3
+              subst (λ (u : Way). (z : RestTransition) × Memᴰ (u.k, z) (spots_in W s t u.i u.e) × (x ≡ on_rest (wrap_b (tag_b q.kind) q.a) z)) (some_is (sym z.1 ∙ goes)) (z.2, z.3, z.4)
 
-        module _ {w₁ : List ℕ} {at : ℕ} (z : Laid) (B : (W : World) (s : State) → Surveyed W s t → (y : RestTransition)
-            → Memᴰ (f.second.k, y) (spots_in W s t f.second.i f.second.e) → Placed y at w w₁ z.entry z.size) where
-          pub second_laid : {w' : List ℕ} {n tag : ℕ} {y : Laid} → tag ≡ tag_b q.kind → n ≡ past (eqb tag 0) 6 → at ≡ to + n
-              → WrappedLaid (wrap_b (tag_b q.kind) q.a) (to + past (eqb (tag_b q.kind) 0) 6) to w₁ w' z y
-              → (W : World) (s : State) → Surveyed W s t → (x : RestTransition) → Memᴰ (k, x) (spots_in W s t i e) → Placed x to w w' y.entry y.size
-          second_laid {w'} {y = y} et en ea X W s Q x m =
-              subst (λ (c : ℕ). Placed x to w w' c y.size) (sym X.entry_is) (second_placed B et en ea X.wrapped W s Q x m)
+          pub can_second : (n : ℕ) → n ≤ 6 → CanPlace t w y.i y.e (to + n) y.k
+          can_second n few = let z = second_at C.look.surveyed C.move C.there in can_way n few second_leads z.0 z.1
+
+          module _ {w₁ : List ℕ} {at entry size : ℕ} (B : (W : World) (s : State) → Surveyed W s t → (v : RestTransition)
+              → Memᴰ (y.k, v) (spots_in W s t y.i y.e) → Placed v at w w₁ entry size) where
+            pub second_room : Room w₁ to (size + 2)
+            second_room = let z = second_at C.look.surveyed C.move C.there in way_room second_leads z.1 (B _ _ C.look.surveyed z.0 z.1)
+
+            pub second_placed : {w' : List ℕ} {n tag size' : ℕ} → tag ≡ tag_b q.kind → n ≡ past (eqb tag 0) 6 → at ≡ to + n
+                → Wrapped (wrap_b (tag_b q.kind) q.a) (to + past (eqb (tag_b q.kind) 0) 6) to size size' w₁ w'
+                → (W : World) (s : State) → Surveyed W s t → (x : RestTransition) → Memᴰ (k, x) (spots_in W s t i e) → Placed x to w w' entry size'
+            second_placed et en ea X W s Q x m =
+                let z = second_at Q x m in
+                wrap_placed _ z.0 (B W s Q z.0 z.1) X (ea ∙ ap (λ (n : ℕ). to + n) (en ∙ ap (λ (g : ℕ). past (eqb g 0) 6) et)) (omega arith) z.2
+
+          module _ {w₁ : List ℕ} {at : ℕ} (z : Laid) (B : (W : World) (s : State) → Surveyed W s t → (v : RestTransition)
+              → Memᴰ (y.k, v) (spots_in W s t y.i y.e) → Placed v at w w₁ z.entry z.size) where
+            pub second_laid : {w' : List ℕ} {n tag : ℕ} {p : Laid} → tag ≡ tag_b q.kind → n ≡ past (eqb tag 0) 6 → at ≡ to + n
+                → WrappedLaid (wrap_b (tag_b q.kind) q.a) (to + past (eqb (tag_b q.kind) 0) 6) to w₁ w' z p
+                → (W : World) (s : State) → Surveyed W s t → (x : RestTransition) → Memᴰ (k, x) (spots_in W s t i e) → Placed x to w w' p.entry p.size
+            second_laid {w'} {p = p} et en ea X W s Q x m =
+                subst (λ (c : ℕ). Placed x to w w' c p.size) (sym X.entry_is) (second_placed B et en ea X.wrapped W s Q x m)
 
     -- its own
     pub own_placed : has_own q.kind ≡ true → {w' : List ℕ} {entry : ℕ} → Put to 0 0 1 w w' → entry ≡ code_of (own_move q)

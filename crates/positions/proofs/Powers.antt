@@ -1,12 +1,11 @@
--- Powers of 16, values that were passed by, and the other placeholder. Assumes nothing.
+-- Powers of 16, and values that were passed by. Assumes nothing.
 use mathlib.Core.Path.{◌≡◌, refl, sym, ◌∙◌, ap}
 use mathlib.Core.Bool.{Bool, false}
 use mathlib.Core.Logic.{⊎_elim}
-use Prim.Native.Nat.{ℕ, zero, suc, ◌+◌, ◌*◌, ◌%◌, ◌^◌, ◌≤◌, ◌<◌}
+use Prim.Native.Nat.{ℕ, zero, suc, ◌+◌, ◌*◌, ◌^◌, ◌≤◌, ◌<◌}
 use native.Mathlib.Nat.{pow-succ', eq-or-lt_of_le}
 use native.Mathlib.Omega.{arith}
 use lib.Pow.{pow-add}
-use Rattle.records.specs.Placeholders.{put}
 
 pub four_bits : (m : ℕ) → 2 ^ (4 * m) ≡ 16 ^ m
 four_bits zero = refl
@@ -15,10 +14,6 @@ four_bits (suc m) =
     ∙ pow-add 2 4 (4 * m)
     ∙ ap (λ (n : ℕ). 16 * n) (four_bits m)
     ∙ sym (pow-succ' 16 m)
-
-pub put_other : (e c v : ℕ) → (c ≡ 0 → ⊥) → put e c v ≡ e % 16 + 16 * (v % 16)
-put_other e zero v n = absurd (n refl)
-put_other e (suc c) v n = refl
 
 -- none from v on, below w and n, is enabled
 abbrev pub Passed : (enabled : ℕ → Bool) (v n w : ℕ) → Type 0

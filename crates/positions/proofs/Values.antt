@@ -5,18 +5,19 @@ use mathlib.Core.Bool.{Bool, true, false, not, cond, false≢true}
 use mathlib.Core.List.Memᴰ
 use mathlib.Core.List.{List, [], ◌∷◌, map, Memᴰ}
 use mathlib.Core.Logic.{⊎_elim}
-use mathlib.Core.Option.{Option, none}
+use Rattle.std.specs.Prelude.{Option, Some, None}
+use Rattle.std.specs.Option.{option_or}
 use Prim.Native.Nat.{ℕ, zero, suc, ◌+◌, ◌-◌, ◌*◌, ◌/◌, ◌%◌, ◌≤◌, ◌<◌, min}
 use native.Mathlib.Nat.{add-mul, one-mul, mul-le-mul_right, div-mul-le_self, lt-div-mul-add, div-add-mod', div-eq_of_lt-le, eq-or-lt_of_le}
 use native.Mathlib.Omega.{arith}
-use borrow.Author.Tests.{ltb-true, ltb-false, lt-ltb, le-ltb, not-true, not-false}
+use borrow.Author.Tests.{ltb-true, ltb-false, lt-ltb, not-true, not-false}
 use lib.Dec.{ltb}
 use Rattle.golog.specs.Transitions.{is_none, lists_from}
 use Rattle.remaining.specs.Rest.{Rest}
 use Rattle.remaining.specs.Leaves.{RestTransition}
 use Rattle.positions.specs.Spots.{Spot, moved, from_spot}
 use Rattle.positions.specs.Rising.{Rising}
-use Rattle.positions.specs.Found.{first_of, further, or_else, NextValue}
+use Rattle.positions.specs.Found.{first_of, further, NextValue}
 use Rattle.positions.proofs.Rising.{rising_moved}
 use Rattle.positions.proofs.From.{from_start, found_moved, found_append, found_none}
 use Rattle.positions.proofs.Parts.{rising_at, empty, of_moved}
@@ -35,16 +36,16 @@ of_lists {x} G (suc c) i m =
     later z = (z.0, omega (arith, z.1), omega (arith, z.2), z.3)
 
 module _ (k : ℕ) (G : ℕ → List Spot) where
-  none_lists : (c i : ℕ) → ((u : ℕ) → i ≤ u → u < i + c → first_of (from_spot k (G u)) ≡ none) → first_of (from_spot k (lists_from G i c)) ≡ none
+  none_lists : (c i : ℕ) → ((u : ℕ) → i ≤ u → u < i + c → first_of (from_spot k (G u)) ≡ None) → first_of (from_spot k (lists_from G i c)) ≡ None
   unfolding lists_from
   none_lists zero i h = refl
   none_lists (suc c) i h =
-      found_append k (G i) (lists_from G (suc i) c) ∙ ap₂ or_else (h i (omega arith) (omega arith)) (none_lists c (suc i) (λ u l m. h u (omega arith) (omega arith)))
+      found_append k (G i) (lists_from G (suc i) c) ∙ ap₂ option_or (h i (omega arith) (omega arith)) (none_lists c (suc i) (λ u l m. h u (omega arith) (omega arith)))
 
   -- where none before v has one, those of v, then those after it
   first_lists :
-      (c i v : ℕ) → i ≤ v → v < i + c → ((u : ℕ) → i ≤ u → u < v → first_of (from_spot k (G u)) ≡ none)
-      → first_of (from_spot k (lists_from G i c)) ≡ or_else (first_of (from_spot k (G v))) (first_of (from_spot k (lists_from G (suc v) (i + c - suc v))))
+      (c i v : ℕ) → i ≤ v → v < i + c → ((u : ℕ) → i ≤ u → u < v → first_of (from_spot k (G u)) ≡ None)
+      → first_of (from_spot k (lists_from G i c)) ≡ option_or (first_of (from_spot k (G v))) (first_of (from_spot k (lists_from G (suc v) (i + c - suc v))))
   unfolding lists_from
   first_lists zero i v l m h = absurd (omega arith)
   first_lists (suc c) i v l m h =
@@ -52,20 +53,25 @@ module _ (k : ℕ) (G : ℕ → List Spot) where
       ∙ ⊎_elim
       (λ (e : i ≡ v).
       let few : c ≡ i + suc c - suc v = omega arith in
-      ap₂ (λ (a b : ℕ). or_else (first_of (from_spot k (G a))) (first_of (from_spot k (lists_from G (suc a) b)))) e few)
+      ap₂ (λ (a b : ℕ). option_or (first_of (from_spot k (G a))) (first_of (from_spot k (lists_from G (suc a) b)))) e few)
       (λ (q : i < v).
       let few : suc i + c - suc v ≡ i + suc c - suc v = omega arith in
-      ap (λ (o : Option ℕ). or_else o (first_of (from_spot k (lists_from G (suc i) c)))) (h i (omega arith) q)
+      ap (λ (o : Option ℕ). option_or o (first_of (from_spot k (lists_from G (suc i) c)))) (h i (omega arith) q)
       ∙ first_lists c (suc i) v q (omega arith) (λ u a b. h u (omega arith) b)
-      ∙ ap (λ (n : ℕ). or_else (first_of (from_spot k (G v))) (first_of (from_spot k (lists_from G (suc v) n)))) few)
+      ∙ ap (λ (n : ℕ). option_or (first_of (from_spot k (G v))) (first_of (from_spot k (lists_from G (suc v) n)))) few)
       (eq-or-lt_of_le l)
+
+-- the first with the next value, where there is one
+abbrev pub first_with : (by : ℕ) (F : ℕ → List Spot) → Option ℕ → Option ℕ
+first_with by F None = None
+first_with by F (Some w) = further (w * by) (first_of (from_spot 0 (F w)))
 
 module _ (by k n : ℕ) (F : ℕ → List Spot) (rises : (u : ℕ) → Rising 0 by (F u)) (some-apart : 0 < by) (few : n ≤ 16) where
   abbrev G : ℕ → List Spot
   G u = map (moved (u * by) (λ (g : Rest). g)) (F u)
 
   -- those with a value below v stand below v × by
-  passed_by : (u v : ℕ) → u < v → v * by ≤ k → first_of (from_spot k (G u)) ≡ none
+  passed_by : (u v : ℕ) → u < v → v * by ≤ k → first_of (from_spot k (G u)) ≡ None
   passed_by u v l m =
       let up : (u + 1) * by ≤ v * by = mul-le-mul_right by (omega arith) in
       ap first_of (found_none k (rising_moved (u * by) (λ (g : Rest). g) (rises u)) (omega (arith, next_multiple u by)))
@@ -92,52 +98,55 @@ module _ (by k n : ℕ) (F : ℕ → List Spot) (rises : (u : ℕ) → Rising 0 
       at_value : first_of (from_spot k (G v)) ≡ further (v * by) (first_of (from_spot (k % by) (F v)))
       at_value = found_moved k (v * by) (λ (g : Rest). g) (F v) ∙ ap (λ (m : ℕ). further (v * by) (first_of (from_spot m (F v)))) left_over
 
-    some_first : (a : ℕ) (xs : List Spot) (o : Option ℕ) → is_none xs ≡ false → or_else (further a (first_of xs)) o ≡ further a (first_of xs)
+    some_first : (a : ℕ) (xs : List Spot) (o : Option ℕ) → is_none xs ≡ false → option_or (further a (first_of xs)) o ≡ further a (first_of xs)
     some_first a [] o e = absurd (false≢true (sym e))
     some_first a (x ∷ xs) o e = refl
 
-    module _ (w : ℕ) (enabled : ℕ → Bool) (are : (u : ℕ) → u < 16 → enabled u ≡ not (is_none (F u))) (next : NextValue enabled (v + 1) n w) where
+    module _ (w : Option ℕ) (enabled : ℕ → Bool) (are : (u : ℕ) → u < 16 → enabled u ≡ not (is_none (F u))) (next : NextValue enabled (v + 1) n w) where
       rest : List Spot
       rest = lists_from G (suc v) (0 + n - suc v)
 
-      idle : (u : ℕ) → suc v ≤ u → u < w → u < n → first_of (from_spot k (G u)) ≡ none
-      idle u l m h =
-          let e : is_none (F u) ≡ true = not-false (is_none (F u)) (sym (are u (omega arith)) ∙ next.none_before u (omega arith) m h) in
+      idle : (u : ℕ) → u < n → enabled u ≡ false → first_of (from_spot k (G u)) ≡ None
+      idle u l q =
+          let e : is_none (F u) ≡ true = not-false (is_none (F u)) (sym (are u (omega arith)) ∙ q) in
           ap (λ (l : List Spot). first_of (from_spot k (map (moved (u * by) (λ (g : Rest). g)) l))) (empty (F u) e)
 
-      after : v < n → (b : Bool) → ltb w n ≡ b → first_of (from_spot k rest) ≡ cond b (further (w * by) (first_of (from_spot 0 (F w)))) none
+      after : v < n → (o : Option ℕ) → NextValue enabled (v + 1) n o → first_of (from_spot k rest) ≡ first_with by F o
       unfolding rest
-      after less true q =
-          let m : w < n = ltb-true w n q in
-          let o : suc v ≤ w = omega (arith, next.onward) in
-          let some_one : is_none (F w) ≡ false = not-true (is_none (F w)) (sym (are w (omega arith)) ∙ next.here m) in
+      after less (Some w) (o, m, here, before) =
+          let some_one : is_none (F w) ≡ false = not-true (is_none (F w)) (sym (are w (omega arith)) ∙ here) in
           let far : (v + 1) * by ≤ w * by = mul-le-mul_right by (omega arith) in
           let zero-on : k - w * by ≡ 0 = omega (arith, up less, next_multiple v by) in
           let all = ap (λ (l : List Spot). further (w * by) (first_of l)) (from_start (F w)) in
           let later : Option ℕ = first_of (from_spot k (lists_from G (suc w) (suc v + (0 + n - suc v) - suc w))) in
-          first_lists k G (0 + n - suc v) (suc v) w o (omega arith) (λ u a b. idle u a b (omega arith))
-          ∙ ap (λ (x : Option ℕ). or_else x later) (found_moved k (w * by) (λ (g : Rest). g) (F w) ∙ ap (λ (m : ℕ). further (w * by) (first_of (from_spot m (F w)))) zero-on ∙ all)
+          first_lists k G (0 + n - suc v) (suc v) w (omega arith) (omega arith) (λ u a b. idle u (omega arith) (before u (omega arith) b))
+          ∙ ap (λ (x : Option ℕ). option_or x later) (found_moved k (w * by) (λ (g : Rest). g) (F w) ∙ ap (λ (m : ℕ). further (w * by) (first_of (from_spot m (F w)))) zero-on ∙ all)
           ∙ some_first (w * by) (F w) later some_one
           ∙ sym all
-      after less false q = none_lists k G (0 + n - suc v) (suc v) (λ u a b. idle u a (omega (arith, ltb-false w n q)) (omega arith))
+      after less None before = none_lists k G (0 + n - suc v) (suc v) (λ u a b. idle u (omega arith) (before u (omega arith) (omega arith)))
+
+      -- behind n there is no next value
+      none_after : n ≤ v → (o : Option ℕ) → NextValue enabled (v + 1) n o → first_with by F o ≡ None
+      none_after over (Some w) (o, m, here, before) = absurd (omega arith)
+      none_after over None before = refl
 
       pub values_found :
           first_of (from_spot k (lists_from (λ (u : ℕ). map (moved (u * by) (λ (g : Rest). g)) (F u)) 0 n))
-          ≡ or_else (cond (ltb v n) (further (v * by) (first_of (from_spot (k % by) (F v)))) none) (cond (ltb w n) (further (w * by) (first_of (from_spot 0 (F w)))) none)
+          ≡ option_or (cond (ltb v n) (further (v * by) (first_of (from_spot (k % by) (F v)))) None) (first_with by F w)
       unfolding rest
       values_found = go (ltb v n) refl
         where
           go : (b : Bool) → ltb v n ≡ b
               → first_of (from_spot k (lists_from G 0 n))
-              ≡ or_else (cond b (further (v * by) (first_of (from_spot (k % by) (F v)))) none) (cond (ltb w n) (further (w * by) (first_of (from_spot 0 (F w)))) none)
+              ≡ option_or (cond b (further (v * by) (first_of (from_spot (k % by) (F v)))) None) (first_with by F w)
           go true q =
               let less : v < n = ltb-true v n q in
               first_lists k G n 0 v (omega arith) (omega arith) (λ u a b. passed_by u v b low)
-              ∙ ap₂ or_else (at_value less) (after less (ltb w n) refl)
+              ∙ ap₂ option_or (at_value less) (after less w next)
           go false q =
               let over : n ≤ v = ltb-false v n q in
               none_lists k G n 0 (λ u a b. passed_by u v (omega arith) low)
-              ∙ sym (ap (λ (b : Bool). cond {A = Option ℕ} b (further (w * by) (first_of (from_spot 0 (F w)))) none) (le-ltb w n (omega (arith, next.onward))))
+              ∙ sym (none_after over w next)
 
     pub values_laid :
         (x : RestTransition) → Memᴰ (k, x) (lists_from (λ (u : ℕ). map (moved (u * by) (λ (g : Rest). g)) (F u)) 0 n)

@@ -2,7 +2,9 @@
 -- the sets of environments of a state. Assumes nothing.
 use Rattle.std.specs.Prelude.{◌≡◌, Bool, true, false, not, cond, ◌&&◌, ◌||◌, ◌⊎◌, ℕ, ◌+◌, ◌-◌, ◌*◌, ◌/◌, ◌%◌, ◌^◌, ◌≤◌, ◌<◌, min, T, eqb, ltb, length, get_or}
 use mathlib.Core.List.{List, [], ◌∷◌, Memᴰ}
-use Rattle.std.proofs.Math.Option.{Option, none, some}
+use Rattle.std.specs.Bool.{then_some}
+use Rattle.std.specs.Prelude.{Option, Some, None}
+use Rattle.std.specs.Option.{option_or, option_map, ForSome}
 use Rattle.records.specs.declared.Program.{Program}
 use Rattle.records.specs.Records.{TwoBytes}
 use Rattle.records.specs.Placeholders.{environments, put, reading}
@@ -18,34 +20,22 @@ use Rattle.leaves.specs.Tallies.{extended_size}
 use Rattle.steps.specs.declared.Setting.{Setting}
 use Rattle.positions.specs.declared.Way.{Way}
 use Rattle.positions.specs.declared.Fork.{Fork}
-use Rattle.positions.specs.declared.Found.{Found}
 use Rattle.positions.specs.Spots.{Spot, apart, spots_of, from_spot}
 use Rattle.positions.specs.Rising.{Spread, Endable}
 
 -- the position of the first
 abbrev pub first_of : List Spot → Option ℕ
-first_of [] = none
-first_of (x ∷ xs) = some x.0
+first_of [] = None
+first_of (x ∷ xs) = Some x.0
 
 -- a position, where there is one, further on
 abbrev pub further : ℕ → Option ℕ → Option ℕ
-further by none = none
-further by (some k) = some (by + k)
+further by = option_map (λ (k : ℕ). by + k)
 
--- the first where there is one, else the second
-abbrev pub or_else : Option ℕ → Option ℕ → Option ℕ
-or_else none b = b
-or_else (some k) b = some k
-
--- an answer
-abbrev pub answer_of : Found → Option ℕ
-answer_of r = cond r.there (some r.at) none
-
--- w is the least value from v on that is enabled, below n; else none is, and w is n or more
-pub record NextValue (enabled : ℕ → Bool) (v n w : ℕ) : Type 0 where
-  pub onward : v ≤ w
-  pub none_before : (u : ℕ) → v ≤ u → u < w → u < n → enabled u ≡ false
-  pub here : w < n → enabled w ≡ true
+-- the least value from v on, below n, that is enabled, where there is one
+abbrev pub NextValue : (enabled : ℕ → Bool) (v n : ℕ) → Option ℕ → Type 0
+NextValue enabled v n None = (u : ℕ) → v ≤ u → u < n → enabled u ≡ false
+NextValue enabled v n (Some w) = (v ≤ w) × (w < n) × (enabled w ≡ true) × ((u : ℕ) → v ≤ u → u < w → enabled u ≡ false)
 
 -- the table that runs, with its number of records; how many values each choice lists; the digits of each record; whether interrupts run;
 -- and sets of environments: where each formula holds (from set 0 on), where each record is final (from 512 on), where it has a transition
@@ -95,9 +85,10 @@ pub record Surveyed (W : World) (s : State) (t : Tables) : Type 0 where
       (i : ℕ) → i < t.many
       → Has (λ (e : ℕ). not (is_none (leaf_of W s (written_records t.records) (reading i e)).transitions)) (set_at t.sets (772 + i))
 
--- the first transition that a way leads to
-abbrev pub way_first : World → State → Tables → Way → Option ℕ
-way_first W s t w = cond w.goes (further w.base (first_of (from_spot w.k (spots_in W s t w.i w.e)))) none
+-- the first transition that a way leads to, where it goes
+abbrev pub way_first : World → State → Tables → Option Way → Option ℕ
+way_first W s t None = None
+way_first W s t (Some w) = further w.base (first_of (from_spot w.k (spots_in W s t w.i w.e)))
 
 -- a way from record i leads to a record that it names, in an environment, and its positions stay below 16 to the digits of i
 pub record Leads (t : Tables) (i : ℕ) (w : Way) : Type 0 where
@@ -108,19 +99,19 @@ pub record Leads (t : Tables) (i : ℕ) (w : Way) : Type 0 where
 -- record i, read in e, its positions from k on: the first is the one way's, else the other's. One at k is the one way's, where that goes, else
 -- the other's, and what it leaves stands in the construct of part a, or of part b
 pub record Forks (W : World) (s : State) (t : Tables) (i e k : ℕ) (f : Fork) : Type 0 where
-  pub found : first_of (from_spot k (spots_in W s t i e)) ≡ or_else (way_first W s t f.first) (way_first W s t f.second)
+  pub found : first_of (from_spot k (spots_in W s t i e)) ≡ option_or (way_first W s t f.first) (way_first W s t f.second)
   pub laid :
       let r = program_read e (span_of t.records i) (t.records i) in
       (x : RestTransition) → Memᴰ (k, x) (spots_in W s t i e)
-      → ((f.first.goes ≡ true) × (y : RestTransition) × Memᴰ (f.first.k, y) (spots_in W s t f.first.i f.first.e)
+      → ((w : Way) × (f.first ≡ Some w) × (y : RestTransition) × Memᴰ (w.k, y) (spots_in W s t w.i w.e)
       × (x ≡ on_rest (wrap_a (tag_a r.kind) (sibling_a r (reading i e))) y))
-      ⊎ ((f.first.goes ≡ false) × (f.second.goes ≡ true) × (y : RestTransition)
-      × Memᴰ (f.second.k, y) (spots_in W s t f.second.i f.second.e) × (x ≡ on_rest (wrap_b (tag_b r.kind) r.a) y))
+      ⊎ ((f.first ≡ None) × (w : Way) × (f.second ≡ Some w) × (y : RestTransition) × Memᴰ (w.k, y) (spots_in W s t w.i w.e)
+      × (x ≡ on_rest (wrap_b (tag_b r.kind) r.a) y))
 
 -- so in every state that the sets are of
 pub record Forked (t : Tables) (i e k : ℕ) (f : Fork) : Type 0 where
-  pub first : f.first.goes ≡ true → Leads t i f.first
-  pub second : f.second.goes ≡ true → Leads t i f.second
+  pub first : ForSome f.first (Leads t i)
+  pub second : ForSome f.second (Leads t i)
   pub forks : (W : World) (s : State) → Surveyed W s t → Forks W s t i e k f
 
 -- the ways of record r, d digits, that chooses no value, read in e: h, its condition holds; fin, en, its part a is final, has a transition
@@ -136,8 +127,8 @@ fork_parts r h running d e k fin en =
     let by = gap_of r.kind b d in
     record {
       r = r;
-      first = record { goes = (uses_a r.kind h running && en) && (eqb by 0 || ltb k by); i = r.a; e = e; k = k; base = 0 };
-      second = record { goes = b; i = r.b; e = e; k = k - by; base = by };
+      first = then_some ((uses_a r.kind h running && en) && (eqb by 0 || ltb k by)) (record { i = r.a; e = e; k = k; base = 0 });
+      second = then_some b (record { i = r.b; e = e; k = k - by; base = by });
     }
 
 -- record r, d digits, can be looked at in e by the sets
@@ -154,19 +145,19 @@ pub record ForksParts (r : Program) (running : Bool) (d e k : ℕ) (sets : List 
   pub condition : T (has_condition r.kind) → holds ≡ member (set_at sets r.c) e
   pub is : f ≡ fork_parts r holds running d e k (member (set_at sets (512 + r.a)) e) (member (set_at sets (772 + r.a)) e)
 
--- the way of value u of a choice r between n, read in e, whose values stand `by` apart
-pub record LeadsValue (r : Program) (e u n k by : ℕ) (w : Way) : Type 0 where
-  pub goes : w.goes ≡ ltb u n
-  pub is : w.goes ≡ true → w ≡ record { goes = true; i = r.b; e = put e r.c u; k = k; base = u * by }
+-- the way of value u of a choice r, read in e, whose values stand `by` apart
+abbrev pub value_way : Program → (e u k by : ℕ) → Way
+value_way r e u k by = record { i = r.b; e = put e r.c u; k = k; base = u * by }
 
 -- the ways of a choice r between n values, d digits, read in e: that of the value at k, then that of the next that is enabled
 pub record ForksValues (r : Program) (n d e k : ℕ) (enabled : ℕ → Bool) (f : Fork) : Type 0 where
   pub record_is : f.r ≡ r
-  pub alone : n ≡ 1 → LeadsValue r e 0 n k 1 f.first × (f.second.goes ≡ false)
+  pub alone : n ≡ 1 → (f.first ≡ Some (value_way r e 0 k 1)) × (f.second ≡ None)
   pub several :
       (n ≡ 1 → ⊥)
-      → (w : ℕ) × NextValue enabled (min (k / apart d) 16 + 1) n w × LeadsValue r e (min (k / apart d) 16) n (k % apart d) (apart d) f.first
-      × LeadsValue r e w n 0 (apart d) f.second
+      → let v = min (k / apart d) 16 in
+      (f.first ≡ then_some (ltb v n) (value_way r e v (k % apart d) (apart d)))
+      × (w : Option ℕ) × NextValue enabled (v + 1) n w × (f.second ≡ option_map (λ (w : ℕ). value_way r e w 0 (apart d)) w)
 
 -- record i of the table, and its ways where it has no transition of its own
 pub record ForksRecord (t : Tables) (i e k : ℕ) (f : Fork) : Type 0 where
@@ -189,9 +180,9 @@ pub record CanGo (t : Tables) (w : Way) : Type 0 where
   pub bounded : w.base + 16 ^ digits_in t w.i ≤ 2 ^ 64
 
 -- the answer is the first that the way leads to, in every state that the sets are of
-abbrev pub FindsWay : Tables → Way → Found → Type 0
-FindsWay t w r = (W : World) (s : State) → Surveyed W s t → way_first W s t w ≡ answer_of r
+abbrev pub FindsWay : Tables → Option Way → Option ℕ → Type 0
+FindsWay t w r = (W : World) (s : State) → Surveyed W s t → way_first W s t w ≡ r
 
 -- the answer is the first at k or later of record i, read in e, in every state that the sets are of
-abbrev pub FindsRecord : Tables → (i e k : ℕ) → Found → Type 0
-FindsRecord t i e k r = (W : World) (s : State) → Surveyed W s t → first_of (from_spot k (spots_in W s t i e)) ≡ answer_of r
+abbrev pub FindsRecord : Tables → (i e k : ℕ) → Option ℕ → Type 0
+FindsRecord t i e k r = (W : World) (s : State) → Surveyed W s t → first_of (from_spot k (spots_in W s t i e)) ≡ r

@@ -2,11 +2,12 @@
 #![tactic(auto)]
 
 ghost use Rattle.std.specs.Prelude.{◌≡◌, true, false, not, cond, ◌&&◌, ℕ, ◌+◌, ◌-◌, ◌/◌, ◌^◌, ◌≤◌, ◌<◌, min, max, T, eqb, length, get_or};
+ghost use Rattle.std.specs.Option.{ForSome};
 ghost use Rattle.records.specs.Records.{ProgramTable};
 ghost use Rattle.remaining.specs.Extended.{table_of};
 ghost use Rattle.leaves.specs.Tallies.{extended_size};
 ghost use Rattle.positions.specs.Spots.{digits_by, apart};
-ghost use Rattle.positions.specs.Found.{further, answer_of, NextValue, parted, gap_of, CanFork, ForksParts, LeadsValue, ForksValues};
+ghost use Rattle.positions.specs.Found.{NextValue, gap_of, CanFork, ForksParts, value_way, ForksValues};
 ghost use Rattle.positions.specs.Found.{tables_of, CanLook, ForksRecord, CanGo, FindsWay, FindsRecord};
 ghost use Rattle.positions.specs.Levels.{digits_over, digits_of};
 ghost use Rattle.golog.specs.Written.{entry_in, program_read};
@@ -28,35 +29,17 @@ pub const ENVIRONMENTS: usize = 256;
 // How many actions there are: an entry of a history is an action's number and as many times the environment.
 const ACTIONS: usize = 64;
 
-fn larger(x: u32, y: u32) -> u32
-    ensures { result ≡ max x y }
-{
-    if x < y { y } else { x }
-}
-
-fn one_if(b: bool) -> u32
-    ensures { (result ≡ cond b 1 0) × (result ≤ 1) }
-{
-    if b { 1 } else { 0 }
-}
-
 // How many digits a record has, where its parts have da and db.
 fn digits_by(r: Program, endable: bool, span: u32, da: u32, db: u32) -> u32
     requires { (da < 2 ^ 31) × (db < 2 ^ 31) }
     ensures { result ≡ digits_by r endable span da db }
 {
-    let kind = r.kind;
-    match kind {
-        3 => larger(da, db) + one_if(endable),
-        4 => larger(da, db) + 1,
-        5 => da,
-        6 => larger(da, db),
-        7 => da,
-        8 => larger(da, db) + 1,
-        9 => larger(da, db),
-        10 => da,
-        11 => da,
-        12 => db + one_if(span != 1),
+    match r.kind {
+        3 => da.max(db) + u32::from(endable),
+        4 | 8 => da.max(db) + 1,
+        5 | 7 | 10 | 11 => da,
+        6 | 9 => da.max(db),
+        12 => db + u32::from(span != 1),
         _ => 0,
     }
 }
@@ -66,8 +49,8 @@ fn digits_over(r: Program, endable: bool, span: u32, digits: &[u32]) -> u32
     requires { (a : ℕ) → get_or digits.now a 0 < 2 ^ 31 }
     ensures { result ≡ digits_over r endable span digits.now }
 {
-    let da = records::number_in(digits, r.a, 0);
-    let db = records::number_in(digits, r.b, 0);
+    let da = records::value_in(digits, r.a, 0);
+    let db = records::value_in(digits, r.b, 0);
     digits_by(r, endable, span, da, db)
 }
 
@@ -85,13 +68,10 @@ pub fn digits(
 {
     let m = leaves::places_of(n, interrupts);
     let mut digits = [0u32; leaves::RECORDS];
-    let mut i = 0;
-    while i < m {
+    for i in 0..m {
         let r = leaves::record_at(programs, n, interrupts, i);
-        let ends = records::flag_in(endable, r.a, true);
-        let d = digits_over(r, ends, records::number_in(spans, i, 1), &digits);
-        digits[i] = d;
-        i += 1;
+        let ends = records::value_in(endable, r.a, true);
+        digits[i] = digits_over(r, ends, records::value_in(spans, i, 1), &digits);
     }
     digits
 }
@@ -117,12 +97,12 @@ fn entry_in(a: usize, e: usize) -> usize
 }
 
 // The fields of a record, read in e, where it lists `span` values if it chooses one.
+#[tactic(auto, unfolding(golog::specs::Written::program_read))]
 fn read_a(r: Program, e: usize, span: usize) -> usize
     requires { Readable r e span }
     ensures { (result ≡ (program_read e span r).a) × (result < 2 ^ 32) }
 {
-    let kind = r.kind;
-    match kind {
+    match r.kind {
         1 => entry_in(r.a, e),
         2..=11 => reading_of(r.a, e),
         12 => span,
@@ -130,25 +110,25 @@ fn read_a(r: Program, e: usize, span: usize) -> usize
     }
 }
 
+#[tactic(auto, unfolding(kinds::specs::Programs::field_b, golog::specs::Written::program_read))]
 fn read_b(r: Program, e: usize, span: usize) -> usize
     requires { Readable r e span }
     ensures { (result ≡ (program_read e span r).b) × (result < 2 ^ 32) }
 {
     if kinds::programs::has_b(r.kind) {
-        return reading_of(r.b, e);
+        reading_of(r.b, e)
+    } else {
+        r.b
     }
-    r.b
 }
 
+#[tactic(auto, unfolding(kinds::specs::Programs::field_c, golog::specs::Written::program_read))]
 fn read_c(r: Program, e: usize, span: usize) -> usize
     requires { Readable r e span }
     ensures { result ≡ (program_read e span r).c }
 {
-    let kind = r.kind;
-    match kind {
-        6 => reading_of(r.c, e),
-        7 => reading_of(r.c, e),
-        11 => reading_of(r.c, e),
+    match r.kind {
+        6 | 7 | 11 => reading_of(r.c, e),
         _ => r.c,
     }
 }
@@ -205,128 +185,85 @@ fn apart_of(d: usize) -> u64
     requires { d ≤ 16 }
     ensures { (result ≡ apart d) × (0 < result) × (result ≤ 2 ^ 60) }
 {
-    if d == 0 {
-        return 1;
-    }
-    1 << (4 * (d - 1))
+    1 << (4 * d.saturating_sub(1))
 }
 
-// Where a search goes on: to the transitions of record i, read in e, from position k on, which stand `base` further on; or not at all.
+// Where a search goes on: to the transitions of record i, read in e, from position k on, which stand `base` further on.
 #[derive(Clone, Copy)]
 pub struct Way {
-    pub goes: bool,
     pub i: usize,
     pub e: usize,
     pub k: u64,
     pub base: u64,
 }
 
-// The position of a transition, where there is one.
-#[derive(Clone, Copy)]
-pub struct Found {
-    pub there: bool,
-    pub at: u64,
-}
-
-// A record, and its one way, then the other.
+// A record, and its one way, then the other, where it goes them.
 #[derive(Clone, Copy)]
 pub struct Fork {
     pub r: Program,
-    pub first: Way,
-    pub second: Way,
+    pub first: Option<Way>,
+    pub second: Option<Way>,
 }
 
-fn nowhere() -> Way
-    ensures { result.goes ≡ false }
-{
-    Way {
-        goes: false,
-        i: 0,
-        e: 0,
-        k: 0,
-        base: 0,
-    }
-}
-
-// The least value from v on, below n, with which record b has a transition, read in e with the value in placeholder c; else n or more.
-fn next_value(table: &[u32], b: usize, e: usize, c: usize, v: usize, n: usize) -> usize
-    requires { (8256 ≤ length table.now) × (b < 260) × (e < 256) × (v ≤ 17) × (n ≤ 16) }
+// The least value from v on, below n, with which record b has a transition, read in e with the value in placeholder c.
+fn next_value(table: &[u32], b: usize, e: usize, c: usize, v: usize, n: usize) -> Option<usize>
+    requires { (8256 ≤ length table.now) × (b < 260) × (e < 256) × (n ≤ 16) }
     ensures { NextValue (λ (u : ℕ). member (set_at table.now (772 + b)) (put e c u)) v n result }
 {
-    let mut w = v;
-    while w < n {
+    for w in v..n {
         if enabled_in(table, b, put_value(e, c, w)) {
-            return w;
+            return Some(w);
         }
-        w += 1;
     }
-    w
+    None
 }
 
 // Whether the condition of record r, where it has one, holds in e.
+#[tactic(auto, unfolding(kinds::specs::Programs::field_c))]
 fn condition(r: Program, table: &[u32], e: usize) -> bool
     requires { (8256 ≤ length table.now) × (T (has_condition r.kind) → r.c < 512) × (e < 256) }
     ensures { T (has_condition r.kind) → result ≡ member (set_at table.now r.c) e }
 {
-    let kind = r.kind;
-    match kind {
-        6 => sets::has_in(table, r.c, e),
-        7 => sets::has_in(table, r.c, e),
-        11 => sets::has_in(table, r.c, e),
+    match r.kind {
+        6 | 7 | 11 => sets::has_in(table, r.c, e),
         _ => false,
     }
 }
 
 // Whether part a goes, and has a transition, where h says whether the condition holds.
+#[tactic(auto, unfolding(kinds::specs::Programs::field_a, kinds::specs::Programs::uses_a))]
 fn goes_a(r: Program, h: bool, running: bool, table: &[u32], e: usize) -> bool
     requires { (8256 ≤ length table.now) × (T (has_a r.kind) → r.a < 260) × (e < 256) }
     ensures { result ≡ (uses_a r.kind h running && member (set_at table.now (772 + r.a)) e) }
 {
-    if kinds::programs::uses_a(r.kind, h, running) {
-        return enabled_in(table, r.a, e);
-    }
-    false
+    kinds::programs::uses_a(r.kind, h, running) && enabled_in(table, r.a, e)
 }
 
 // Whether part b goes.
+#[tactic(auto, unfolding(kinds::specs::Programs::field_a, kinds::specs::Programs::uses_b))]
 fn goes_b(r: Program, h: bool, table: &[u32], e: usize) -> bool
     requires { (8256 ≤ length table.now) × (T (has_a r.kind) → r.a < 260) × (e < 256) }
     ensures { result ≡ uses_b r.kind (member (set_at table.now (512 + r.a)) e) h (not (member (set_at table.now (772 + r.a)) e)) }
 {
-    let kind = r.kind;
-    match kind {
+    match r.kind {
         3 => final_in(table, r.a, e),
-        4 => true,
+        4 | 8 => true,
         6 => !h,
-        8 => true,
         9 => !enabled_in(table, r.a, e),
         _ => false,
     }
 }
 
-// Whether parts a and b of a record stand apart, where both may go.
-fn stands_apart(kind: usize) -> bool
-    ensures { result ≡ parted kind }
-{
-    (kind == 3) | (kind == 4) | (kind == 8)
-}
-
-// How far part b stands from part a, where it goes.
+// How far part b stands from part a, where it goes: a record whose two parts may both go has them apart.
 fn gap(kind: usize, goes: bool, d: usize) -> u64
     requires { d ≤ 16 }
     ensures { result ≡ gap_of kind goes d }
 {
-    if goes & stands_apart(kind) {
-        return apart_of(d);
+    if goes && matches!(kind, 3 | 4 | 8) {
+        apart_of(d)
+    } else {
+        0
     }
-    0
-}
-
-// What is left of k beyond part a.
-fn beyond(k: u64, by: u64) -> u64
-    ensures { result ≡ k - by }
-{
-    if k < by { 0 } else { k - by }
 }
 
 // The ways of a record that chooses no value.
@@ -339,46 +276,35 @@ fn fork_parts(r: Program, running: bool, d: usize, table: &[u32], e: usize, k: u
     let b = goes_b(r, h, table, e);
     let by = gap(r.kind, b, d);
     let first = Way {
-        goes: a & ((by == 0) | (k < by)),
         i: r.a,
         e,
         k,
         base: 0,
     };
     let second = Way {
-        goes: b,
         i: r.b,
         e,
-        k: beyond(k, by),
+        k: k.saturating_sub(by),
         base: by,
     };
-    Fork { r, first, second }
-}
-
-// The way of value u of a choice between n.
-fn value_way(r: Program, e: usize, u: usize, n: usize, k: u64, by: u64) -> Way
-    requires { (n ≤ 16) × (e < 256) × (by ≤ 2 ^ 60) }
-    ensures { LeadsValue r e u n k by result }
-{
-    if u < n {
-        return Way {
-            goes: true,
-            i: r.b,
-            e: put_value(e, r.c, u),
-            k,
-            base: u as u64 * by,
-        };
+    Fork {
+        r,
+        first: (a & ((by == 0) | (k < by))).then_some(first),
+        second: b.then_some(second),
     }
-    nowhere()
 }
 
-// The value that position k is with, or 16 where that is more.
-fn digit_of(k: u64, by: u64) -> usize
-    requires { 0 < by }
-    ensures { result ≡ min (k / by) 16 }
+// The way of value u of a choice.
+fn value_way(r: Program, e: usize, u: usize, k: u64, by: u64) -> Way
+    requires { (u < 16) × (e < 256) × (by ≤ 2 ^ 60) }
+    ensures { result ≡ value_way r e u k by }
 {
-    let v = k / by;
-    if v < 16 { v as usize } else { 16 }
+    Way {
+        i: r.b,
+        e: put_value(e, r.c, u),
+        k,
+        base: u as u64 * by,
+    }
 }
 
 // The ways of a choice between n values.
@@ -388,15 +314,20 @@ fn fork_values(r: Program, n: usize, d: usize, table: &[u32], e: usize, k: u64) 
     ensures { ForksValues r n d e k (λ (u : ℕ). member (set_at table.now (772 + r.b)) (put e r.c u)) result }
 {
     if n == 1 {
-        let first = value_way(r, e, 0, n, k, 1);
-        let second = nowhere();
-        return Fork { r, first, second };
+        return Fork {
+            r,
+            first: Some(value_way(r, e, 0, k, 1)),
+            second: None,
+        };
     }
     let by = apart_of(d);
-    let v = digit_of(k, by);
-    let w = next_value(table, r.b, e, r.c, v + 1, n);
-    let first = value_way(r, e, v, n, k % by, by);
-    let second = value_way(r, e, w, n, 0, by);
+    let v = (k / by).min(VALUES as u64) as usize;
+    let first = if v < n {
+        Some(value_way(r, e, v, k % by, by))
+    } else {
+        None
+    };
+    let second = next_value(table, r.b, e, r.c, v + 1, n).map(|w| value_way(r, e, w, 0, by));
     Fork { r, first, second }
 }
 
@@ -419,35 +350,12 @@ fn ways(
     ensures { ForksRecord (tables_of programs.now v spans.now digits.now table.now) i e k result }
 {
     let r = leaves::record_at(programs, v.n, v.interrupts, i);
-    let d = records::wide32(records::number_in(digits, i, 0));
+    let d = records::value_in(digits, i, 0) as usize;
     if r.kind == CHOICE {
-        let n = records::wide32(records::number_in(spans, i, 1));
+        let n = records::value_in(spans, i, 1) as usize;
         return fork_values(r, n, d, table, e, k);
     }
     fork_parts(r, v.running, d, table, e, k)
-}
-
-fn absent() -> Found
-    ensures { result.there ≡ false }
-{
-    Found {
-        there: false,
-        at: 0,
-    }
-}
-
-// What was found, further on.
-fn further_on(by: u64, x: Found) -> Found
-    requires { x.there ≡ true → by + x.at < 2 ^ 64 }
-    ensures { answer_of result ≡ further by (answer_of x) }
-{
-    if x.there {
-        return Found {
-            there: true,
-            at: by + x.at,
-        };
-    }
-    absent()
 }
 
 // The position of the first transition that a way leads to: straight down, since a record that has none is passed by at once.
@@ -457,35 +365,25 @@ fn find_way(
     spans: &[u32],
     digits: &[u32],
     table: &[u32],
-    w: Way,
-) -> Found
+    way: Option<Way>,
+) -> Option<u64>
     requires program_table { ProgramTable programs.now v.n }
-    requires can_go { w.goes ≡ true → CanGo (tables_of programs.now v spans.now digits.now table.now) w }
-    ensures { FindsWay (tables_of programs.now v spans.now digits.now table.now) w result }
+    requires can_go { ForSome way (CanGo (tables_of programs.now v spans.now digits.now table.now)) }
+    ensures { FindsWay (tables_of programs.now v spans.now digits.now table.now) way result }
 {
-    if !w.goes {
-        return absent();
+    let w = way?;
+    if !enabled_in(table, w.i, w.e) {
+        return None;
     }
-    let i = w.i;
-    let e = w.e;
-    if !enabled_in(table, i, e) {
-        return absent();
-    }
-    let f = ways(programs, v, spans, digits, table, i, e, w.k);
+    let f = ways(programs, v, spans, digits, table, w.i, w.e, w.k);
     if kinds::programs::has_own(f.r.kind) {
-        return Found {
-            there: w.k == 0,
-            at: w.base,
-        };
+        return (w.k == 0).then_some(w.base);
     }
-    let first = f.first;
-    let x = find_way(programs, v, spans, digits, table, first);
-    if x.there {
-        return further_on(w.base, x);
+    if let Some(at) = find_way(programs, v, spans, digits, table, f.first) {
+        return Some(w.base + at);
     }
-    let second = f.second;
-    let y = find_way(programs, v, spans, digits, table, second);
-    further_on(w.base, y)
+    let at = find_way(programs, v, spans, digits, table, f.second)?;
+    Some(w.base + at)
 }
 
 // The position of the first transition of record i, read in e, at k or later.
@@ -498,19 +396,13 @@ pub fn find_record(
     i: usize,
     e: usize,
     k: u64,
-) -> Found
+) -> Option<u64>
     requires program_table { ProgramTable programs.now v.n }
     requires can_look { CanLook (tables_of programs.now v spans.now digits.now table.now) i e }
     ensures { FindsRecord (tables_of programs.now v spans.now digits.now table.now) i e k result }
 {
-    let w = Way {
-        goes: true,
-        i,
-        e,
-        k,
-        base: 0,
-    };
-    find_way(programs, v, spans, digits, table, w)
+    let w = Way { i, e, k, base: 0 };
+    find_way(programs, v, spans, digits, table, Some(w))
 }
 
 // Lays out the own transition of record r, which leaves nothing.
@@ -571,22 +463,17 @@ pub fn lay_record(
         work.old work.new result.entry result.size }
 {
     let f = ways(programs, v, spans, digits, table, i, e, k);
-    let r = read(f.r, e, records::wide32(records::number_in(spans, i, 1)));
+    let r = read(f.r, e, records::value_in(spans, i, 1) as usize);
     if kinds::programs::has_own(r.kind) {
         return lay_own(work, to, r);
     }
-    if f.first.goes {
+    if let Some(w) = f.first {
         let at = to + steps::past_words(kinds::programs::tag_a(r.kind) == 0, 3);
-        let a = f.first.i;
-        let d = f.first.e;
-        let j = f.first.k;
-        let x = lay_record(programs, v, spans, digits, table, work, a, d, at, j);
+        let x = lay_record(programs, v, spans, digits, table, work, w.i, w.e, at, w.k);
         return wrap_laid_a(work, to, r, reading_of(i, e), x);
     }
+    let w = f.second.unwrap();
     let at = to + steps::past_words(kinds::programs::tag_b(r.kind) == 0, 6);
-    let b = f.second.i;
-    let d = f.second.e;
-    let j = f.second.k;
-    let x = lay_record(programs, v, spans, digits, table, work, b, d, at, j);
+    let x = lay_record(programs, v, spans, digits, table, work, w.i, w.e, at, w.k);
     wrap_laid_b(work, to, r, x)
 }

@@ -1,5 +1,6 @@
 -- Finality of the words is that of the remaining program that stands in them, by the sets: by its outermost node, and of the parts by the
 -- same. The number of nodes falls. Assumes nothing.
+use mathlib.Core.Path.{◌∙◌}
 use native.Mathlib.Omega.{arith}
 use Rattle.words.proofs.Standing.{gone_at, leaf_at}
 use Rattle.words.proofs.Reading.{holds_room, Construct, construct, Sized, sized}
@@ -87,9 +88,9 @@ returns-then-final_rest t c g h =
     let P = right_known.parts_of g h in
     final_second _ P.is (c.final_rest.ensures P.l P.l_at) c.if-final_rest.true (c.final_rest-then-final_rest.ensures P.r P.r_at)
 
-pub returns : goal.returns
-returns t c g h =
+pub returns-else-final_rest : goal.returns-else-final_rest
+returns-else-final_rest t c g h =
     let right_known : Sized c.args.work.now c.args.at c.tag_at-tag.result c.size_at-left.result =
     sized (end_stands c.requires) c.tag_at-tag.ensures c.if-tag-eq-GONE.false c.if-tag-eq-LEAF.false c.size_at-left.ensures in
     let P = right_known.parts_of g h in
-    final_first _ P.is (c.final_rest.ensures P.l P.l_at) c.if-final_rest.false
+    c.if-final_rest.false ∙ final_first _ P.is (c.final_rest.ensures P.l P.l_at) c.if-final_rest.false

@@ -5,7 +5,7 @@ use native.Mathlib.Omega.{arith}
 use Rattle.words.proofs.Standing.{gone_at, leaf_at}
 use Rattle.words.proofs.Reading.{holds_room, Construct, construct, Sized, sized}
 use Rattle.cursors.proofs.Ending.{final_is}
-use Rattle.cursors.proofs.Pointing.{passes, left_there, right_stays, right_there, neither_there, gone_points, leaf_points}
+use Rattle.cursors.proofs.Pointing.{left_there, right_stays, right_there, neither_there, gone_points, leaf_points}
 use Rattle.cursors.proofs.Pointing.{point_stands, point_inside, point_look, point_left, point_right, point_end}
 use Rattle.cursors.proofs.+find_rest.Goals as goal
 
@@ -13,7 +13,7 @@ pub tag_at-tag-requires : goal.tag_at-tag-requires
 tag_at-tag-requires t c = holds_room (point_stands c.requires.can_point)
 
 pub returns-then-tag-eq-GONE : goal.returns-then-tag-eq-GONE
-returns-then-tag-eq-GONE t c W s Q g h = gone_points W s _ _ _ (gone_at _ _ _ c.tag_at-tag.ensures g h c.if-tag-eq-GONE.true) (passes c.passed.ensures)
+returns-then-tag-eq-GONE t c W s Q g h = gone_points W s _ _ _ (gone_at _ _ _ c.tag_at-tag.ensures g h c.if-tag-eq-GONE.true)
 
 pub record_at-n-requires : goal.record_at-n-requires
 record_at-n-requires t c = holds_room (point_stands c.requires.can_point)
@@ -58,8 +58,8 @@ overflow_add-right t c =
     let Z = sized_known in
     let h = Z.right_room in omega arith
 
-pub find_rest-x-requires : goal.find_rest-x-requires
-find_rest-x-requires t c =
+pub find_rest-requires : goal.find_rest-requires
+find_rest-requires t c =
     let sized_known : Sized c.args.work.now c.args.at c.tag_at-tag.result c.size_at.result =
     sized (point_stands c.requires.can_point) c.tag_at-tag.ensures c.if-tag-eq-GONE.false c.if-tag-eq-LEAF.false c.size_at.ensures in
     let left_known : Construct c.args.work.now c.args.at =
@@ -69,13 +69,13 @@ find_rest-x-requires t c =
     let K = c.requires.can_point in
     (L.left_less c.decreases, (c.requires.program_table, point_left K (Z.parts_of K.rest K.at)))
 
-pub returns-then-x : goal.returns-then-x
-returns-then-x t c W s Q g h =
+pub returns-in-Ok : goal.returns-in-Ok
+returns-in-Ok t c W s Q g h =
     let sized_known : Sized c.args.work.now c.args.at c.tag_at-tag.result c.size_at.result =
     sized (point_stands c.requires.can_point) c.tag_at-tag.ensures c.if-tag-eq-GONE.false c.if-tag-eq-LEAF.false c.size_at.ensures in
     let Z = sized_known in
     let D = Z.parts_of g h in
-    left_there D (c.find_rest-x.ensures W s Q D.l D.l_at) c.if-x.true
+    left_there D W s _ _ (c.in-Ok.ensures W s Q D.l D.l_at)
 
 pub final_after-requires : goal.final_after-requires
 final_after-requires t c =
@@ -93,27 +93,25 @@ returns-then-not-goes_right t c W s Q g h =
     let K = c.requires.can_point in
     let D = Z.parts_of g h in
     let E = Z.parts_of K.rest K.at in
-    let x = c.find_rest-x.result in
     let same = final_is Q D.r (point_inside (point_right K E) D.r D.r_at) in
-    right_stays D (c.find_rest-x.ensures W s Q D.l D.l_at) c.if-x.false c.goes_right.ensures c.if-not-goes_right.true
-    (c.final_after.ensures D.r D.r_at ∙ ap (λ (b : Bool). x.done && b) same) (passes c.passed-then-not-goes_right.ensures)
+    right_stays D W s _ _ (c.in-Err.ensures W s Q D.l D.l_at) c.goes_right.ensures c.if-not-goes_right.true
+    (c.final_after.ensures D.r D.r_at ∙ ap (λ (b : Bool). c.in-Err.passed.done && b) same)
 
-pub find_rest-y-requires : goal.find_rest-y-requires
-find_rest-y-requires t c =
+pub find_rest-requires-2 : goal.find_rest-requires-2
+find_rest-requires-2 t c =
     let sized_known : Sized c.args.work.now c.args.at c.tag_at-tag.result c.size_at.result =
     sized (point_stands c.requires.can_point) c.tag_at-tag.ensures c.if-tag-eq-GONE.false c.if-tag-eq-LEAF.false c.size_at.ensures in
     let Z = sized_known in
     let K = c.requires.can_point in
     (Z.right_less c.decreases, (c.requires.program_table, point_right K (Z.parts_of K.rest K.at)))
 
-pub returns-then-y : goal.returns-then-y
-returns-then-y t c W s Q g h =
+pub returns-in-Ok-find_rest : goal.returns-in-Ok-find_rest
+returns-in-Ok-find_rest t c W s Q g h =
     let sized_known : Sized c.args.work.now c.args.at c.tag_at-tag.result c.size_at.result =
     sized (point_stands c.requires.can_point) c.tag_at-tag.ensures c.if-tag-eq-GONE.false c.if-tag-eq-LEAF.false c.size_at.ensures in
     let Z = sized_known in
     let D = Z.parts_of g h in
-    right_there D (c.find_rest-x.ensures W s Q D.l D.l_at) c.if-x.false c.goes_right.ensures c.if-not-goes_right.false
-    (c.find_rest-y.ensures W s Q D.r D.r_at) c.if-y.true
+    right_there D W s _ _ (c.in-Err.ensures W s Q D.l D.l_at) c.goes_right.ensures c.if-not-goes_right.false (c.in-Ok-find_rest.ensures W s Q D.r D.r_at)
 
 pub returns : goal.returns
 returns t c W s Q g h =
@@ -121,6 +119,4 @@ returns t c W s Q g h =
     sized (point_stands c.requires.can_point) c.tag_at-tag.ensures c.if-tag-eq-GONE.false c.if-tag-eq-LEAF.false c.size_at.ensures in
     let Z = sized_known in
     let D = Z.parts_of g h in
-    neither_there D (c.find_rest-x.ensures W s Q D.l D.l_at) c.if-x.false c.goes_right.ensures c.if-not-goes_right.false
-    (c.find_rest-y.ensures W s Q D.r D.r_at) c.if-y.false
-    (passes c.passed-2.ensures)
+    neither_there D W s _ _ (c.in-Err.ensures W s Q D.l D.l_at) c.goes_right.ensures c.if-not-goes_right.false (c.in-Err-find_rest.ensures W s Q D.r D.r_at)

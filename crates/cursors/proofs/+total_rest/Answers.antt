@@ -4,7 +4,7 @@ use mathlib.Core.Path.{◌∙◌, sym, subst}
 use native.Mathlib.Omega.{arith}
 use Rattle.words.proofs.Standing.{gone_at, leaf_at, at_room}
 use Rattle.words.proofs.Reading.{holds_room, Construct, construct, Sized, sized}
-use Rattle.cursors.proofs.Ending.{final_reading, count_reading, far_reading, end_stands, end_leaf, end_set, end_left, end_right}
+use Rattle.cursors.proofs.Ending.{as_count, final_reading, count_reading, far_reading, end_stands, end_leaf, end_set, end_left, end_right}
 use Rattle.ends.specs.Ends.{Totalled}
 use Rattle.ends.proofs.Parts.{total_gone, total_leaf, totals_few, total_node}
 use Rattle.cursors.proofs.+total_rest.Goals as goal
@@ -33,8 +33,8 @@ returns-then-tag-eq-LEAF t c g h =
     let K = c.requires.can_end in
     let few = end_leaf K (leaf_at _ _ _ c.tag_at-tag.ensures K.rest K.at c.if-tag-eq-LEAF.true) c.record_at-n.ensures in
     total_leaf _ _ _ (leaf_at _ _ _ c.tag_at-tag.ensures g h c.if-tag-eq-LEAF.true) c.record_at-n.ensures
-    (count_reading c.args.table.now few c.one_if-count.ensures.0 c.enabled_in.ensures) c.one_if-count.ensures.1
-    (far_reading c.args.distances.now few (c.wide32-far.ensures.0 ∙ c.number_in.ensures)) c.wide32-far.ensures.1
+    (count_reading c.args.table.now few (c.from-count.ensures ∙ (as_count _).0) c.enabled_in.ensures) (omega (arith, c.from-count.ensures, as_count c.enabled_in.result))
+    (far_reading c.args.distances.now few c.value_in-far.ensures) (omega arith)
     (final_reading c.args.table.now few c.final_in.ensures) c.soon_of.ensures
 
 pub overflow_add-at : goal.overflow_add-at

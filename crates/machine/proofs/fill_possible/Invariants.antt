@@ -1,9 +1,5 @@
-use Prim.Native.Nat.{◌-◌, ◌≤◌}
 use Rattle.machine.specs.Told.{ActionsFilled}
 use Rattle.machine.proofs.fill_possible.Given as goal
 
 abbrev pub invariant-loop-a : goal.invariant-loop-a
-invariant-loop-a l = (l.a ≤ 64) × ActionsFilled l.fluents l.effects l.actions l.marks l.a l.initial.table l.table
-
-abbrev pub decreases-loop-a : goal.decreases-loop-a
-decreases-loop-a l = 64 - l.a
+invariant-loop-a l = ActionsFilled l.fluents l.effects l.actions l.marks l.a l.initial.table l.table

@@ -14,12 +14,12 @@ pub may_conflict-may-requires : goal.may_conflict-may-requires
 may_conflict-may-requires c = (search rules, performed_readable c.requires c.performed-performed.ensures)
 
 pub loop-a-init : goal.loop-a-init
-loop-a-init c = (omega arith, laid_none 0 _ _)
+loop-a-init c = laid_none 0 _ _
 
 pub loop-a-preserved : goal.loop-a-preserved
-loop-a-preserved c = (omega arith, laid_more 0 _ _ c.loop-a.invariant.1 (omega arith) (omega (arith, c.loop-a-test.true)) c.mark_of.ensures)
+loop-a-preserved c = laid_more 0 _ _ c.loop-a.invariant (omega arith) (omega (arith, c.loop-a-test.true)) c.mark_of.ensures
 
 pub returns : goal.returns
 returns c =
-    let e = le_antisymm c.loop-a.invariant.0 c.loop-a-test.false in
-    marks_known c.args.programs.now c.performed-performed.ensures c.may_conflict-may.ensures (rw e at c.loop-a.invariant.1) refl
+    let e = le_antisymm c.loop-a.auto.a-end c.loop-a-test.false in
+    marks_known c.args.programs.now c.performed-performed.ensures c.may_conflict-may.ensures (rw e at c.loop-a.invariant) refl

@@ -12,10 +12,10 @@ returns c =
     let numbers = c.args.numbers.now in
     let o = c.args.at in
     let n = length c.args.«from».now in
-    let new = c.copy_numbers.new.to in
-    let long = c.copy_numbers.auto.to ∙ window_at_long o (o + n) n numbers (omega arith) c.requires in
+    let new = c.copy_from_slice.new.self in
+    let long = c.copy_from_slice.auto.self ∙ window_at_long o (o + n) n numbers (omega arith) c.requires in
     record {
-      len = same_len_mid o (o + n - o) numbers new c.copy_numbers.auto.to;
-      here = window_put o (o + n) n numbers new (omega arith) c.requires long ∙ c.copy_numbers.ensures;
+      len = same_len_mid o (o + n - o) numbers new c.copy_from_slice.auto.self;
+      here = window_put o (o + n) n numbers new (omega arith) c.requires long ∙ c.copy_from_slice.ensures.after;
       only = only_put o (o + n) n numbers new (omega arith) c.requires long;
     }

@@ -1,4 +1,4 @@
-use Prim.Native.Nat.{ℕ, ◌-◌, ◌≤◌}
+use Prim.Native.Nat.{ℕ}
 use Rattle.records.specs.Records.{program_at}
 use Rattle.records.proofs.Fills.{Filled}
 use Rattle.remaining.specs.Extended.{extended}
@@ -6,7 +6,4 @@ use Rattle.positions.specs.Levels.{digits_at}
 use Rattle.positions.proofs.digits.Given as goal
 
 abbrev pub invariant-loop-i : goal.invariant-loop-i
-invariant-loop-i l = (l.i ≤ l.m) × Filled 0 (digits_at (extended l.interrupts (program_at l.programs) l.n) l.endable l.spans) (λ (d : ℕ). d) 260 l.digits l.i
-
-abbrev pub decreases-loop-i : goal.decreases-loop-i
-decreases-loop-i l = l.m - l.i
+invariant-loop-i l = Filled 0 (digits_at (extended l.interrupts (program_at l.programs) l.n) l.endable l.spans) (λ (d : ℕ). d) 260 l.digits l.i

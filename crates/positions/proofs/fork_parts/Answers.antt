@@ -13,5 +13,5 @@ returns c =
           fork_is c.args.r c.condition-h.result c.args.running c.args.d c.args.e c.args.k
           (member (set_at c.args.table.now (512 + c.args.r.a)) c.args.e)
           (member (set_at c.args.table.now (772 + c.args.r.a)) c.args.e) c.goes_a-a.ensures c.goes_b-b.ensures c.gap-by.ensures
-          c.beyond.ensures;
+          c.saturating_sub.ensures c.then_some.ensures c.then_some-2.ensures;
     }

@@ -12,7 +12,7 @@ pub fork_values-requires-clause-can_fork : goal.fork_values-requires-clause-can_
 fork_values-requires-clause-can_fork c =
     let C = c.requires.can_look in
     let is = c.record_at-r.ensures.record in
-    let d = c.wide32-d.ensures.0 ∙ c.number_in.ensures in
+    let d = c.value_in-d.ensures in
     can_fork C is d
 
 pub fork_values-requires-clause-n_bound : goal.fork_values-requires-clause-n_bound
@@ -20,16 +20,16 @@ fork_values-requires-clause-n_bound c =
     let C = c.requires.can_look in
     let is = c.record_at-r.ensures.record in
     let p : picks c.record_at-r.result.kind ≡ true = eq-eqb c.record_at-r.result.kind 12 c.if-r-eq-CHOICE.true in
-    let n = c.wide32-n.ensures.0 ∙ c.number_in-then-r-eq-CHOICE.ensures ∙ span_is C is p in
+    let n = c.value_in-n.ensures ∙ span_is C is p in
     can_choose C is p n
 
 pub returns-then-r-eq-CHOICE : goal.returns-then-r-eq-CHOICE
 returns-then-r-eq-CHOICE c =
     let C = c.requires.can_look in
     let is = c.record_at-r.ensures.record in
-    let d = c.wide32-d.ensures.0 ∙ c.number_in.ensures in
+    let d = c.value_in-d.ensures in
     let p : picks c.record_at-r.result.kind ≡ true = eq-eqb c.record_at-r.result.kind 12 c.if-r-eq-CHOICE.true in
-    let n = c.wide32-n.ensures.0 ∙ c.number_in-then-r-eq-CHOICE.ensures ∙ span_is C is p in
+    let n = c.value_in-n.ensures ∙ span_is C is p in
     record {
       record_is = c.fork_values.ensures.record_is ∙ is;
       fields = subst TwoBytes (sym c.fork_values.ensures.record_is) c.record_at-r.ensures.fields;
@@ -41,14 +41,14 @@ pub fork_parts-requires : goal.fork_parts-requires
 fork_parts-requires c =
     let C = c.requires.can_look in
     let is = c.record_at-r.ensures.record in
-    let d = c.wide32-d.ensures.0 ∙ c.number_in.ensures in
+    let d = c.value_in-d.ensures in
     can_fork C is d
 
 pub returns : goal.returns
 returns c =
     let C = c.requires.can_look in
     let is = c.record_at-r.ensures.record in
-    let d = c.wide32-d.ensures.0 ∙ c.number_in.ensures in
+    let d = c.value_in-d.ensures in
     let p : picks c.record_at-r.result.kind ≡ false = ne_eqb c.record_at-r.result.kind 12 c.if-r-eq-CHOICE.false in
     let same = parts_record c.fork_parts.ensures in
     record {
