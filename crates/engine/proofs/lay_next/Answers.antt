@@ -2,19 +2,15 @@
 use Rattle.std.proofs.Common.{arith}
 use Rattle.sheet.proofs.Parts.{in_order, programs_long}
 use Rattle.sheet.proofs.Found.{in_sheet}
-use Rattle.engine.proofs.Frames.{frame_by, next_inside}
+use Rattle.engine.proofs.Frames.{frame_by, small_by, next_inside}
 use Rattle.engine.proofs.Made.{asked, turned}
 use Rattle.engine.proofs.lay_next.Goals as goal
 
 pub overflow_mul-at : goal.overflow_mul-at
-overflow_mul-at c =
-    let F = c.requires.2.frame in
-    omega (arith, frame_by c.requires.0 c.args.d, F.roomy.inside, F.roomy.small)
+overflow_mul-at c = omega (arith, small_by c.requires.2.frame c.requires.0)
 
 pub overflow_add-at : goal.overflow_add-at
-overflow_add-at c =
-    let F = c.requires.2.frame in
-    omega (arith, frame_by c.requires.0 c.args.d, F.roomy.inside, F.roomy.small)
+overflow_add-at c = omega (arith, small_by c.requires.2.frame c.requires.0)
 
 pub slice_bounds-step_rest-count : goal.slice_bounds-step_rest-count
 slice_bounds-step_rest-count c = (in_order (in_sheet c.requires.0)).programs

@@ -29,9 +29,6 @@ skips-skips-requires c = programs_long _ _ (in_sheet c.requires.0)
 pub distances-distances-requires : goal.distances-distances-requires
 distances-distances-requires c = programs_long _ _ (in_sheet c.requires.0)
 
-pub may_conflict_of-listed-requires : goal.may_conflict_of-listed-requires
-may_conflict_of-listed-requires c = c.requires.0
-
 pub slice_bounds-copy_from_slice-end-2 : goal.slice_bounds-copy_from_slice-end-2
 slice_bounds-copy_from_slice-end-2 c =
     sym (length-take-le 260 c.args.flags.now (omega (arith, c.requires.1)))

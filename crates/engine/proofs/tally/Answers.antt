@@ -12,10 +12,6 @@ use Rattle.engine.proofs.Windows.{window_at, only_put, window_put}
 use Rattle.engine.proofs.Judging.{runs, many, tallyable, surveyed}
 use Rattle.engine.proofs.tally.Goals as goal
 
-pub conflicted_at-conflicted-requires : goal.conflicted_at-conflicted-requires
-conflicted_at-conflicted-requires c =
-    (c.requires.0, c.requires.1.prepared)
-
 pub slice_bounds-tallies-count-2 : goal.slice_bounds-tallies-count-2
 slice_bounds-tallies-count-2 c = (in_order (in_sheet c.requires.0)).programs
 
