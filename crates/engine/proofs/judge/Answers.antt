@@ -1,10 +1,7 @@
 -- Truths first, then the records that may be final, then those in doubt: the tables are those of the state. Assumes nothing.
-use Rattle.std.proofs.Common.{◌≡◌, ℕ, ◌+◌, ◌-◌, ◌≤◌, Bool, true, List, length, get_or, sym, refl, ap, ◌∙◌, subst, subst₂, arith, length-take-le}
+use Rattle.std.proofs.Common.{◌≡◌, ℕ, ◌+◌, ◌-◌, ◌≤◌, Bool, true, List, length, get_or, sym, refl, ap, ◌∙◌, subst, subst₂, arith, take, drop, length-take-le}
 use borrow.Rule.Slice.PartMut.{put_mid, same_len_mid}
-use Rattle.kinds.specs.Formulas.{LowerFormulas}
-use Rattle.sheet.specs.Layout.{formulas_in}
-use Rattle.sheet.specs.declared.Layout.{Layout}
-use Rattle.sheet.proofs.Lower.{lower_formulas}
+use lib.Seq.{paste, length-paste}
 use Rattle.leaves.specs.Endable.{FinalsKnown}
 use Rattle.engine.specs.Tables.{window, Only, endable_in, truths_from, finals_from, truths_at, finals_at}
 use Rattle.sheet.proofs.Parts.{in_order, formulas_long, programs_long}
@@ -12,7 +9,33 @@ use Rattle.sheet.proofs.Found.{in_sheet}
 use Rattle.engine.proofs.Tables.{truths_long, endable_kept}
 use Rattle.engine.proofs.Windows.{window_at, window_at_long, only_in, only_then, only_put, only_copied, window_copied, window_put, window_before}
 use Rattle.engine.proofs.Judging.{runs, many, runs_lower, runs_plain, formulas_plain, skips_by, truths_told, judged}
+use Rattle.engine.proofs.Named.{formulas_lower}
 use Rattle.engine.proofs.judge.Goals as goal
+
+-- what the formulas say was put at x, and behind it what may be final was copied
+record Put (x : ℕ) (flags said flags' : List Bool) : Type 0 where
+  len : length flags' ≡ length flags
+  only : Only x 772 flags flags'
+  truths : window x 512 flags' ≡ said
+  finals : window (x + 512) 260 flags' ≡ endable_in flags
+
+put :
+    (x : ℕ) (flags said : List Bool) {flags' : List Bool} → 260 ≤ x → x + 772 ≤ length flags → length said ≡ length (take (x + 512 - x) (drop x flags))
+    → flags' ≡ paste (put_mid x (x + 512 - x) flags said) (x + 512) (put_mid x (x + 512 - x) flags said) 260 → Put x flags said flags'
+put x flags said {flags'} low fits n e =
+    let flags₁ = put_mid x (x + 512 - x) flags said in
+    let long : length said ≡ 512 = n ∙ window_at_long x (x + 512) 512 flags (omega arith) (omega arith) in
+    let n₁ = same_len_mid x (x + 512 - x) flags said n in
+    let room : x + 512 + 260 ≤ length flags₁ = omega (arith, n₁) in
+    let n₂ = ap length e ∙ length-paste flags₁ (x + 512) flags₁ 260 room (omega arith) in
+    let K = only_put x (x + 512) 512 flags said (omega arith) (omega arith) long in
+    let C : Only (x + 512) 260 flags₁ flags' = subst (Only (x + 512) 260 flags₁) (sym e) (only_copied 260 (x + 512) flags₁ room) in
+    record {
+      len = n₂ ∙ n₁;
+      only = only_then (only_in (omega arith) (omega arith) K) (only_in (omega arith) (omega arith) C);
+      truths = window_before C n₂ x 512 (omega arith) (omega arith) ∙ window_put x (x + 512) 512 flags said (omega arith) (omega arith) long;
+      finals = ap (window (x + 512) 260) e ∙ window_copied 260 (x + 512) flags₁ room ∙ endable_kept low K;
+    }
 
 pub slice_bounds-fill_truths-count : goal.slice_bounds-fill_truths-count
 slice_bounds-fill_truths-count c = (in_order (in_sheet c.requires.0)).formulas
@@ -26,14 +49,12 @@ slice_bounds-fill_truths-end c = let o = in_order (in_sheet c.requires.0) in ome
 pub fill_truths-requires : goal.fill_truths-requires
 fill_truths-requires c =
     let O = c.requires.0 in
-    let s = c.args.s.now in
     let f = in_sheet O in
     let x = c.flags_from-from.result in
     let T = window_at x (truths_from c.args.d) (x + 512) 512 c.args.flags.now c.flags_from-from.ensures.0 (omega arith) in
-    let low = subst (λ (l : Layout). LowerFormulas (formulas_in s l) l.q) (sym O.layout_is) (lower_formulas s O.accepted) in
     record {
-      n_in_bounds = (formulas_long s _ f, omega (arith, f.q, ap length T, truths_long c.requires.1 c.args.d));
-      lower_formulas = (low, formulas_plain O);
+      n_in_bounds = (formulas_long _ _ f, omega (arith, f.q, ap length T, truths_long c.requires.1 c.args.d));
+      lower_formulas = (formulas_lower O, formulas_plain O);
     }
 
 pub slice_bounds-mark_finals-count : goal.slice_bounds-mark_finals-count
@@ -53,21 +74,13 @@ pub mark_finals-requires : goal.mark_finals-requires
 mark_finals-requires c =
     let O = c.requires.0 in
     let P = c.requires.1 in
-    let r = programs_long _ _ (in_sheet O) in
-    let flags = c.args.flags.now in
     let x = c.flags_from-from.result in
-    let fits : x + 772 ≤ length flags = omega (arith, c.flags_from-from.ensures.1, P.flags_long) in
-    let said = c.fill_truths.new.truths in
-    let long : length said ≡ 512 = c.fill_truths.auto.truths ∙ window_at_long x (x + 512) 512 flags (omega arith) (omega arith) in
-    let first = only_put x (x + 512) 512 flags said (omega arith) (omega arith) long in
-    let n₁ = same_len_mid x (x + 512 - x) flags said c.fill_truths.auto.truths in
-    let copied = window_copied 260 (x + 512) (put_mid x (x + 512 - x) flags said) (omega (arith, n₁)) in
-    let finals = ap (window (x + 512) 260) c.copy_within.ensures.after ∙ copied ∙ endable_kept (omega (arith, c.flags_from-from.ensures.0)) first in
-    let n = c.copy_within.ensures.len ∙ n₁ in
+    let b : x + 772 ≤ length c.args.flags.now = omega (arith, c.flags_from-from.ensures.1, P.flags_long) in
+    let F = put x c.args.flags.now c.fill_truths.new.truths (omega (arith, c.flags_from-from.ensures.0)) b c.fill_truths.auto.truths c.copy_within.ensures.after in
     record {
-      program_table = (r, omega (arith, n));
+      program_table = (programs_long _ _ (in_sheet O), omega (arith, F.len));
       all_lower = (runs_lower O, runs_plain O);
-      skips = skips_by O P _ _ finals refl;
+      skips = skips_by O P _ _ F.finals refl;
     }
 
 pub returns : goal.returns
@@ -76,37 +89,25 @@ returns c =
     let P = c.requires.1 in
     let d = c.args.d in
     let st = c.args.st in
+    let l = c.args.found.layout in
+    let b = c.args.found.interrupts in
     let flags = c.args.flags.now in
+    let flags₃ = c.mark_finals.new.flags in
     let x = c.flags_from-from.result in
     let ex = c.flags_from-from.ensures.0 in
     let fits : x + 772 ≤ length flags = omega (arith, c.flags_from-from.ensures.1, P.flags_long) in
-    let said = c.fill_truths.new.truths in
-    let long : length said ≡ 512 = c.fill_truths.auto.truths ∙ window_at_long x (x + 512) 512 flags (omega arith) (omega arith) in
-    let flags₁ = put_mid x (x + 512 - x) flags said in
-    let flags₂ = c.copy_within.new.self in
-    let flags₃ = c.mark_finals.new.flags in
-    let n₁ = same_len_mid x (x + 512 - x) flags said c.fill_truths.auto.truths in
-    let n₂ = c.copy_within.ensures.len in
-    let n₃ = c.mark_finals.auto.flags in
-    let K₁ = only_put x (x + 512) 512 flags said (omega arith) (omega arith) long in
-    let after = c.copy_within.ensures.after in
-    let S : Only (x + 512) 260 flags₁ flags₂ = subst (Only (x + 512) 260 flags₁) (sym after) (only_copied 260 (x + 512) flags₁ (omega (arith, n₁))) in
-    let copied = ap (window (x + 512) 260) after ∙ window_copied 260 (x + 512) flags₁ (omega (arith, n₁)) in
+    let F = put x flags c.fill_truths.new.truths (omega (arith, ex)) fits c.fill_truths.auto.truths c.copy_within.ensures.after in
+    let n = c.mark_finals.auto.flags in
     let M = c.mark_finals.ensures in
     let K : Only (truths_from d) 772 flags flags₃ =
-    subst (λ (o : ℕ). Only o 772 flags flags₃) ex
-    (only_then (only_in (omega arith) (omega arith) K₁) (only_then (only_in (omega arith) (omega arith) S) (only_in (omega arith) (omega arith) M.written))) in
-    let finals : (l : List Bool) → window (x + 512) 260 l ≡ finals_at d l = λ l. let e : x + 512 ≡ finals_from d = omega arith in ap (λ (o : ℕ). window o 260 l) e in
-    let truths : (l : List Bool) → window x 512 l ≡ truths_at d l = λ l. ap (λ (o : ℕ). window o 512 l) ex in
-    let same = window_before M.written n₃ x 512 (omega arith) (omega (arith, n₁, n₂)) ∙ window_before S n₂ x 512 (omega arith) (omega (arith, n₁)) in
-    let told = sym (truths flags₃) ∙ same ∙ window_put x (x + 512) 512 flags said (omega arith) (omega arith) long ∙ c.fill_truths.ensures in
-    let before : endable_in flags₁ ≡ endable_in flags = endable_kept (omega arith) K₁ in
+    subst (λ (o : ℕ). Only o 772 flags flags₃) ex (only_then F.only (only_in (omega arith) (omega arith) M.written)) in
+    let truths : window x 512 flags₃ ≡ truths_at d flags₃ = ap (λ (o : ℕ). window o 512 flags₃) ex in
+    let finals : window (x + 512) 260 flags₃ ≡ finals_at d flags₃ = let e : x + 512 ≡ finals_from d = omega arith in ap (λ (o : ℕ). window o 260 flags₃) e in
+    let told = sym truths ∙ window_before M.written n x 512 (omega arith) (omega (arith, F.len)) ∙ F.truths ∙ c.fill_truths.ensures in
     record {
-      tables = judged O P st d flags₃ (n₃ ∙ n₂ ∙ n₁) K
+      tables = judged O P st d flags₃ (n ∙ F.len) K
           (truths_told O st _ told)
-          (subst₂ (λ (t f : List Bool). FinalsKnown (runs c.args.s.now c.args.found.layout c.args.found.interrupts)
-          (many c.args.found.layout c.args.found.interrupts) t st.running f)
-          (truths flags₃) (finals flags₃) M.finals)
-          (λ i l. ap (λ (y : List Bool). get_or y i true) (sym (finals flags₃)) ∙ M.behind i l ∙ ap (λ (y : List Bool). get_or y i true) (copied ∙ before));
+          (subst₂ (λ (t f : List Bool). FinalsKnown (runs c.args.s.now l b) (many l b) t st.running f) truths finals M.finals)
+          (λ i h. ap (λ (y : List Bool). get_or y i true) (sym finals) ∙ M.behind i h ∙ ap (λ (y : List Bool). get_or y i true) F.finals);
       written = K;
     }

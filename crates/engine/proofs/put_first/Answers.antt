@@ -1,5 +1,5 @@
 -- The node written is the record that runs, and the frame has room by document 01's figure. Assumes nothing.
-use Rattle.std.proofs.Common.{ℕ, Bool, ◌∙◌, subst, ap₂, arith, rules}
+use Rattle.std.proofs.Common.{ℕ, Bool, ◌∙◌, subst, ap₂, arith}
 use Rattle.sheet.specs.declared.Layout.{Layout}
 use Rattle.remaining.specs.Rest.{leaf}
 use Rattle.remaining.specs.Extended.{top}
@@ -11,11 +11,6 @@ use Rattle.engine.proofs.put_first.Goals as goal
 
 pub top_of-requires : goal.top_of-requires
 top_of-requires c = let f = in_sheet c.requires.0 in (f.some_record, f.p)
-
-pub put_node-requires : goal.put_node-requires
-put_node-requires c =
-    let long = work_long c.args.s.now c.args.work.now (c.requires.1 ∙ c.requires.0.words_are) in
-    search rules
 
 pub returns : goal.returns
 returns c =
