@@ -1,6 +1,6 @@
 -- Room: where a frame has room for one transition more, there is room for what it leaves in the next frame, and that has room for one
 -- fewer. What stands in a frame stays while only later frames are written. Assumes nothing.
-use Rattle.std.proofs.Common.{◌≡◌, ℕ, suc, ◌+◌, ◌*◌, ◌<◌, ◌≤◌, Bool, true, false, List, length, sym, refl, ap, ◌∙◌, subst, mul_comm, add-mul, mul-le-mul, one-mul, zero-mul, mul-suc, arith}
+use Rattle.std.proofs.Common.{◌≡◌, ℕ, suc, ◌+◌, ◌*◌, ◌^◌, ◌<◌, ◌≤◌, Bool, true, false, List, length, sym, refl, ap, ◌∙◌, subst, mul_comm, add-mul, mul-le-mul, one-mul, zero-mul, mul-suc, arith}
 use mathlib.Core.List.{Memᴰ}
 use Rattle.height.specs.Work.{header, levels, work_words}
 use Rattle.records.proofs.Truth.{part_few}
@@ -46,8 +46,16 @@ module _ {s w : List ℕ} {left d : ℕ} {p : Prog} (F : Frame s left w d p) whe
   pub in_frame : (nodes_at s d + 3 * nodes F.rest ≤ frame_at s d + frame_of s) × (frame_at s d + frame_of s ≤ length w)
   in_frame = let r = F.roomy in (omega (arith, r.large), omega (arith, r.inside))
 
-  pub frame_holds : Stands w (nodes_at s d)
-  frame_holds = record { rest = F.rest; at = F.words_are }
+  -- where its nodes begin, as it is computed
+  module _ {m : Inspection} (O : Of s m) where
+    pub small_by : d * m.frame + header < 2 ^ 32
+    small_by = omega (arith, frame_by O d, F.roomy.inside, F.roomy.small)
+
+    pub at_by : At F.rest w (d * m.frame + header)
+    at_by = subst (λ (o : ℕ). At F.rest w (o + header)) (sym (frame_by O d)) F.words_are
+
+    pub stands_by : Stands w (d * m.frame + header)
+    stands_by = record { rest = F.rest; at = at_by }
 
   -- words of later frames do not matter
   pub frame_kept : (w' : List ℕ) → KeptFrames s d w w' → Frame s left w' d p

@@ -1,5 +1,5 @@
 -- Tables that were filled by one pass over the sheet's records are those of the sheet, and of a state. Assumes nothing.
-use Rattle.std.proofs.Common.{◌≡◌, ℕ, ◌-◌, ◌≤◌, Bool, true, List, map, length, get_or, drop, replicate, sym, ap, ◌∙◌, subst, arith, length-drop, get_or-drop, ext_get_or}
+use Rattle.std.proofs.Common.{◌≡◌, ℕ, ◌-◌, ◌≤◌, Bool, true, List, map, length, get_or, drop, replicate, sym, refl, ap, ◌∙◌, subst, arith, length-drop, get_or-drop, ext_get_or}
 use lib.ListN.{length-replicate, get_or-eq_default, length-map}
 use Rattle.records.specs.declared.Program.{Program}
 use Rattle.records.specs.Table.{up_to}
@@ -33,7 +33,8 @@ use Rattle.sheet.specs.declared.Inspection.{Inspection}
 use Rattle.sheet.proofs.Found.{by_found, of_found}
 use Rattle.engine.proofs.Actions.{acts_read}
 use Rattle.engine.proofs.Seen.{sees_possible, sees}
-use Rattle.engine.proofs.Tables.{finals_long, counts_long, endable_kept, skips_kept, distances_kept, may_conflict_kept, none_by}
+use Rattle.engine.proofs.Tables.{finals_long, counts_long, prepared_again, none_by}
+use Rattle.engine.proofs.Windows.{only_same}
 
 -- the table that runs and its number of records, by the names of a layout
 abbrev pub runs : List ℕ → Layout → (interrupts : Bool) → ℕ → Program
@@ -104,18 +105,6 @@ module _ {s : List ℕ} {m : Inspection} (O : Of s m) where
         (subst (λ (x : List Bool). Skips (extended_records s) (extended_size_of s) x skips) (sym e)
         (subst (Skips (extended_records s) (extended_size_of s) (endable_in flags)) (sym k) P.skipping))
 
-    -- what is told of the sheet stands while only tables of a state are filled
-    prepared_kept : (flags' : List Bool) → length flags' ≡ length flags → endable_in flags' ≡ endable_in flags → Prepared s flags' numbers
-    prepared_kept flags' n e = record {
-      flags_long = n ∙ P.flags_long;
-      numbers_long = P.numbers_long;
-      none_final = λ i l. ap (λ (x : List Bool). get_or x i true) e ∙ P.none_final i l;
-      none_counted = P.none_counted;
-      skipping = subst (λ (x : List Bool). Skips (extended_records s) (extended_size_of s) x (skips_in numbers)) (sym e) P.skipping;
-      distances = P.distances;
-      may_conflict = P.may_conflict;
-    }
-
     -- told of a state
     pub judged :
         (st : State) (d : ℕ) (flags' : List Bool) → length flags' ≡ length flags → Only (truths_from d) 772 flags flags'
@@ -125,7 +114,7 @@ module _ {s : List ℕ} {m : Inspection} (O : Of s m) where
         → Judged s st d flags' numbers
     judged st d flags' n K H D A =
         let W = world_of s in
-        let Q = prepared_kept flags' n (endable_kept (omega arith) K) in
+        let Q = prepared_again P {o = truths_from d} {n = 772} (omega arith) K n {p = 586} {m = 0} (omega arith) (only_same numbers) refl P.none_counted in
         let D₂ = of_found O (λ (l : Layout) (b : Bool). FinalsKnown (runs s l b) (many l b) (truths_at d flags') st.running (finals_at d flags')) D in
         let A₂ = of_found O (λ (l : Layout) (b : Bool). (i : ℕ) → many l b ≤ i → get_or (finals_at d flags') i true ≡ get_or (endable_in flags) i true) A in
         let F = D₂ W st _ (sees_possible s O.accepted st (truths_at d flags') H) in
@@ -174,16 +163,7 @@ module _ {s : List ℕ} {m : Inspection} (O : Of s m) where
         let c = T₂ W st S ∙ counts_whole W st (extended_records s) (extended_size_of s) (counts_at d numbers) nil_counts in
         let here : (i : ℕ) → extended_size_of s ≤ i → get_or (counts_at d numbers') i 0 ≡ 0 = λ i l. ap (λ (x : List ℕ). get_or x i 0) c ∙ counts_after i l in
         record {
-          prepared =
-              record {
-                flags_long = P.flags_long;
-                numbers_long = n ∙ P.numbers_long;
-                none_final = P.none_final;
-                none_counted = λ e i l. none_by d e i P.numbers_long K n (P.none_counted e i l) (here i l);
-                skipping = subst (Skips (extended_records s) (extended_size_of s) (endable_in flags)) (sym (skips_kept (omega arith) K)) P.skipping;
-                distances = subst (Distances (extended_records s) (extended_size_of s)) (sym (distances_kept (omega arith) K n (omega (arith, P.numbers_long)))) P.distances;
-                may_conflict = subst (ListsMayConflict s) (sym (may_conflict_kept (omega arith) K n (omega (arith, P.numbers_long)))) P.may_conflict;
-              };
+          prepared = prepared_again P {o = 260} {n = 0} (omega arith) (only_same flags) refl (omega arith) K n (λ e i l. none_by d e i P.numbers_long K n (P.none_counted e i l) (here i l));
           truths_are = J.truths_are;
           tabled =
               record {

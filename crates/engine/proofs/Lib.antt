@@ -3,7 +3,6 @@ pub mod Actions
 pub mod Seen
 pub mod Conflicting
 pub mod Moves
-pub mod Copied
 pub mod Windows
 pub mod Tables
 pub mod Frames

@@ -1,16 +1,16 @@
 -- The tables are as long as they are read, and writing in one of them leaves the others: those of another depth too, unless it is as many
 -- deeper as there are sets. Assumes nothing.
-use Rattle.std.proofs.Common.{◌≡◌, ℕ, ◌+◌, ◌*◌, ◌<◌, ◌≤◌, Bool, List, length, get_or, replicate, sym, refl, ap, ◌∙◌, subst, mul-le-mul_left, mul-suc, arith}
+use Rattle.std.proofs.Common.{◌≡◌, ℕ, ◌+◌, ◌*◌, ◌<◌, ◌≤◌, Bool, true, List, length, get_or, replicate, sym, refl, ap, ◌∙◌, subst, mul-le-mul_left, mul-suc, arith}
 use native.Mathlib.Decide.{ℕ_discrete, dec_lt}
 use Rattle.records.proofs.Fills.{get_d_same}
 use Rattle.sheet.specs.Layout.{layout_of}
 use Rattle.golog.specs.declared.State.{State}
 use Rattle.demands.specs.Decoded.{world_of}
 use Rattle.state.specs.Truths.{AreTruths}
-use Rattle.engine.specs.Tables.{window, Only, set_of, endable_in, truths_from, finals_from, truths_at}
+use Rattle.engine.specs.Tables.{window, Only, set_of, extended_size_of, endable_in, truths_from, finals_from, truths_at}
 use Rattle.engine.specs.Tables.{finals_at, skips_in, distances_in, may_conflict_in, number_places, surveys_at, counts_from, counts_at}
 use Rattle.engine.specs.Tables.{ListsMayConflict, Prepared, Surveyed, SameTables, Filled}
-use Rattle.engine.proofs.Windows.{window_long, earlier, window_before, window_behind}
+use Rattle.engine.proofs.Windows.{window_long, earlier, only_same, window_before, window_behind}
 
 module _ {s : List ℕ} {flags : List Bool} {numbers : List ℕ} (P : Prepared s flags numbers) where
   pub truths_long : (d : ℕ) → length (truths_at d flags) ≡ 512
@@ -40,6 +40,22 @@ distances_kept h P n l = window_before P n 261 260 h l
 pub may_conflict_kept : {numbers numbers' : List ℕ} {o n : ℕ} → 586 ≤ o → Only o n numbers numbers' → length numbers' ≡ length numbers → 521 ≤ length numbers
     → may_conflict_in numbers' ≡ may_conflict_in numbers
 may_conflict_kept h P n l = window_before P n 521 65 h l
+
+-- what is told of the sheet stands while only tables of states are filled
+pub prepared_again :
+    {s : List ℕ} {flags flags' : List Bool} {numbers numbers' : List ℕ} → Prepared s flags numbers
+    → {o n : ℕ} → 260 ≤ o → Only o n flags flags' → length flags' ≡ length flags
+    → {p m : ℕ} → 586 ≤ p → Only p m numbers numbers' → length numbers' ≡ length numbers
+    → ((d i : ℕ) → extended_size_of s ≤ i → get_or (counts_at d numbers') i 0 ≡ 0) → Prepared s flags' numbers'
+prepared_again {s} P low F f above N n none = record {
+  flags_long = f ∙ P.flags_long;
+  numbers_long = n ∙ P.numbers_long;
+  none_final = λ i h. ap (λ (x : List Bool). get_or x i true) (endable_kept low F) ∙ P.none_final i h;
+  none_counted = none;
+  skipping = rw (endable_kept low F, skips_kept (omega arith) N) P.skipping;
+  distances = rw (distances_kept (omega arith) N n (omega (arith, P.numbers_long))) P.distances;
+  may_conflict = subst (ListsMayConflict s) (sym (may_conflict_kept above N n (omega (arith, P.numbers_long)))) P.may_conflict;
+}
 
 -- depths less than eight apart have sets of their own
 apart : (d e : ℕ) → d < e → e < d + 8 → ¬ (set_of d ≡ set_of e)
@@ -97,16 +113,8 @@ module _ {numbers numbers' : List ℕ} (N : Only surveys_at 1 numbers numbers') 
   counted_same d = record { same_truths = refl; same_finals = refl; same_counts = window_before N n (counts_from d) 260 (omega arith) (omega arith) }
 
   counted_prepared : {s : List ℕ} {flags : List Bool} → Prepared s flags numbers → Prepared s flags numbers'
-  counted_prepared {s} {flags} P =
-      record {
-        flags_long = P.flags_long;
-        numbers_long = n ∙ l;
-        none_final = P.none_final;
-        none_counted = λ d i h. ap (λ (x : List ℕ). get_or x i 0) (counted_same {flags = flags} d).same_counts ∙ P.none_counted d i h;
-        skipping = rw (skips_kept (omega arith) N) P.skipping;
-        distances = rw (distances_kept (omega arith) N n (omega arith)) P.distances;
-        may_conflict = subst (ListsMayConflict s) (sym (may_conflict_kept (omega arith) N n (omega arith))) P.may_conflict;
-      }
+  counted_prepared {flags = flags} P = prepared_again P {o = 260} {n = 0} (omega arith) (only_same flags) refl (omega arith) N n
+      (λ d i h. ap (λ (x : List ℕ). get_or x i 0) (counted_same {flags = flags} d).same_counts ∙ P.none_counted d i h)
 
   pub counted : {s : List ℕ} {st : State} {d : ℕ} {flags : List Bool} → Surveyed s st d flags numbers → Surveyed s st d flags numbers'
   counted {d = d} S = stands S (counted_prepared S.prepared) (counted_same d)

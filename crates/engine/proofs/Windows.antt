@@ -95,10 +95,6 @@ window_same v o n l h i = go (dec_lt i n)
     go (yes k) = get_or-take n (drop o l) i v k ∙ get_or-drop o l i v ∙ h (o + i)
     go (no k) = get_or-eq_default (window o n l) v (omega (arith, length-take n (drop o l)))
 
--- a place in front of what was written
-pub read_before : {A : Type 0} {o n : ℕ} {l l' : List A} (v : A) → Only o n l l' → (k : ℕ) → k < o → get_or l' k v ≡ get_or l k v
-read_before {A} {o} {n} {l} {l'} v P k h = sym (get_or-take o l' k v h) ∙ ap (λ (x : List A). get_or x k v) P.before ∙ get_or-take o l k v h
-
 -- the front was written
 pub only_front : {A : Type 0} (n : ℕ) (l x : List A) → length x ≡ n → Only 0 n l (x ++ drop n l)
 only_front {A} n l x h = record { before = refl; behind = ap (λ (i : ℕ). drop i (x ++ drop n l)) (zero-add n) ∙ drop_at x (drop n l) n h ∙ ap (λ (i : ℕ). drop i l) (sym (zero-add n)) }

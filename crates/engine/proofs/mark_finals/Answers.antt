@@ -15,13 +15,6 @@ loop-i-init c =
     let skip = c.value_in-i.ensures in
     (refl, refl, only_same _, λ a h. refl, λ W s can S. rw (skip, e) (first c.requires.skips))
 
-pub final_by-f-requires : goal.final_by-f-requires
-final_by-f-requires c = omega (arith, c.loop-i.invariant.1)
-
-pub bounds-flags-to : goal.bounds-flags-to
-bounds-flags-to c =
-    omega (arith, c.loop-i.invariant.0, c.loop-i.invariant.1)
-
 pub loop-i-smaller : goal.loop-i-smaller
 loop-i-smaller c =
     let e = c.places_of-size.ensures.0 in
@@ -54,9 +47,6 @@ loop-i-preserved c =
           (rw c.record_at-r.ensures.record at by)),
     )
 
-pub shape_of-flags : goal.shape_of-flags
-shape_of-flags c = c.loop-i.invariant.1
-
 pub returns-clause-finals : goal.returns-clause-finals
 returns-clause-finals c =
     let v = c.loop-i.invariant in
@@ -65,13 +55,3 @@ returns-clause-finals c =
     let D : FinalsKnown _ _ (window at 512 c.args.flags.now) _ (window (at + 512) 260 c.loop-i.flags) =
     λ W s can S i h. (v.4 W s can S).right i (omega (arith, c.places_of-size.ensures.0)) h in
     rw same D
-
-pub returns-clause-written : goal.returns-clause-written
-returns-clause-written c =
-    let v = c.loop-i.invariant in
-    v.2
-
-pub returns-clause-behind : goal.returns-clause-behind
-returns-clause-behind c =
-    let v = c.loop-i.invariant in
-    v.3
