@@ -1,31 +1,12 @@
 -- The constructs around what a transition leaves, and which transition that is: a tag is 0 or that of a construct, a sibling is the
 -- record itself or a part that its kind has, and a record with a transition of its own has no other. Assumes nothing.
 use Rattle.std.proofs.lemmas.Grind.{common_steps}
-use mathlib.Core.Path.{◌≡◌, refl, ◌∙◌, ap}
-use mathlib.Core.Bool.{Bool, true, false, ◌&&◌, ◌||◌}
-use Prim.Native.Nat.{ℕ, zero, suc, ◌≤◌}
+use mathlib.Core.Path.{◌≡◌}
+use mathlib.Core.Bool.{Bool, true, false, ◌||◌}
+use Prim.Native.Nat.{ℕ, ◌≤◌}
 use native.Mathlib.Omega.{arith}
-use lib.Dec.{T, eqb, leb}
-use Rattle.kinds.specs.declared.programs.Field.{Field}
-use Rattle.kinds.specs.declared.programs.Field.TheVariants.{Unused, Action, Formula, Record, Choices, Placeholder}
-use Rattle.kinds.specs.Programs.{field_a, field_b, is_record, has_a, has_b, has_condition, own_by, own_of, has_own, uses_a, uses_b, tag_a, loops, tag_b}
-use Rattle.kinds.proofs.ProgramKinds.{by_kind}
-use Rattle.kinds.proofs.Reading.{uses_a_reads, uses_b_reads}
-
--- 0, or at least 3
-abbrev is_tag : ℕ → Bool
-is_tag t = eqb t 0 || leb 3 t
-
-three : (t : ℕ) → T (is_tag t) → (t ≡ 0 → ⊥) → 3 ≤ t
-three t h n = grind (arith, common_steps)
-
-tags_a : (kind : ℕ) → T (is_tag (tag_a kind))
-unfolding tag_a
-tags_a kind = grind (arith, common_steps)
-
-tags_b : (kind : ℕ) → T (is_tag (tag_b kind))
-unfolding tag_b
-tags_b kind = grind (arith, common_steps)
+use lib.Dec.{T, eqb}
+use Rattle.kinds.specs.Programs.{field_a, field_b, has_a, has_b, own_of, has_own, uses_a, uses_b, tag_a, loops, tag_b}
 
 pub construct_a : (kind : ℕ) {tag : ℕ} → tag ≡ tag_a kind → (tag ≡ 0 → ⊥) → 3 ≤ tag
 unfolding tag_a
@@ -43,14 +24,6 @@ sibling_a_lem kind = grind (arith, common_steps)
 pub sibling_b : (kind : ℕ) → T (eqb (tag_b kind) 0 || has_a kind)
 unfolding tag_b field_a
 sibling_b kind = grind (arith, common_steps)
-
--- an action or a test is no part
-own_no_a : (f : Field) → own_by f true true ≡ true → is_record f ≡ false
-own_no_a f e = grind (arith, common_steps)
-
-own_no_b : (kind : ℕ) → has_own kind ≡ true → has_b kind ≡ false
-unfolding field_a field_b
-own_no_b kind e = grind (arith, common_steps)
 
 -- a record with a transition of its own uses no part, and another has none of its own
 module _ (kind : ℕ) where

@@ -1,20 +1,19 @@
 -- The fields of a formula by their roles. A test decides each role; a formula whose kind is known and whose fields keep their roles keeps
 -- document 01's rule, and conversely, kind by kind. So formulas of an accepted sheet name lower ones. Assumes nothing.
 use Rattle.std.proofs.lemmas.Grind.{common_steps}
-use mathlib.Core.Path.{◌≡◌, refl}
+use mathlib.Core.Path.{◌≡◌}
 use mathlib.Core.Bool.{true}
-use mathlib.Core.Logic.{inl, inr, ⊎_elim, ◌↔◌}
+use mathlib.Core.Logic.{◌↔◌}
 use Prim.Native.Nat.{ℕ, ◌≤◌, ◌<◌}
 use native.Mathlib.Omega.{arith}
-use borrow.Author.Tests.{eqb-true, ltb-true, leb-true, eq-eqb, lt-ltb, le-leb}
-use lib.Dec.{T, ltb, leb}
+use borrow.Author.Tests.{leb-true, le-leb}
 use Rattle.records.specs.declared.Formula.{Formula}
-use Rattle.records.proofs.Truth.{and_four, and_both, and_exactly}
+use Rattle.records.proofs.Truth.{and_four, and_both}
 use Rattle.kinds.specs.declared.formulas.Field.{Field}
 use Rattle.kinds.specs.declared.formulas.Field.TheVariants.{Unused, Fluent, Value, Limit, Lower, Placeholder, Choices}
 use Rattle.kinds.specs.Rules.{FormulaRule}
-use Rattle.kinds.specs.Formulas.{field_x, field_a, field_b, field_ok, formula_ok, is_lower, PartsLower}
-use Rattle.kinds.proofs.FormulaKinds.{by_kind, formula_of}
+use Rattle.kinds.specs.Formulas.{field_x, field_a, field_b, field_ok, formula_ok, PartsLower}
+use Rattle.kinds.proofs.FormulaKinds.{formula_of}
 
 module _ (nf size i : ℕ) where
   -- a field keeps its role, as a statement
@@ -59,9 +58,6 @@ module _ (nf size i : ℕ) where
       λ f. and_both _ _ (and_both _ _ (and_both _ _ (le-leb _ _ f.known) (x_exactly.1 f.x)) (a_exactly.1 f.a)) (b_exactly.1 f.b),
     )
 
-    of_kind : (k : ℕ) → k ≤ 7 → r.kind ≡ k → FieldRule (field_x k) r.x → FieldRule (field_a k) r.a → FieldRule (field_b k) r.b → Fields r
-    of_kind k l e p q s = record { known = omega arith; x = rw e p; a = rw e q; b = rw e s }
-
     fields_of : FormulaRule nf size i r → Fields r
     unfolding field_x field_a field_b
     fields_of h = record { known = grind (arith, common_steps); x = grind (arith, common_steps); a = grind (arith, common_steps); b = grind (arith, common_steps) }
@@ -72,9 +68,7 @@ module _ (nf size i : ℕ) where
       λ h. fields_exactly.1 (fields_of h),
     )
 
-    lower_below : (f : Field) {x : ℕ} → FieldRule f x → T (is_lower f) → x < i
-    lower_below f k t = grind (arith, common_steps)
-
     -- a formula that keeps its rule names lower ones
     pub parts_lower : FormulaRule nf size i r → PartsLower i r
-    parts_lower h = let f = fields_of h in (lower_below (field_a r.kind) f.a, lower_below (field_b r.kind) f.b)
+    unfolding field_x field_a field_b
+    parts_lower h = (λ t. grind (arith, common_steps), λ t. grind (arith, common_steps))

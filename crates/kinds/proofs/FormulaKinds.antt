@@ -1,14 +1,13 @@
 -- What holds of each of the kinds 0 to 10, and of those past them, holds of every kind of formula. Assumes nothing.
 use native.Mathlib.Omega.{arith}
 use Rattle.std.proofs.lemmas.Grind.{common_steps}
-use mathlib.Core.Path.{◌≡◌, refl}
+use mathlib.Core.Path.{◌≡◌}
 use Prim.Native.Nat.{ℕ, zero, suc}
 use Rattle.std.specs.Bool.{⊤}
 use Rattle.std.specs.Option.{MatchOption}
 use Rattle.std.specs.Prelude.{Some}
 use Rattle.records.specs.declared.Formula.{Formula}
 use Rattle.kinds.specs.declared.formulas.Kind.{Kind}
-use Rattle.kinds.specs.declared.formulas.Kind.TheVariants.{True, False, HasValue, LessThan, EqualValues, Not, And, Or, EqualsPlaceholder, ForSome, ForEvery}
 use Rattle.kinds.specs.Formulas.{kind_of, number_of}
 
 abbrev past : ℕ → ℕ

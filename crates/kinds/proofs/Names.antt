@@ -27,13 +27,6 @@ bit_is x = go (ltb x set_bits) refl
     go false e = sym (mask_past x 32 (ltb-false x 32 e))
 
 module _ (x a b : ℕ) where
-  set_parts :
-      (l m : List ℕ) (kind : ℕ)
-      → (T (has_a kind) → get_or l a 0 ≡ get_or m a 0) → (T (has_b kind) → get_or l b 0 ≡ get_or m b 0)
-      → set_of (formula_of kind x a b) l ≡ set_of (formula_of kind x a b) m
-  unfolding set_of field_a field_b
-  set_parts l m kind p q = grind (arith, common_steps)
-
   module _ (lower : ℕ → List Bool) (sets : List ℕ) where
     -- the set of lower formula i is that of what it names
     abbrev Lower : ℕ → Type 0
@@ -57,7 +50,8 @@ module _ (x a b : ℕ) where
 
 module _ (i : ℕ) (r : Formula) (low : PartsLower i r) where
   pub set_same : (l m : List ℕ) → ((a : ℕ) → a < i → get_or l a 0 ≡ get_or m a 0) → set_of r l ≡ set_of r m
-  set_same l m h = set_parts r.x r.a r.b l m r.kind (λ t. h r.a (low.0 t)) (λ t. h r.b (low.1 t))
+  unfolding set_of field_a field_b
+  set_same l m h = grind (arith, common_steps)
 
   pub set_is : (lower : ℕ → List Bool) (sets : List ℕ)
       → ((a : ℕ) → a < i → get_or sets a 0 ≡ mask_of (λ (x : ℕ). get_or (lower x) a false) 32)

@@ -9,15 +9,15 @@ use mathlib.Core.List.{List, [], Memᴰ}
 use mathlib.Core.Logic.{◌⊎◌, inl, inr, ⊎_elim, ◌↔◌}
 use Prim.Native.Nat.{ℕ, ◌≤◌, ◌<◌}
 use native.Mathlib.Omega.{arith}
-use borrow.Author.Tests.{eqb-true, ltb-true, leb-true, eq-eqb, lt-ltb, le-leb}
-use lib.Dec.{T, ltb, leb}
+use borrow.Author.Tests.{leb-true, le-leb}
+use lib.Dec.{T}
 use Rattle.records.specs.declared.Program.{Program}
-use Rattle.records.proofs.Truth.{and_four, and_both, and_exactly}
+use Rattle.records.proofs.Truth.{and_four, and_both}
 use Rattle.kinds.specs.declared.programs.Field.{Field}
 use Rattle.kinds.specs.declared.programs.Field.TheVariants.{Unused, Action, Formula, Record, Choices, Placeholder}
-use Rattle.kinds.specs.Rules.{ProgramRule, TwoParts, OnePart, PartB, Link}
+use Rattle.kinds.specs.Rules.{ProgramRule, Link}
 use Rattle.kinds.specs.Programs.{field_a, field_b, field_c, field_ok, program_ok, is_action, is_formula, is_record, has_a, has_b, link_if, links}
-use Rattle.kinds.proofs.ProgramKinds.{by_kind, record_of}
+use Rattle.kinds.proofs.ProgramKinds.{record_of}
 
 module _ (nq na i : ℕ) where
   -- a field keeps its role, as a statement
@@ -71,9 +71,6 @@ module _ (nq na i : ℕ) where
       λ f. and_both _ _ (and_both _ _ (and_both _ _ (le-leb _ _ f.known) (a_exactly.1 f.a)) (b_exactly.1 f.b)) (c_exactly.1 f.c),
     )
 
-    of_kind : (k : ℕ) → k ≤ 11 → r.kind ≡ k → FieldRule (field_a k) r.a → FieldRule (field_b k) r.b → FieldRule (field_c k) r.c → Fields r
-    of_kind k l e p q s = record { known = omega arith; a = rw e p; b = rw e q; c = rw e s }
-
     fields_of : ProgramRule nq na i r → Fields r
     unfolding field_a field_b field_c
     fields_of h = record { known = grind (arith, common_steps); a = grind (arith, common_steps); b = grind (arith, common_steps); c = grind (arith, common_steps) }
@@ -116,33 +113,7 @@ links_lower nq na i r f j k =
     ⊎_elim (λ (t, e). omega (arith, record_below nq na i (field_a r.kind) f.a t)) (λ (t, e). omega (arith, record_below nq na i (field_b r.kind) f.b t))
     ((links_exactly r j).0 k)
 
--- the kinds with two parts, with part a alone, with part b alone
-a_parts : (kind : ℕ) → T (has_a kind) → TwoParts kind ⊎ OnePart kind
-unfolding field_a
-a_parts kind t = grind (arith, common_steps)
-
-b_parts : (kind : ℕ) → T (has_b kind) → TwoParts kind ⊎ PartB kind
-unfolding field_b
-b_parts kind t = grind (arith, common_steps)
-
-two_parts : (kind : ℕ) → TwoParts kind → T (has_a kind) × T (has_b kind)
-unfolding field_a field_b
-two_parts kind t = grind (arith, common_steps)
-
-one_part : (kind : ℕ) → OnePart kind → T (has_a kind)
-unfolding field_a
-one_part kind t = grind (arith, common_steps)
-
-part_b : (kind : ℕ) → PartB kind → T (has_b kind)
-unfolding field_b
-part_b kind t = grind (arith, common_steps)
-
 -- the links listed are those of the rules
 pub link_exactly : (r : Program) (j : ℕ) → Memᴰ j (links r) ↔ Link r j
-link_exactly r j = (
-  λ m. ⊎_elim (λ (t, e). ⊎_elim (λ two. inl (two, inl e)) (λ one. inr (inl (one, e))) (a_parts r.kind t))
-      (λ (t, e). ⊎_elim (λ two. inl (two, inr e)) (λ b. inr (inr (b, e))) (b_parts r.kind t)) ((links_exactly r j).0 m),
-  λ l. (links_exactly r j).1
-      (⊎_elim (λ (two, q). let h = two_parts r.kind two in ⊎_elim (λ e. inl (h.0, e)) (λ e. inr (h.1, e)) q)
-      (⊎_elim (λ (one, e). inl (one_part r.kind one, e)) (λ (b, e). inr (part_b r.kind b, e))) l),
-)
+unfolding field_a field_b
+link_exactly r j = (λ m. grind (arith, common_steps, (links_exactly r j).0 m), λ l. (links_exactly r j).1 (grind (arith, common_steps)))

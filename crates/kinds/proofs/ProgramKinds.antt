@@ -1,14 +1,13 @@
 -- What holds of each of the kinds 0 to 12, and of those past them, holds of every kind of program record. Assumes nothing.
 use native.Mathlib.Omega.{arith}
 use Rattle.std.proofs.lemmas.Grind.{common_steps}
-use mathlib.Core.Path.{◌≡◌, refl}
+use mathlib.Core.Path.{◌≡◌}
 use Prim.Native.Nat.{ℕ, zero, suc}
 use Rattle.std.specs.Bool.{⊤}
 use Rattle.std.specs.Option.{MatchOption}
 use Rattle.std.specs.Prelude.{Some}
 use Rattle.records.specs.declared.Program.{Program}
 use Rattle.kinds.specs.declared.programs.Kind.{Kind}
-use Rattle.kinds.specs.declared.programs.Kind.TheVariants.{Nil, Act, Test, Sequence, Choice, Star, If, While, Together, Over, Iteration, Interrupt, Pick}
 use Rattle.kinds.specs.Programs.{kind_of, number_of}
 
 abbrev past : ℕ → ℕ

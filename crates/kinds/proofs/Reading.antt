@@ -2,33 +2,11 @@
 -- the same. So what agrees in the fields that a record has gives the same finality and the same uses of its parts. Assumes nothing.
 use native.Mathlib.Omega.{arith}
 use Rattle.std.proofs.lemmas.Grind.{common_steps}
-use mathlib.Core.Path.{◌≡◌, refl, sym, ◌∙◌, ap, ap₂, subst}
-use mathlib.Core.Bool.{Bool, true, false, ◌&&◌}
+use mathlib.Core.Path.{◌≡◌}
+use mathlib.Core.Bool.{Bool}
 use Prim.Native.Nat.{ℕ}
 use lib.Dec.{T}
-use Rattle.kinds.specs.declared.programs.Field.{Field}
-use Rattle.kinds.specs.declared.programs.Field.TheVariants.{Unused, Action, Formula, Record, Choices, Placeholder}
-use Rattle.kinds.specs.Programs.{field_a, field_b, field_c, is_action, is_formula, has_a, has_b, has_condition, acts, tests, final_of, own_by, own_of, uses_a, uses_b}
-use Rattle.kinds.proofs.ProgramKinds.{by_kind}
-
--- a value, where its test passes
-masked : (b x y : Bool) → (T b → x ≡ y) → (b && x) ≡ (b && y)
-masked b x y e = grind (arith, common_steps)
-
-first : (a b : Bool) → T (a && b) → T a
-first a b t = grind (arith, common_steps)
-
-final_reads : (fa fb h running : Bool) (kind : ℕ) → final_of kind fa fb h running ≡ final_of kind (has_a kind && fa) (has_b kind && fb) (has_condition kind && h) running
-unfolding final_of field_a field_b field_c
-final_reads fa fb h running kind = grind (arith, common_steps)
-
-pub uses_a_reads : (h running : Bool) (kind : ℕ) → uses_a kind h running ≡ (has_a kind && uses_a kind (has_condition kind && h) running)
-unfolding uses_a field_a field_c
-uses_a_reads h running kind = grind (arith, common_steps)
-
-pub uses_b_reads : (fa h idle : Bool) (kind : ℕ) → uses_b kind fa h idle ≡ (has_b kind && uses_b kind (has_a kind && fa) (has_condition kind && h) (has_a kind && idle))
-unfolding uses_b field_a field_b field_c
-uses_b_reads fa h idle kind = grind (arith, common_steps)
+use Rattle.kinds.specs.Programs.{field_a, field_b, field_c, has_a, has_b, has_condition, acts, tests, final_of, own_of, uses_a, uses_b}
 
 -- a record uses a part only where its kind has it
 pub uses_a_lem : (kind : ℕ) (h running : Bool) → T (uses_a kind h running) → T (has_a kind)

@@ -6,14 +6,14 @@ use native.Mathlib.Omega.{arith}
 use mathlib.Core.Path.{◌≡◌, refl}
 use mathlib.Core.Bool.{Bool, false}
 use mathlib.Core.List.{List}
-use mathlib.Core.Logic.{inl, inr, ⊎_elim}
+use mathlib.Core.Logic.{inl, inr}
 use lib.Dec.{T}
 use lib.ListN.{get_or}
 use Rattle.records.specs.declared.Formula.{Formula}
 use Rattle.records.specs.Placeholders.{put_in}
 use Rattle.records.proofs.Some.{some_same, every_same}
 use Rattle.kinds.specs.Truth.{truth_of}
-use Rattle.kinds.specs.Formulas.{field_a, field_b, has_a, has_b, is_plain, PartsLower, Asks, Reads}
+use Rattle.kinds.specs.Formulas.{field_a, field_b, is_plain, PartsLower, Asks, Reads}
 use Rattle.kinds.proofs.FormulaKinds.{by_kind, formula_of}
 
 module _ (x a b : ℕ) where
@@ -36,13 +36,6 @@ module _ (x a b : ℕ) where
         (λ p q. every_same _ _ x 0 (λ n (g, h). q (put_in a b n) (n, omega arith, refl)))
         (λ k p q. refl)
 
-  lower_read :
-      (i j kind : ℕ)
-      → T (is_plain kind) → (T (has_a kind) → a < i) → (T (has_b kind) → b < i)
-      → Reads (formula_of kind x a b) j → j < i
-  unfolding field_a field_b Reads
-  lower_read i j kind t p q h = grind (arith, common_steps)
-
 pub truth_depends :
     (r : Formula) (v v' : List ℕ) (l m : List Bool)
     → ((y : ℕ) → Asks r y → get_or v y 0 ≡ get_or v' y 0)
@@ -52,7 +45,8 @@ truth_depends r v v' l m = says_same r.x r.a r.b v v' l m r.kind
 
 -- a formula without placeholders reads lower ones
 pub reads_parts : (i : ℕ) (r : Formula) → T (is_plain r.kind) → PartsLower i r → (j : ℕ) → Reads r j → j < i
-reads_parts i r plain (low-a, low-b) j = lower_read r.x r.a r.b i j r.kind plain low-a low-b
+unfolding field_a field_b Reads
+reads_parts i r plain low j = grind (arith, common_steps)
 
 -- so tables that agree below it give it the same truth
 pub truth_same :
