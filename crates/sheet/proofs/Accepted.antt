@@ -5,7 +5,7 @@ use mathlib.Core.List.{List}
 use mathlib.Core.Bool.{Bool, true, false, not, cond}
 use Prim.Native.Nat.{ℕ, ◌+◌, ◌-◌, ◌≤◌, ◌<◌}
 use native.Mathlib.Omega.{arith}
-use borrow.Author.Tests.{ltb-false, not-false, eqb-true}
+use borrow.Author.Tests.{ltb-false, not-false, eqb-true, le-ltb, eq-eqb}
 use lib.ListN.{length}
 use lib.Dec.{ltb, eqb}
 use Rattle.records.specs.Lowest.{lowest}
@@ -17,7 +17,7 @@ use Rattle.height.specs.Work.{levels, work_words}
 use Rattle.sheet.specs.Trailer.{trailer_of, limits_ok, WithinLimits, record_bytes, distance_ok}
 use Rattle.sheet.specs.Layout.{layout_in, layout_of, LaidOut, fluents_in, formulas_in, effects_in, actions_in, programs_in}
 use Rattle.sheet.specs.Check.{refused, refused_at, tables_checked, names_in, height_checked, records_checked, trailer_checked, check_of, Accepts, Checked, accepted_with, words_of, fluents_named}
-use Rattle.sheet.proofs.Checking.{within, limits_exactly, placed, placed_exactly, fits, in_place}
+use Rattle.sheet.proofs.Checking.{within, limits_exactly, placed, placed_exactly, fits}
 use Rattle.sheet.specs.declared.Layout.{Layout}
 
 -- an answer that accepts has passed the test
@@ -44,10 +44,11 @@ pub record Trailed (s : List ℕ) : Type 0 where
 
 -- of such a sheet numbers 4 to 9 are asked
 pub trailed_checked : (s : List ℕ) → Trailed s → check_of s ≡ records_checked s (layout_of s)
-unfolding layout_of
+unfolding check_of trailer_checked layout_of
 trailed_checked s t =
     let r = trailer_of s in
-    sym (in_place s refl t.long t.magic ((limits_exactly r).1 t.within) ((placed_exactly r (length s - 18)).1 (t.sum, t.room)) refl)
+    let room : ℕ = length s - 18 in
+    simp (le-ltb (length s) 18 t.long, eq-eqb r.magic 0x5142 t.magic, (limits_exactly r).1 t.within, (placed_exactly r room).1 (t.sum, t.room))
 
 -- what numbers 4 to 9 leave
 pub record Ruled (s : List ℕ) (l : Layout) (w u : ℕ) : Type 0 where

@@ -1,32 +1,16 @@
 -- The steps of a check in rising order, and what its tests tell. Assumes nothing.
-use mathlib.Core.Path.{◌≡◌, refl, ◌∙◌, ap}
-use mathlib.Core.Bool.{Bool, true, false}
-use mathlib.Core.List.{List}
+use mathlib.Core.Path.{◌≡◌, refl}
+use mathlib.Core.Bool.{Bool, true}
 use mathlib.Core.Logic.{◌↔◌}
-use Prim.Native.Nat.{ℕ, ◌+◌, ◌≤◌, ◌<◌, ◌-◌}
+use Prim.Native.Nat.{ℕ, ◌+◌, ◌≤◌}
 use native.Mathlib.Omega.{arith}
-use borrow.Author.Tests.{lt-ltb, le-ltb, le-leb, eq-eqb, ne_eqb, leb-true, eqb-true}
+use borrow.Author.Tests.{le-leb, eq-eqb, leb-true, eqb-true}
 use Rattle.std.proofs.lemmas.Bool.Decides.{nat_tests}
-use lib.ListN.{length}
 use lib.Dec.{leb, eqb}
 use Rattle.records.proofs.Truth.{and_left, and_right}
-use Rattle.records.specs.Records.{program_at}
-use Rattle.height.specs.Height.{height_of}
-use Rattle.height.specs.Work.{levels, work_words}
-use Rattle.sheet.specs.Trailer.{trailer_of, limits_ok, WithinLimits, record_bytes, distance_ok}
-use Rattle.sheet.specs.Layout.{layout_in, LaidOut, programs_in}
-use Rattle.sheet.specs.Check.{refused, names_in, height_checked, records_checked, trailer_checked, check_of, Checked, accepted_with}
+use Rattle.sheet.specs.Trailer.{limits_ok, WithinLimits, record_bytes, distance_ok}
+use Rattle.sheet.specs.Layout.{layout_in, LaidOut}
 use Rattle.sheet.specs.declared.Trailer.{Trailer}
-use Rattle.sheet.specs.declared.Layout.{Layout}
-
-module _ (s : List ℕ) (l : Layout) (h : ℕ) (e : h ≡ height_of (program_at (programs_in s l)) l.p) where
-  pub too_high : 16 < h → refused 9 0 ≡ height_checked s l
-  unfolding height_checked
-  too_high a = rw (← e) (simp (lt-ltb 16 h a))
-
-  pub low_enough : h ≤ 16 → accepted_with (work_words (levels (program_at (programs_in s l)) l.p) l.d) (names_in s l) ≡ height_checked s l
-  unfolding height_checked
-  low_enough a = rw (← e) (simp (le-ltb 16 h a))
 
 pub within : (t : Trailer) → limits_ok t ≡ true → WithinLimits t
 unfolding limits_ok
@@ -90,35 +74,3 @@ fits t room w e l =
       at_end = refl;
       inside = omega arith;
     }
-
-module _ (s : List ℕ) where
-  pub short : length s < 18 → refused 1 0 ≡ check_of s
-  unfolding check_of
-  short l = simp (lt-ltb (length s) 18 l)
-
-  module _ {t : Trailer} (e : t ≡ trailer_of s) (l : 18 ≤ length s) where
-    long : {x : Checked} → x ≡ trailer_checked s t → x ≡ check_of s
-    unfolding check_of
-    long r = simp (le-ltb (length s) 18 l) (r ∙ ap (trailer_checked s) e)
-
-    pub unmarked : (t.magic ≡ 0x5142 → ⊥) → refused 1 0 ≡ check_of s
-    unfolding trailer_checked
-    unmarked m = long (simp (ne_eqb t.magic 0x5142 m))
-
-    module _ (m : t.magic ≡ 0x5142) where
-      pub outside : limits_ok t ≡ false → refused 2 0 ≡ check_of s
-      unfolding trailer_checked
-      outside u = long (simp (eq-eqb t.magic 0x5142 m, u))
-
-      module _ (u : limits_ok t ≡ true) where
-        pub misplaced : distance_ok t (length s - 18) ≡ false → refused 3 0 ≡ check_of s
-        unfolding trailer_checked
-        misplaced v = long (simp (eq-eqb t.magic 0x5142 m, u, v))
-
-        pub in_place :
-            {x : Checked}
-            → distance_ok t (length s - 18) ≡ true
-            → x ≡ records_checked s (layout_in t (length s - 18))
-            → x ≡ check_of s
-        unfolding trailer_checked
-        in_place v r = long (simp (eq-eqb t.magic 0x5142 m, u, v) r)

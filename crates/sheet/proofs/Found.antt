@@ -1,26 +1,19 @@
 -- What an inspection tells: an answer of the check and what was found, from the tests that led there, and back again. Assumes nothing.
-use Prim.Native.Nat.{ℕ, ◌-◌, ◌*◌, ◌≤◌}
+use Prim.Native.Nat.{ℕ, ◌*◌, ◌≤◌}
 use mathlib.Core.Path.{◌≡◌, refl, sym, ◌∙◌, ap, ap₂, subst}
 use mathlib.Core.Bool.{Bool, true≢false}
 use mathlib.Core.List.{List}
 use lib.ListN.{length}
 use Rattle.records.specs.Records.{ProgramTable}
-use Rattle.sheet.specs.Trailer.{trailer_of}
-use Rattle.sheet.specs.Layout.{layout_in, layout_of, LaidOut, fluents_in, formulas_in, effects_in, actions_in, programs_in}
+use Rattle.sheet.specs.Layout.{layout_of, LaidOut, fluents_in, formulas_in, effects_in, actions_in, programs_in}
 use Rattle.sheet.specs.Check.{names_in, check_of, Accepts, Checked, accepted_with}
 use Rattle.sheet.specs.Inspection.{inspection_in, inspected_in, inspect_of, Of}
 use Rattle.sheet.proofs.Accepted.{ruled, laid}
 use Rattle.sheet.proofs.Parts.{InOrder, in_order, fluents_long, formulas_long, effects_long, actions_long, programs_long}
-use Rattle.sheet.specs.declared.Trailer.{Trailer}
 use Rattle.sheet.specs.declared.Layout.{Layout}
 use Rattle.sheet.specs.declared.Refusal.{Refusal}
 use Rattle.sheet.specs.declared.Inspection.{Inspection}
 use Rattle.std.specs.Prelude.{Ok, Err}
-
--- the trailer read gives the layout
-pub laid_out : (s : List ℕ) {t : Trailer} {l : Layout} → t ≡ trailer_of s → l ≡ layout_in t (length s - 18) → l ≡ layout_of s
-unfolding layout_of
-laid_out s e f = f ∙ ap (λ (t : Trailer). layout_in t (length s - 18)) e
 
 -- from an inspection's answer back to the check's
 module _ (s : List ℕ) where

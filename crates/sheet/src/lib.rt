@@ -210,6 +210,7 @@ fn lay_out(t: Trailer, room: usize) -> Layout
 }
 
 // Refuses record i of a table of n, unless it is past the end.
+#[tactic(auto, unfolding(crate::specs::Check::refused_at))]
 fn unless_faulty(cause: Cause, i: usize, n: usize) -> Result<(), Refusal>
     ensures { (j : ℕ) (next : Checked) → i ≡ j → unless result next ≡ refused_at (cause_number cause) j n next }
 {
@@ -220,6 +221,7 @@ fn unless_faulty(cause: Cause, i: usize, n: usize) -> Result<(), Refusal>
 }
 
 // The first table with a record that breaks its rule, and the lowest such record.
+#[tactic(auto, unfolding(crate::specs::Check::tables_checked))]
 fn check_tables(s: &[u8], l: Layout) -> Result<(), Refusal>
     requires { LaidOut l (length s.now) }
     ensures { (next : Checked) → unless result next ≡ tables_checked s.now l next }
@@ -249,7 +251,7 @@ fn check_tables(s: &[u8], l: Layout) -> Result<(), Refusal>
 }
 
 // What is found where every record keeps its rule, unless the program is too high.
-#[tactic(auto, using(crate::proofs::Checking::too_high, crate::proofs::Checking::low_enough), unfolding(crate::specs::Check::height_checked))]
+#[tactic(auto, unfolding(crate::specs::Check::height_checked, height::specs::Work::levels))]
 fn measure(s: &[u8], l: Layout) -> Result<Inspection, Refusal>
     requires { LaidOut l (length s.now) }
     ensures { result ≡ inspected_in s.now l (height_checked s.now l) }
@@ -270,6 +272,7 @@ fn measure(s: &[u8], l: Layout) -> Result<Inspection, Refusal>
 }
 
 // Checks a sheet, and keeps what was found.
+#[tactic(auto, using(crate::proofs::Checking::within, crate::proofs::Checking::placed), unfolding(crate::specs::Check::check_of, crate::specs::Check::trailer_checked, crate::specs::Layout::layout_of))]
 pub fn inspect(s: &[u8]) -> Result<Inspection, Refusal>
     ensures { result ≡ inspect_of s.now }
 {
