@@ -41,19 +41,13 @@ fn conflict_in(effects: &[u8], first: usize, count: usize, table: &[u32], e: usi
     requires { ReadableRange effects.now table.now 32 first count × (e < 256) }
     ensures { result ≡ conflicting_in effects.now table.now first count e }
 {
-    let mut noted = [0u16; FLUENTS];
-    for i in first..first + count {
-        let r = records::effect_at(effects, i);
-        if sets::has_in(table, r.condition, e) {
-            let x = r.fluent;
-            let given = resolved(e, r.value) as u16 + 1;
-            if state::conflicts::differs(noted[x], given) {
-                return true;
-            }
-            noted[x] = given;
-        }
-    }
-    false
+    state::effects::conflict(
+        effects,
+        first,
+        count,
+        |q| sets::has_in(table, q, e),
+        |value| resolved(e, value) as u8,
+    )
 }
 
 // The set of one environment.
