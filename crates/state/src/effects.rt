@@ -6,7 +6,7 @@ ghost use Rattle.golog.specs.World.{conflicting, changed};
 ghost use Rattle.state.specs.Ranges.{Names};
 ghost use Rattle.state.specs.Reads.{Reads, MayAsk};
 
-use crate::conflicts::{differs, FLUENTS};
+use crate::conflicts::{FLUENTS, differs};
 use records::Action;
 
 // Whether effects of a range that hold give one fluent different values: one pass, which notes what value each fluent was given.

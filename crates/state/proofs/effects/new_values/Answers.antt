@@ -57,17 +57,17 @@ loop-i-preserved g c =
             length-set c.loop-i.given x _ ∙ v.1,
             omega (arith, v.2, unset_more c.loop-i.given x inside c.args.n below free),
             λ says table R. giving_more _ _ _ _ _ _ (v.3 says table R) (omega arith)
-            (same_effect (effect_at table i) (ap (λ (r : Effect). r.fluent) e ∙ R.fluent i (omega arith) (omega arith)) (R.value i (omega arith) (omega arith) _ m))
-            (R.condition i (omega arith) (omega arith) _ h) w.if-holds-given.true below c.requires.range.1 v.0,
+                (same_effect (effect_at table i) (ap (λ (r : Effect). r.fluent) e ∙ R.fluent i (omega arith) (omega arith)) (R.value i (omega arith) (omega arith) _ m))
+                (R.condition i (omega arith) (omega arith) _ h) w.if-holds-given.true below c.requires.range.1 v.0,
           )
       | else-holds-given w ↦ rw (w.given-is, w.new-is, w.left-is) (
-          v.0,
-          v.1,
-          v.2,
-          λ says table R. giving_passed _ _ _ _ _ _ (v.3 says table R) (omega arith)
-          (same_effect (effect_at table i) (ap (λ (r : Effect). r.fluent) e ∙ R.fluent i (omega arith) (omega arith)) refl)
-          (R.condition i (omega arith) (omega arith) _ h) w.if-holds-given.false,
-        )
+        v.0,
+        v.1,
+        v.2,
+        λ says table R. giving_passed _ _ _ _ _ _ (v.3 says table R) (omega arith)
+            (same_effect (effect_at table i) (ap (λ (r : Effect). r.fluent) e ∙ R.fluent i (omega arith) (omega arith)) refl)
+            (R.condition i (omega arith) (omega arith) _ h) w.if-holds-given.false,
+      )
     ]
 
 pub returns : goal.returns
