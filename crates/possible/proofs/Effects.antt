@@ -1,8 +1,8 @@
--- The value that a value byte means; and the table of effects with the values that they give in an environment has these effects, and names the
--- same fluents. Assumes nothing.
+-- The value that a value byte means; and the table of effects with the values that they give in an environment has these effects, as
+-- closures read them. Assumes nothing.
 use Prim.Native.Nat.{ℕ, ◌+◌, ◌-◌, ◌*◌, ◌%◌, ◌≤◌, ◌<◌}
-use mathlib.Core.Path.{◌≡◌, refl, ◌∙◌}
-use mathlib.Core.Bool.{cond}
+use mathlib.Core.Path.{◌≡◌, refl, sym, ap, ◌∙◌}
+use mathlib.Core.Bool.{Bool, cond}
 use mathlib.Core.List.{List}
 use native.Mathlib.Omega.{arith}
 use native.Mathlib.Nat.{zero-add}
@@ -10,13 +10,14 @@ use native.Mathlib.Decide.{dec_lt}
 use borrow.Author.Tests.{eq-eqb, ne_eqb, lt-ltb, le-ltb}
 use lib.Dec.{eqb}
 use lib.ListN.{length, get_or}
+use Rattle.records.specs.declared.Effect.{Effect}
 use Rattle.records.specs.Records.{effect_at}
 use Rattle.records.specs.Placeholders.{look, environments}
 use Rattle.records.proofs.Placeholders.{look_small}
 use Rattle.golog.specs.Written.{resolved}
 use Rattle.golog.proofs.Moves.{each_at}
-use Rattle.state.specs.Ranges.{Names}
-use Rattle.possible.specs.Written.{resolved_effect, resolved_table}
+use Rattle.state.specs.Reads.{Reads}
+use Rattle.possible.specs.Written.{said_at, resolved_effect, resolved_table}
 
 -- a value byte below 16 is the value, any other means a placeholder
 pub resolved_value : (e v : ℕ) → v < 16 → resolved e v ≡ v
@@ -54,5 +55,13 @@ module _ (e : ℕ) (effects : List ℕ) where
       )
       refl
 
-  pub resolved_names : (n first count : ℕ) → 4 * (first + count) ≤ length effects → Names effects n first count → Names (resolved_table e effects) n first count
-  resolved_names n first count long names i l m = rw (resolved_at i (omega arith)) (names i l m)
+  -- so closures read them that answer what holds in e and the values that are meant there
+  pub reads_in :
+      (table : List ℕ) {first count : ℕ} {holds : ℕ → Bool → Type 0} {meant : ℕ → ℕ → Type 0} → 4 * (first + count) ≤ length effects
+      → ((q : ℕ) (b : Bool) → holds q b → b ≡ said_at table e q) → ((v w : ℕ) → meant v w → w ≡ resolved e v)
+      → Reads holds meant (said_at table e) effects (resolved_table e effects) first count
+  reads_in table long said value = record {
+    condition = λ i l h b k. said _ b k ∙ ap (λ (r : Effect). said_at table e r.condition) (sym (resolved_at i (omega arith)));
+    value = λ i l h w k. value _ w k ∙ ap (λ (r : Effect). r.value) (sym (resolved_at i (omega arith)));
+    fluent = λ i l h. ap (λ (r : Effect). r.fluent) (sym (resolved_at i (omega arith)));
+  }

@@ -13,7 +13,7 @@ ghost use Rattle.possible.specs.Possible.{ReadableRange, GivesValue, GiveValues,
 use golog::State;
 use records::{Action, Effect};
 use sets::WORDS;
-use state::conflicts::{ACTIONS, FLUENTS};
+use state::conflicts::ACTIONS;
 
 // How many environments there are: what stands in placeholder 0, and 16 times what stands in placeholder 1.
 const ENVIRONMENTS: usize = 256;
@@ -35,25 +35,18 @@ fn resolved(e: usize, value: usize) -> usize
     }
 }
 
-// Whether effects of a range that hold in environment e give one fluent different values there: one pass, which notes what value each fluent
-// was given.
+// Whether effects of a range that hold in environment e give one fluent different values there.
 fn conflict_in(effects: &[u8], first: usize, count: usize, table: &[u32], e: usize) -> bool
     requires { ReadableRange effects.now table.now 32 first count × (e < 256) }
     ensures { result ≡ conflicting_in effects.now table.now first count e }
 {
-    let mut noted = [0u16; FLUENTS];
-    for i in first..first + count {
-        let r = records::effect_at(effects, i);
-        if sets::has_in(table, r.condition, e) {
-            let x = r.fluent;
-            let given = resolved(e, r.value) as u16 + 1;
-            if state::conflicts::differs(noted[x], given) {
-                return true;
-            }
-            noted[x] = given;
-        }
-    }
-    false
+    state::effects::conflict(
+        effects,
+        first,
+        count,
+        |q| sets::has_in(table, q, e),
+        |value| resolved(e, value) as u8,
+    )
 }
 
 // The set of one environment.
@@ -144,8 +137,7 @@ pub fn set_of(
     left
 }
 
-// The values after an action's effects in environment e, which name fluents below n: one pass from the first effect to the last. It notes
-// which fluents were given a value, since the first effect that holds gives it, and is left once all were.
+// The values after an action's effects in environment e, which name fluents below n.
 fn new_values(
     effects: &[u8],
     r: Action,
@@ -157,22 +149,14 @@ fn new_values(
     requires { ReadableRange effects.now table.now n r.first r.count × (n ≤ 32) × (e < 256) }
     ensures { result ≡ changed (said_at table.now e) (effect_at (resolved_table e effects.now)) r values }
 {
-    let mut new = values;
-    let mut given = [false; FLUENTS];
-    let mut left = n;
-    for i in r.first..r.first + r.count {
-        let d = records::effect_at(effects, i);
-        let x = d.fluent;
-        if sets::has_in(table, d.condition, e) & !given[x] {
-            new[x] = resolved(e, d.value) as u8;
-            given[x] = true;
-            left -= 1;
-            if left == 0 {
-                return new;
-            }
-        }
-    }
-    new
+    state::effects::new_values(
+        effects,
+        r,
+        n,
+        values,
+        |q| sets::has_in(table, q, e),
+        |value| resolved(e, value) as u8,
+    )
 }
 
 // The state after the move `entry`, an action in an environment, or start or stop, where n is the number of fluents and `table` has the truths

@@ -24,7 +24,7 @@ unfoldable pub unset : List Bool → (n : ℕ) → ℕ
 unset flags zero = 0
 unset flags (suc n) = cond (get_or flags n false) 0 1 + unset flags n
 
-unset_all : (k n : ℕ) → unset (replicate k false) n ≡ n
+pub unset_all : (k n : ℕ) → unset (replicate k false) n ≡ n
 unfolding unset
 unset_all k zero = refl
 unset_all k (suc n) = rw (get_d_same false k n, unset_all k n) (omega arith)
@@ -49,7 +49,7 @@ module _ (flags : List Bool) (x : ℕ) (inside : x < length flags) where
   unset_other zero l = refl
   unset_other (suc n) l = rw (get_or-set_other flags x n true false (λ e. omega arith), unset_other n (omega arith)) refl
 
-  unset_more : (n : ℕ) → x < n → get_or flags x false ≡ false → unset flags n ≡ suc (unset (set flags x true) n)
+  pub unset_more : (n : ℕ) → x < n → get_or flags x false ≡ false → unset flags n ≡ suc (unset (set flags x true) n)
   unfolding unset
   unset_more zero l f = absurd (omega arith)
   unset_more (suc n) l f = go (ℕ_discrete n x) (λ b. unset_more n b f)

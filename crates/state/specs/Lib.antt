@@ -3,3 +3,4 @@ pub mod Ranges
 pub mod Conflicts
 pub mod Exclusion
 pub mod Evaluated
+pub mod Reads

@@ -16,6 +16,7 @@ use golog::State;
 use records::Action;
 
 pub mod conflicts;
+pub mod effects;
 pub mod exclusion;
 
 // What formula i, which has no placeholder, says, where `lower` has what the formulas before it say.
