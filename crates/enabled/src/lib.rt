@@ -169,7 +169,7 @@ fn either_enabled(table: &[u32], a: usize, b: usize, after: bool) -> [u32; sets:
 }
 
 // Where a record is final, by the sets of lower ones, where n values are listed for it if it chooses one.
-#[tactic(auto, unfolding(kinds::specs::Programs::field_a, kinds::specs::Programs::field_b, kinds::specs::Programs::field_c, kinds::specs::Programs::final_of, crate::specs::Enabled::final_in), using(sets::proofs::Members::has_by))]
+#[tactic(auto, unfolding(kinds::specs::Programs::field_a, kinds::specs::Programs::field_b, kinds::specs::Programs::field_c, kinds::specs::Programs::final_of, crate::specs::Enabled::final_in))]
 fn final_set(r: Program, n: usize, running: bool, table: &[u32]) -> [u32; sets::WORDS]
     requires { Readable table.now n r }
     ensures { FinalBy table.now running n r result }
@@ -191,7 +191,7 @@ fn final_set(r: Program, n: usize, running: bool, table: &[u32]) -> [u32; sets::
 }
 
 // Where it is enabled.
-#[tactic(auto, unfolding(kinds::specs::Programs::field_a, kinds::specs::Programs::field_b, kinds::specs::Programs::field_c, crate::specs::Enabled::enabled_of, crate::specs::Enabled::enabled_in), using(sets::proofs::Members::has_by))]
+#[tactic(auto, unfolding(kinds::specs::Programs::field_a, kinds::specs::Programs::field_b, kinds::specs::Programs::field_c, crate::specs::Enabled::enabled_of, crate::specs::Enabled::enabled_in))]
 fn enabled_set(r: Program, n: usize, running: bool, table: &[u32]) -> [u32; sets::WORDS]
     requires { Readable table.now n r }
     ensures { EnabledBy table.now running n r result }
