@@ -2,7 +2,7 @@
 use mathlib.Core.Path.{◌≡◌, sym, ◌∙◌, ap, subst}
 use mathlib.Core.Bool.{Bool}
 use mathlib.Core.List.{List}
-use mathlib.Core.Logic.{inl, inr, ⊎_elim}
+use mathlib.Core.Logic.{inl}
 use Prim.Native.Nat.{ℕ, ◌+◌, ◌≤◌, ◌<◌}
 use native.Mathlib.Decide.{dec_lt}
 use native.Mathlib.Omega.{arith}
@@ -23,15 +23,7 @@ use Rattle.enabled.proofs.Filling.{linked, below_a, below_b, span_read}
 pub finals_none : {p : ℕ → Program} {m : ℕ} {running : Bool} {old : List ℕ} → FinalsWherever p m 0 running old old
 finals_none W s S i l = absurd (omega arith)
 
--- the set of record i is put
-pub kept_final : {i : ℕ} {old table new ends : List ℕ} → i < 260 → PutSet (final_set i) ends table new → Kept old table → Kept old new
-kept_final few put K = record {
-  len = put.len ∙ K.len;
-  sets = λ j o. put.others j (λ e. ⊎_elim (λ a. omega arith) (λ a. omega arith) o) ∙ K.sets j o;
-  words = λ k o. put.words k (⊎_elim (λ a. inl (omega arith)) (λ a. inr (omega arith)) o) ∙ K.words k o;
-}
-
--- and is right, where those below are
+-- the set that is put is right, where those below are
 pub finals_more :
     {p : ℕ → Program} (ruled : RuledTable most_formulas p) {m i : ℕ} {spans old table new ends : List ℕ} (running : Bool) → SpansKnown p m spans → i < m → m ≤ 260
     → PutSet (final_set i) ends table new → Kept old table → FinalBy table running (get_or spans i 0) (p i) ends → FinalsWherever p m i running old table

@@ -32,22 +32,21 @@ use Rattle.enabled.proofs.Read.{Agree, either_same, final_agrees, enabled_agrees
 pub kept_none : (table : List ℕ) → Kept table table
 kept_none table = record { len = refl; sets = λ j o. refl; words = λ k o. refl }
 
+-- a set is put that is not one of formulas or actions
+pub kept_more : {j : ℕ} {old table new set : List ℕ} → final_set 0 ≤ j → j < possible_set 0 → PutSet j set table new → Kept old table → Kept old new
+kept_more low high put K = record {
+  len = put.len ∙ K.len;
+  sets = λ j o. put.others j (λ e. ⊎_elim (λ a. omega arith) (λ a. omega arith) o) ∙ K.sets j o;
+  words = λ k o. put.words k (⊎_elim (λ a. inl (omega arith)) (λ a. inr (omega arith)) o) ∙ K.words k o;
+}
+
 pub known_none : {p : ℕ → Program} {m : ℕ} {running : Bool} {old : List ℕ} → KnownWherever p m 0 running old old
 known_none W s S = record { final = λ i l. absurd (omega arith); enabled = λ i l. absurd (omega arith) }
 
 -- the sets of record i are put
-module _ {i : ℕ} {table mid new ends goes : List ℕ} (few : i < 260) (first : PutSet (final_set i) ends table mid) (second : PutSet (enabled_set i) goes mid new) where
+module _ {i : ℕ} {table mid new ends goes : List ℕ} (few : i < 260) (first : PutSet (enabled_set i) goes table mid) (second : PutSet (final_set i) ends mid new) where
   other : (j : ℕ) → ¬ (j ≡ final_set i) → ¬ (j ≡ enabled_set i) → set_at new j ≡ set_at table j
-  other j a b = second.others j b ∙ first.others j a
-
-  pub kept_more : {old : List ℕ} → Kept old table → Kept old new
-  kept_more K = record {
-    len = second.len ∙ first.len ∙ K.len;
-    sets = λ j o. other j (λ e. ⊎_elim (λ a. omega arith) (λ a. omega arith) o) (λ e. ⊎_elim (λ a. omega arith) (λ a. omega arith) o) ∙ K.sets j o;
-    words = λ k o. second.words k (⊎_elim (λ a. inl (omega arith)) (λ a. inr (omega arith)) o)
-        ∙ first.words k (⊎_elim (λ a. inl (omega arith)) (λ a. inr (omega arith)) o)
-        ∙ K.words k o;
-  }
+  other j a b = second.others j a ∙ first.others j b
 
   -- so they have what is to be had of the records below i + 1
   put_known : {W : World} {s : State} {p : ℕ → Program} → Known W s p i table → Has ((valuation_of W s p).final i) ends → Has ((valuation_of W s p).enabled i) goes
@@ -56,11 +55,11 @@ module _ {i : ℕ} {table mid new ends goes : List ℕ} (few : i < 260) (first :
     where
       at_final : (j : ℕ) → Dec (j < i) → j < i + 1 → Has ((valuation_of W s p).final j) (set_at new (final_set j))
       at_final j (yes k) h = subst (Has _) (sym (other (final_set j) (λ e. omega arith) (λ e. omega arith))) (D.final j k)
-      at_final j (no k) h = let z : j ≡ i = omega arith in rw (z, second.others (final_set i) (λ e. omega arith), first.here) F
+      at_final j (no k) h = let z : j ≡ i = omega arith in rw (z, second.here) F
 
       at_enabled : (j : ℕ) → Dec (j < i) → j < i + 1 → Has ((valuation_of W s p).enabled j) (set_at new (enabled_set j))
       at_enabled j (yes k) h = subst (Has _) (sym (other (enabled_set j) (λ e. omega arith) (λ e. omega arith))) (D.enabled j k)
-      at_enabled j (no k) h = let z : j ≡ i = omega arith in rw (z, second.here) G
+      at_enabled j (no k) h = let z : j ≡ i = omega arith in rw (z, second.others (enabled_set i) (λ e. omega arith), first.here) G
 
 module _ {p : ℕ → Program} (ruled : RuledTable most_formulas p) where
   pub linked : Linked p
@@ -137,7 +136,7 @@ module _ {p : ℕ → Program} (ruled : RuledTable most_formulas p) where
   -- the sets of record i are right, where those below are
   pub known_more :
       {m i : ℕ} {spans old table mid new ends goes : List ℕ} (running : Bool) → SpansKnown p m spans → i < m → m ≤ 260
-      → PutSet (final_set i) ends table mid → PutSet (enabled_set i) goes mid new → Kept old table
+      → PutSet (enabled_set i) goes table mid → PutSet (final_set i) ends mid new → Kept old table
       → FinalBy table running (get_or spans i 0) (p i) ends → EnabledBy table running (get_or spans i 0) (p i) goes
       → KnownWherever p m i running old table → KnownWherever p m (i + 1) running old new
   known_more {m} {i} {spans} running known l few first second K F G D W s S =

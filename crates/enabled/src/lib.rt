@@ -3,7 +3,7 @@
 // many values are listed where a record chooses one.
 #![tactic(auto)]
 
-ghost use Rattle.std.specs.Prelude.{◌≡◌, false, not, cond, ◌&&◌, ◌||◌, ℕ, ◌*◌, ◌≤◌, ◌<◌, length, get_or};
+ghost use Rattle.std.specs.Prelude.{◌≡◌, true, false, not, cond, ◌&&◌, ◌||◌, ℕ, ◌*◌, ◌≤◌, ◌<◌, length, get_or};
 ghost use Rattle.records.specs.Records.{TwoBytes, ProgramTable};
 ghost use Rattle.sets.specs.Sets.{member, Has, set_at};
 ghost use Rattle.golog.specs.World.{start};
@@ -30,27 +30,18 @@ pub const SETS: usize = 1096;
 fn either_in(marks: &[bool], a: usize, b: usize) -> bool
     ensures { result ≡ (get_or marks.now a false || get_or marks.now b false) }
 {
-    records::flag_in(marks, a, false) | records::flag_in(marks, b, false)
+    records::value_in(marks, a, false) | records::value_in(marks, b, false)
 }
 
 // Whether a record sees placeholder c, where `lower` says which lower records do.
 fn sees_by(r: Program, c: usize, lower: &[bool]) -> bool
     ensures { result ≡ sees_of r c lower.now }
 {
-    let kind = r.kind;
-    match kind {
-        1 => true,
-        2 => true,
-        3 => either_in(lower, r.a, r.b),
-        4 => either_in(lower, r.a, r.b),
-        5 => records::flag_in(lower, r.a, false),
-        6 => true,
-        7 => true,
-        8 => either_in(lower, r.a, r.b),
-        9 => either_in(lower, r.a, r.b),
-        10 => records::flag_in(lower, r.a, false),
-        11 => true,
-        12 => records::flag_in(lower, r.b, false) & (r.c != c),
+    match r.kind {
+        1 | 2 | 6 | 7 | 11 => true,
+        3 | 4 | 8 | 9 => either_in(lower, r.a, r.b),
+        5 | 10 => records::value_in(lower, r.a, false),
+        12 => records::value_in(lower, r.b, false) & (r.c != c),
         _ => false,
     }
 }
@@ -62,37 +53,24 @@ fn seeing(programs: &[u8], n: usize, interrupts: bool, c: usize) -> [bool; leave
 {
     let m = leaves::places_of(n, interrupts);
     let mut marks = [false; leaves::RECORDS];
-    let mut i = 0;
-    while i < m {
+    for i in 0..m {
         let r = leaves::record_at(programs, n, interrupts, i);
-        let s = sees_by(r, c, &marks);
-        marks[i] = s;
-        i += 1;
+        marks[i] = sees_by(r, c, &marks);
     }
     marks
 }
 
-// How many values a choice lists: one stands for all where its part does not see them.
-fn listed(r: Program, seen: bool) -> u32
-    requires { TwoBytes r }
-    ensures { result ≡ cond seen r.a 1 }
-{
-    if seen { r.a as u32 } else { 1 }
-}
-
-// How many values a record lists: one, unless it chooses (kind 12) and its part sees them. `first` and `second` have the records that see
-// placeholders 0 and 1.
+// How many values a record lists: one, which stands for all, unless it chooses (kind 12) and its part sees them. `first` and `second` have the
+// records that see placeholders 0 and 1.
 fn span_by(r: Program, first: &[bool], second: &[bool]) -> u32
     requires { TwoBytes r }
     ensures { result ≡ span_by r first.now second.now }
 {
-    if r.kind != 12 {
-        return 1;
+    let seeing = if r.c == 0 { first } else { second };
+    if (r.kind == 12) & records::value_in(seeing, r.b, false) {
+        return r.a as u32;
     }
-    if r.c == 0 {
-        return listed(r, records::flag_in(first, r.b, false));
-    }
-    listed(r, records::flag_in(second, r.b, false))
+    1
 }
 
 // How many values are listed for each record of the table that runs, where it chooses one.
@@ -104,12 +82,9 @@ pub fn spans(programs: &[u8], n: usize, interrupts: bool) -> [u32; leaves::RECOR
     let first = seeing(programs, n, interrupts, 0);
     let second = seeing(programs, n, interrupts, 1);
     let mut spans = [0u32; leaves::RECORDS];
-    let mut i = 0;
-    while i < m {
+    for i in 0..m {
         let r = leaves::record_at(programs, n, interrupts, i);
-        let k = span_by(r, &first, &second);
-        spans[i] = k;
-        i += 1;
+        spans[i] = span_by(r, &first, &second);
     }
     spans
 }
@@ -194,15 +169,14 @@ fn either_enabled(table: &[u32], a: usize, b: usize, after: bool) -> [u32; sets:
 }
 
 // Where a record is final, by the sets of lower ones, where n values are listed for it if it chooses one.
+#[tactic(auto, unfolding(kinds::specs::Programs::field_a, kinds::specs::Programs::field_b, kinds::specs::Programs::field_c, kinds::specs::Programs::final_of, crate::specs::Enabled::final_in))]
 fn final_set(r: Program, n: usize, running: bool, table: &[u32]) -> [u32; sets::WORDS]
     requires { Readable table.now n r }
     ensures { FinalBy table.now running n r result }
 {
-    let kind = r.kind;
-    match kind {
-        1 => sets::whole(false),
-        2 => sets::whole(false),
-        3 => both_final(table, r.a, r.b),
+    match r.kind {
+        1 | 2 => sets::whole(false),
+        3 | 8 | 9 => both_final(table, r.a, r.b),
         4 => sets::either(final_at(table, r.a), final_at(table, r.b)),
         6 => branch(
             holding_at(table, r.c),
@@ -210,8 +184,6 @@ fn final_set(r: Program, n: usize, running: bool, table: &[u32]) -> [u32; sets::
             final_at(table, r.b),
         ),
         7 => sets::either(sets::others(holding_at(table, r.c)), final_at(table, r.a)),
-        8 => both_final(table, r.a, r.b),
-        9 => both_final(table, r.a, r.b),
         11 => while_running(running, holding_at(table, r.c), final_at(table, r.a), true),
         12 => sets::some(final_at(table, r.b), r.c, n),
         _ => sets::whole(true),
@@ -219,16 +191,16 @@ fn final_set(r: Program, n: usize, running: bool, table: &[u32]) -> [u32; sets::
 }
 
 // Where it is enabled.
+#[tactic(auto, unfolding(kinds::specs::Programs::field_a, kinds::specs::Programs::field_b, kinds::specs::Programs::field_c, crate::specs::Enabled::enabled_of, crate::specs::Enabled::enabled_in))]
 fn enabled_set(r: Program, n: usize, running: bool, table: &[u32]) -> [u32; sets::WORDS]
     requires { Readable table.now n r }
     ensures { EnabledBy table.now running n r result }
 {
-    let kind = r.kind;
-    match kind {
+    match r.kind {
         1 => possible_at(table, r.a),
         2 => holding_at(table, r.a),
         3 => either_enabled(table, r.a, r.b, true),
-        4 | 8 => either_enabled(table, r.a, r.b, false),
+        4 | 8 | 9 => either_enabled(table, r.a, r.b, false),
         5 | 10 => enabled_at(table, r.a),
         6 => branch(
             holding_at(table, r.c),
@@ -236,7 +208,6 @@ fn enabled_set(r: Program, n: usize, running: bool, table: &[u32]) -> [u32; sets
             enabled_at(table, r.b),
         ),
         7 => sets::both(holding_at(table, r.c), enabled_at(table, r.a)),
-        9 => either_enabled(table, r.a, r.b, false),
         11 => while_running(
             running,
             holding_at(table, r.c),
@@ -248,8 +219,36 @@ fn enabled_set(r: Program, n: usize, running: bool, table: &[u32]) -> [u32; sets
     }
 }
 
-// Fills in where each record of the table that runs is final and where it is enabled, in the state of which the sets of formulas and of
-// actions tell, whatever stood there: one pass upwards, since a record names lower ones only.
+// Fills in where each record of the table that runs is final, and with `goes` where it is enabled, in the state of which the sets of formulas and
+// of actions tell, whatever stood there: one pass upwards, since a record names lower ones only.
+fn fill_sets(
+    programs: &[u8],
+    n: usize,
+    interrupts: bool,
+    running: bool,
+    spans: &[u32],
+    table: &mut [u32],
+    goes: bool,
+)
+    requires program_table { ProgramTable programs.now n }
+    requires fillable { Fillable (table_of programs.now n interrupts) (extended_size interrupts n) spans.now table.old }
+    ensures all { goes ≡ true → Filled (table_of programs.now n interrupts) (extended_size interrupts n) running table.old table.new }
+    ensures ends { goes ≡ false → FinalsFilled (table_of programs.now n interrupts) (extended_size interrupts n) running table.old table.new }
+{
+    let m = leaves::places_of(n, interrupts);
+    for i in 0..m {
+        let r = leaves::record_at(programs, n, interrupts, i);
+        let k = spans[i] as usize;
+        let ends = final_set(r, k, running, table);
+        if goes {
+            let starts = enabled_set(r, k, running, table);
+            sets::put_set(table, ENABLED + i, starts);
+        }
+        sets::put_set(table, FINAL + i, ends);
+    }
+}
+
+// Fills in where each record is final and where it is enabled.
 pub fn fill(
     programs: &[u8],
     n: usize,
@@ -262,20 +261,10 @@ pub fn fill(
     requires fillable { Fillable (table_of programs.now n interrupts) (extended_size interrupts n) spans.now table.old }
     ensures { Filled (table_of programs.now n interrupts) (extended_size interrupts n) running table.old table.new }
 {
-    let m = leaves::places_of(n, interrupts);
-    let mut i = 0;
-    while i < m {
-        let r = leaves::record_at(programs, n, interrupts, i);
-        let k = spans[i] as usize;
-        let ends = final_set(r, k, running, table);
-        let goes = enabled_set(r, k, running, table);
-        sets::put_set(table, FINAL + i, ends);
-        sets::put_set(table, ENABLED + i, goes);
-        i += 1;
-    }
+    fill_sets(programs, n, interrupts, running, spans, table, true)
 }
 
-// Fills in where each record of the table that runs is final, and not where it is enabled: for a state of which no more is asked.
+// Fills in where each record is final, and not where it is enabled: for a state of which no more is asked.
 pub fn fill_finals(
     programs: &[u8],
     n: usize,
@@ -288,13 +277,5 @@ pub fn fill_finals(
     requires fillable { Fillable (table_of programs.now n interrupts) (extended_size interrupts n) spans.now table.old }
     ensures { FinalsFilled (table_of programs.now n interrupts) (extended_size interrupts n) running table.old table.new }
 {
-    let m = leaves::places_of(n, interrupts);
-    let mut i = 0;
-    while i < m {
-        let r = leaves::record_at(programs, n, interrupts, i);
-        let k = spans[i] as usize;
-        let ends = final_set(r, k, running, table);
-        sets::put_set(table, FINAL + i, ends);
-        i += 1;
-    }
+    fill_sets(programs, n, interrupts, running, spans, table, false)
 }

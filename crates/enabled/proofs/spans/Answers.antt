@@ -9,15 +9,14 @@ use Rattle.enabled.specs.Spans.{spans_of}
 use Rattle.enabled.proofs.spans.Goals as goal
 
 pub loop-i-init : goal.loop-i-init
-loop-i-init c = (omega arith, start 0 _ (λ (k : ℕ). k) 260)
+loop-i-init c = start 0 _ (λ (k : ℕ). k) 260
 
 pub loop-i-preserved : goal.loop-i-preserved
 loop-i-preserved c =
-    let k = rw (c.record_at-r.ensures.record, c.seeing-first.ensures, c.seeing-second.ensures) at c.span_by-k.ensures in
-    (omega arith, more _ _ _ _ c.loop-i.invariant.1 (omega arith) k)
+    more _ _ _ _ c.loop-i.invariant (omega arith) (rw (c.record_at-r.ensures.record, c.seeing-first.ensures, c.seeing-second.ensures) at c.span_by.ensures)
 
 pub returns : goal.returns
 unfolding spans_of
 returns c =
-    let e = le_antisymm c.loop-i.invariant.0 c.loop-i-test.false ∙ c.places_of-m.ensures.0 in
-    rw (← e) (rw (← e) at c.loop-i.invariant.1.same ∙ simp map-id)
+    let e = le_antisymm c.loop-i.auto.i-end c.loop-i-test.false ∙ c.places_of-m.ensures.0 in
+    rw (← e) (rw (← e) at c.loop-i.invariant.same ∙ simp map-id)

@@ -1,4 +1,4 @@
-use Prim.Native.Nat.{ℕ, ◌-◌, ◌≤◌}
+use Prim.Native.Nat.{ℕ}
 use Rattle.records.specs.Records.{program_at}
 use Rattle.records.proofs.Fills.{Filled}
 use Rattle.remaining.specs.Extended.{extended}
@@ -8,7 +8,4 @@ use Rattle.enabled.proofs.spans.Given as goal
 
 abbrev pub invariant-loop-i : goal.invariant-loop-i
 invariant-loop-i l =
-    (l.i ≤ l.m) × Filled 0 (span_at (extended l.interrupts (program_at l.programs) l.n) (extended_size l.interrupts l.n)) (λ (k : ℕ). k) 260 l.spans l.i
-
-abbrev pub decreases-loop-i : goal.decreases-loop-i
-decreases-loop-i l = l.m - l.i
+    Filled 0 (span_at (extended l.interrupts (program_at l.programs) l.n) (extended_size l.interrupts l.n)) (λ (k : ℕ). k) 260 l.spans l.i

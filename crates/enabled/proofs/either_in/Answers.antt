@@ -1,5 +1,0 @@
--- Either of the two marks. Assumes nothing.
-use Rattle.enabled.proofs.either_in.Goals as goal
-
-pub returns : goal.returns
-returns c = cc
