@@ -1,29 +1,38 @@
 // What the tables say of a remaining program: each function calls itself on the parts, whose sizes fall.
 #![tactic(auto)]
 
-ghost use Rattle.std.specs.Prelude.{◌≡◌, ◌*◌, ◌^◌, ◌<◌, length};
+ghost use Rattle.std.specs.Prelude.{◌≡◌, Bool, true, List, ℕ, ◌*◌, ◌^◌, ◌<◌, length, get_or};
 ghost use Rattle.remaining.specs.Rest.{Rest};
 ghost use Rattle.remaining.specs.Leaves.{goes_right};
 ghost use Rattle.words.specs.Words.{At, Stands};
-ghost use Rattle.ends.specs.Ends.{final_by_table, soon_of, joined, Below, Totalled};
+ghost use Rattle.ends.specs.Ends.{final_by_table, soon_of, joined, Below, Totalled, Leaves, Asked};
 
-// Whether the remaining program at `at` is final.
-pub fn final_rest(finals: &[bool], work: &[u32], at: usize) -> bool
-    requires { Stands work.now at }
-    ensures { (g : Rest) → At g work.now at → result ≡ final_by_table finals.now g }
+// Whether the remaining program at `at` is final, where `leaf` answers that of a record.
+pub fn final_by<F: Fn(usize) -> bool>(leaf: &F, work: &[u32], at: usize) -> bool
+    requires { Asked (F.pre leaf.now) work.now at }
+    ensures { (finals : List Bool) (g : Rest) → At g work.now at → Leaves (λ i. (b : Bool) → F.post leaf.now i b → b ≡ get_or finals i true) g
+        → result ≡ final_by_table finals g }
 {
     let tag = words::tag_at(work, at);
     if tag == words::GONE {
         return true;
     }
     if tag == words::LEAF {
-        return records::value_in(finals, words::record_at(work, at), true);
+        return leaf(words::record_at(work, at));
     }
     let left = words::size_at(work, at + 3);
-    if final_rest(finals, work, at + 3) {
-        return final_rest(finals, work, at + 3 + 3 * left);
+    if final_by(leaf, work, at + 3) {
+        return final_by(leaf, work, at + 3 + 3 * left);
     }
     false
+}
+
+// The same by a table.
+pub fn final_rest(finals: &[bool], work: &[u32], at: usize) -> bool
+    requires { Stands work.now at }
+    ensures { (g : Rest) → At g work.now at → result ≡ final_by_table finals.now g }
+{
+    final_by(&|i| records::value_in(finals, i, true), work, at)
 }
 
 // Whether the right part of a construct goes, where the left one is as said: in a;b where that is final, in a together b always, in
