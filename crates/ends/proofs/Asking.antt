@@ -1,9 +1,10 @@
 -- What is so of each leaf is so of those of each part. Assumes nothing.
-use Prim.Native.Nat.{ℕ, ◌+◌, ◌*◌}
+use Prim.Native.Nat.{ℕ, ◌+◌, ◌*◌, ◌<◌}
 use mathlib.Core.Path.{◌≡◌, subst, sym}
 use mathlib.Core.List.{List}
+use native.Mathlib.Omega.{arith}
 use lib.ListN.{get_or}
-use Rattle.remaining.specs.Rest.{Rest, gone, leaf, node}
+use Rattle.remaining.specs.Rest.{Rest, gone, leaf, node, largest}
 use Rattle.words.specs.Words.{Stands}
 use Rattle.words.proofs.Standing.{leaf_at}
 use Rattle.words.proofs.Reading.{Sized}
@@ -20,6 +21,13 @@ unfolding Leaves
 each_leaf f gone a = tt
 each_leaf f (leaf i) a = f i a
 each_leaf f (node tag l r) (a, b) = (each_leaf f l a, each_leaf f r b)
+
+-- where all numbers are below m
+pub leaves_below : {P : ℕ → Type 0} (m : ℕ) → ((i : ℕ) → i < m → P i) → (g : Rest) → largest (λ (i : ℕ). i) g < m → Leaves P g
+unfolding Leaves largest
+leaves_below m f gone h = tt
+leaves_below m f (leaf i) h = f i h
+leaves_below m f (node tag l r) h = (leaves_below m f l (omega arith), leaves_below m f r (omega arith))
 
 pub at_leaf : (P : ℕ → Type 0) {g : Rest} {j : ℕ} → g ≡ leaf j → Leaves P g → P j
 unfolding Leaves

@@ -79,6 +79,10 @@ pub record Asked (P : ℕ → Type 0) (w : List ℕ) (i : ℕ) : Type 0 where
   pub at : At rest w i
   pub leaves : Leaves P rest
 
+-- the totals of record i, of which R is so, are told by the tables
+abbrev pub Told : (finals : List Bool) (distances counts : List ℕ) (R : Totals → Type 0) (i : ℕ) → Type 0
+Told finals distances counts R i = (t : Totals) → R t → Totalled finals distances counts (leaf i) t
+
 -- the height of the table that runs: 16, and 2 for the interrupts (document 01, "Work area": h)
 abbrev pub most_levels : ℕ
 most_levels = 18
