@@ -1,3 +1,4 @@
+pub mod Asking
 pub mod Tabled
 pub mod Parts
 pub mod Endings

@@ -7,7 +7,6 @@ use Prim.Native.Nat.{ℕ, ◌+◌, ◌^◌, ◌<◌, max}
 use native.Mathlib.Omega.{arith}
 use lib.Dec.{eqb}
 use lib.ListN.{get_or}
-use borrow.Author.Tests.{eq-eqb, ne_eqb}
 use Rattle.records.proofs.Truth.{part_few}
 use Rattle.remaining.specs.Rest.{Rest, gone, leaf, node, nodes}
 use Rattle.remaining.specs.Leaves.{goes_right}
@@ -15,16 +14,6 @@ use Rattle.words.proofs.Standing.{nodes_pos}
 use Rattle.leaves.specs.Distances.{farthest}
 use Rattle.ends.specs.Ends.{final_by_table, count_by_table, far_by_table, soon_of, soon_by_table, joined, Below, Totalled}
 use Rattle.ends.specs.declared.Totals.{Totals}
-
--- the right part goes by the construct
-pub goes_after : (tag : ℕ) (final idle : Bool) → tag ≡ 3 → final ≡ goes_right tag final idle
-goes_after tag final idle e = rw (eq-eqb tag 3 e)
-
-pub goes_always : (tag : ℕ) (final idle : Bool) → (tag ≡ 3 → ⊥) → tag ≡ 8 → true ≡ goes_right tag final idle
-goes_always tag final idle n e = rw (ne_eqb tag 3 n, eq-eqb tag 8 e)
-
-pub goes_idle : (tag : ℕ) (final idle : Bool) → (tag ≡ 3 → ⊥) → (tag ≡ 8 → ⊥) → idle ≡ goes_right tag final idle
-goes_idle tag final idle n n8 = rw (ne_eqb tag 3 n, ne_eqb tag 8 n8)
 
 module _ (finals : List Bool) where
   pub final_gone : {g : Rest} → g ≡ gone → true ≡ final_by_table finals g

@@ -5,6 +5,7 @@ use Rattle.std.specs.Prelude.{◌≡◌, ℕ, ◌+◌, ◌*◌, ◌^◌, ◌≤�
 use Rattle.records.specs.declared.Program.{Program}
 use Rattle.remaining.specs.Rest.{Rest, gone, leaf, node, nodes, largest, high}
 use Rattle.remaining.specs.Leaves.{goes_right}
+use Rattle.words.specs.Words.{At}
 use Rattle.leaves.specs.Distances.{farthest}
 use Rattle.ends.specs.declared.Totals.{Totals}
 
@@ -65,6 +66,22 @@ pub record Totalled (finals : List Bool) (distances counts : List ℕ) (g : Rest
   pub far_is : t.far ≡ far_by_table distances g
   pub soon_is : t.soon ≡ soon_by_table finals distances counts g
   pub few : Below (2 ^ 32 * nodes g) t
+
+-- what is so of the number of each leaf
+unfoldable pub Leaves : (ℕ → Type 0) → Rest → Type 0
+Leaves P gone = Unit
+Leaves P (leaf i) = P i
+Leaves P (node tag l r) = Leaves P l × Leaves P r
+
+-- a remaining program stands there, of each of whose leaves P is so
+pub record Asked (P : ℕ → Type 0) (w : List ℕ) (i : ℕ) : Type 0 where
+  pub rest : Rest
+  pub at : At rest w i
+  pub leaves : Leaves P rest
+
+-- the totals of record i, of which R is so, are told by the tables
+abbrev pub Told : (finals : List Bool) (distances counts : List ℕ) (R : Totals → Type 0) (i : ℕ) → Type 0
+Told finals distances counts R i = (t : Totals) → R t → Totalled finals distances counts (leaf i) t
 
 -- the height of the table that runs: 16, and 2 for the interrupts (document 01, "Work area": h)
 abbrev pub most_levels : ℕ

@@ -1,29 +1,38 @@
 // What the tables say of a remaining program: each function calls itself on the parts, whose sizes fall.
 #![tactic(auto)]
 
-ghost use Rattle.std.specs.Prelude.{◌≡◌, ◌*◌, ◌^◌, ◌<◌, length};
-ghost use Rattle.remaining.specs.Rest.{Rest};
+ghost use Rattle.std.specs.Prelude.{◌≡◌, Bool, true, List, ℕ, ◌*◌, ◌^◌, ◌<◌, length, get_or};
+ghost use Rattle.remaining.specs.Rest.{Rest, leaf};
 ghost use Rattle.remaining.specs.Leaves.{goes_right};
 ghost use Rattle.words.specs.Words.{At, Stands};
-ghost use Rattle.ends.specs.Ends.{final_by_table, soon_of, joined, Below, Totalled};
+ghost use Rattle.ends.specs.Ends.{final_by_table, soon_of, joined, Below, Totalled, Leaves, Asked, Told};
 
-// Whether the remaining program at `at` is final.
-pub fn final_rest(finals: &[bool], work: &[u32], at: usize) -> bool
-    requires { Stands work.now at }
-    ensures { (g : Rest) → At g work.now at → result ≡ final_by_table finals.now g }
+// Whether the remaining program at `at` is final, where `leaf` answers that of a record.
+pub fn final_by<F: Fn(usize) -> bool>(leaf: &F, work: &[u32], at: usize) -> bool
+    requires { Asked (F.pre leaf.now) work.now at }
+    ensures { (finals : List Bool) (g : Rest) → At g work.now at → Leaves (λ i. (b : Bool) → F.post leaf.now i b → b ≡ get_or finals i true) g
+        → result ≡ final_by_table finals g }
 {
     let tag = words::tag_at(work, at);
     if tag == words::GONE {
         return true;
     }
     if tag == words::LEAF {
-        return records::value_in(finals, words::record_at(work, at), true);
+        return leaf(words::record_at(work, at));
     }
     let left = words::size_at(work, at + 3);
-    if final_rest(finals, work, at + 3) {
-        return final_rest(finals, work, at + 3 + 3 * left);
+    if final_by(leaf, work, at + 3) {
+        return final_by(leaf, work, at + 3 + 3 * left);
     }
     false
+}
+
+// The same by a table.
+pub fn final_rest(finals: &[bool], work: &[u32], at: usize) -> bool
+    requires { Stands work.now at }
+    ensures { (g : Rest) → At g work.now at → result ≡ final_by_table finals.now g }
+{
+    final_by(&|i| records::value_in(finals, i, true), work, at)
 }
 
 // Whether the right part of a construct goes, where the left one is as said: in a;b where that is final, in a together b always, in
@@ -78,17 +87,13 @@ pub fn join_totals(tag: u32, l: Totals, r: Totals) -> Totals
     }
 }
 
-// The totals of the remaining program at `at`.
-pub fn total_rest(
-    finals: &[bool],
-    distances: &[u32],
-    counts: &[u32],
-    work: &[u32],
-    at: usize,
-) -> Totals
-    requires stands { Stands work.now at }
+// The totals of the remaining program at `at`, where `leaf` answers those of a record.
+pub fn total_by<F: Fn(usize) -> Totals>(leaf: &F, work: &[u32], at: usize) -> Totals
+    requires told { (finals : List Bool) × (distances : List ℕ) × (counts : List ℕ)
+        × Asked (λ i. F.pre leaf.now i × Told finals distances counts (F.post leaf.now i) i) work.now at }
     requires work_len_bound { length work.now < 2 ^ 32 }
-    ensures { (g : Rest) → At g work.now at → Totalled finals.now distances.now counts.now g result }
+    ensures { (finals : List Bool) (distances : List ℕ) (counts : List ℕ) (g : Rest) → At g work.now at
+        → Leaves (λ i. Told finals distances counts (F.post leaf.now i) i) g → Totalled finals distances counts g result }
 {
     let tag = words::tag_at(work, at);
     if tag == words::GONE {
@@ -100,18 +105,39 @@ pub fn total_rest(
         };
     }
     if tag == words::LEAF {
-        let i = words::record_at(work, at);
-        let count = records::value_in(counts, i, 0) as usize;
-        let far = records::value_in(distances, i, 0) as usize;
-        return Totals {
-            done: records::value_in(finals, i, true),
-            count,
-            far,
-            soon: soon_of(count, far),
-        };
+        return leaf(words::record_at(work, at));
     }
     let left = words::size_at(work, at + 3);
-    let l = total_rest(finals, distances, counts, work, at + 3);
-    let r = total_rest(finals, distances, counts, work, at + 3 + 3 * left);
+    let l = total_by(leaf, work, at + 3);
+    let r = total_by(leaf, work, at + 3 + 3 * left);
     join_totals(tag, l, r)
+}
+
+// The totals of a record, by the tables.
+fn total_of(finals: &[bool], distances: &[u32], counts: &[u32], i: usize) -> Totals
+    ensures { Totalled finals.now distances.now counts.now (leaf i) result }
+{
+    let count = records::value_in(counts, i, 0) as usize;
+    let far = records::value_in(distances, i, 0) as usize;
+    Totals {
+        done: records::value_in(finals, i, true),
+        count,
+        far,
+        soon: soon_of(count, far),
+    }
+}
+
+// The totals of the remaining program at `at`, by the tables.
+pub fn total_rest(
+    finals: &[bool],
+    distances: &[u32],
+    counts: &[u32],
+    work: &[u32],
+    at: usize,
+) -> Totals
+    requires stands { Stands work.now at }
+    requires work_len_bound { length work.now < 2 ^ 32 }
+    ensures { (g : Rest) → At g work.now at → Totalled finals.now distances.now counts.now g result }
+{
+    total_by(&|i| total_of(finals, distances, counts, i), work, at)
 }

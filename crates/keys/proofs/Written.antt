@@ -1,5 +1,4 @@
--- What a key that was written holds: nodes without higher bits, pair after pair; and its values, its nodes above these, and its first word,
--- written last. Assumes nothing.
+-- What a key that was written holds: nodes without higher bits, pair after pair. Assumes nothing.
 use Prim.Native.Nat.{ℕ, ◌+◌, ◌-◌, ◌*◌, ◌/◌, ◌<◌}
 use mathlib.Core.Path.{◌≡◌, subst, ◌∙◌}
 use mathlib.Core.Bool.{Bool, true, false}
@@ -22,20 +21,3 @@ coded_all false w i n f j h = go (dec_lt (2 * (j / 2)) j)
     go : Dec (2 * (j / 2) < j) → Coded 4096 w (i + 3 * j)
     go (yes l) = let e : i + 6 * (j / 2) + 3 ≡ i + 3 * j = omega arith in subst (Coded 4096 w) e (P.second (omega arith))
     go (no l) = let e : i + 6 * (j / 2) ≡ i + 3 * j = omega arith in subst (Coded 4096 w) e P.first
-
-module _ {v w key key₁ key₂ : List ℕ} {g i n words : ℕ} {wide : Bool} (U : WrittenValues v g key key₁) (H : Held wide w i n (1 + g) words key₁ key₂) (h : ℕ) where
-  pub head_there : get_or (take (1 + g + words) (set key₂ 0 h)) 0 0 ≡ h
-  head_there = get_or-take (1 + g + words) (set key₂ 0 h) 0 0 (omega arith) ∙ get_or-set_same key₂ 0 h 0 (omega (arith, H.inside, H.written.len))
-
-  pub values_there : (k : ℕ) → k < g → get_or (take (1 + g + words) (set key₂ 0 h)) (1 + k) 0 ≡ eight_at v (8 * k)
-  values_there k l =
-      get_or-take (1 + g + words) (set key₂ 0 h) (1 + k) 0 (omega arith)
-      ∙ get_or-set_other key₂ 0 (1 + k) h 0 (omega arith)
-      ∙ H.written.below (1 + k) (omega arith)
-      ∙ U.values_are k l
-
-  pub nodes_there : (k : ℕ) → k < words_of wide n → get_or (take (1 + g + words) (set key₂ 0 h)) (1 + g + k) 0 ≡ word_at wide w i n k
-  nodes_there k l =
-      get_or-take (1 + g + words) (set key₂ 0 h) (1 + g + k) 0 (omega (arith, H.words_are))
-      ∙ get_or-set_other key₂ 0 (1 + g + k) h 0 (omega arith)
-      ∙ H.written.nodes_are k l

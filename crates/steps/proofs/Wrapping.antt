@@ -15,7 +15,7 @@ use Rattle.words.proofs.Written.{kept_refl}
 use Rattle.steps.specs.Laid.{past, Wrapped}
 use Rattle.steps.specs.Stepped.{CanEndLeft, EndsLeft, CanEndRight, EndsRight, RoomFor}
 use Rattle.steps.specs.declared.Turn.{Turn}
-use Rattle.steps.specs.declared.Turn.TheVariants.{Made, Passed}
+use Rattle.steps.specs.declared.Turn.TheVariants.{Made}
 
 -- as it stands, where the test passes; else in the construct f, x words on
 module _ (f : Rest → Rest) (to x n : ℕ) where
@@ -31,9 +31,6 @@ module _ (f : Rest → Rest) (to x n : ℕ) where
 
 -- left of a record; the tag and the record as computed
 module _ (tag q to n : ℕ) (w : List ℕ) {t : ℕ} (et : t ≡ tag) where
-  pub alone_a : t ≡ 0 → Wrapped (wrap_a tag q) (to + past (eqb tag 0) 3) to n n w w
-  alone_a z = alone (λ (g : Rest). node tag g (leaf q)) to 3 n (eqb tag 0) w (eq-eqb tag 0 (sym et ∙ z))
-
   pub beside_a : {w' : List ℕ} {u : ℕ} → (t ≡ 0 → ⊥) → u ≡ q → LeafRight to t n u w w' → Wrapped (wrap_a tag q) (to + past (eqb tag 0) 3) to n (n + 2) w w'
   unfolding nodes
   beside_a {w'} {u} z eu C =
@@ -41,9 +38,6 @@ module _ (tag q to n : ℕ) (w : List ℕ) {t : ℕ} (et : t ≡ tag) where
       inside (λ (g : Rest). node tag g (leaf q)) to 3 n (eqb tag 0) (n + 2) w w' (ne_eqb tag 0 (λ e. z (et ∙ e))) D.kept (λ g A h. (D.at g A h, omega arith))
 
   -- right of one
-  pub alone_b : t ≡ 0 → Wrapped (wrap_b tag q) (to + past (eqb tag 0) 6) to n n w w
-  alone_b z = alone (λ (g : Rest). node tag (leaf q) g) to 6 n (eqb tag 0) w (eq-eqb tag 0 (sym et ∙ z))
-
   pub beside_b : {w' : List ℕ} → (t ≡ 0 → ⊥) → LeafLeft to t n q w w' → Wrapped (wrap_b tag q) (to + past (eqb tag 0) 6) to n (n + 2) w w'
   unfolding nodes
   beside_b {w'} z C =
@@ -91,21 +85,10 @@ module _ (tag f to n : ℕ) (done : Bool) (w : List ℕ) {t : Turn} where
             (λ g A k. (H.at l g L h (subst (At g w) (omega arith) A) k, omega arith)),
       )
 
-  pub ends_none : {j : ℕ} {d : Bool} → t ≡ Passed j d → EndsRight tag f to n done w w t (Passed j (done && d))
-  ends_none {j} {d} et = subst (λ (x : Turn). EndsRight tag f to n done w w x (Passed j (done && d))) (sym et) (refl, refl)
-
 pub beside_can : {tag f to n e m : ℕ} {w : List ℕ} {t : Turn} → CanEndRight tag f to n w t → t ≡ Made e m → CanPutCopy f to tag m n w
 beside_can {tag} {f} {to} {n} {e} {m} {w} K q =
     let room : Room w to (1 + n + m) = subst (RoomFor w to (1 + n)) q K.room in
     record { room = record { inside = omega (arith, room.inside); small = room.small }; three = K.three; below = K.below }
-
--- one of two, by a test
-module _ (y z : ℕ) {b x : Bool} (e : x ≡ b) where
-  pub first_of : x ≡ true → y ≡ cond b y z
-  first_of h = rw (sym e ∙ h)
-
-  pub second_of : x ≡ false → z ≡ cond b y z
-  second_of h = rw (sym e ∙ h)
 
 pub both_of : {x y z : Bool} → z ≡ true → x ≡ y → x ≡ (z && y)
 both_of {x} {y} h e = e ∙ ap (λ (b : Bool). b && y) (sym h)
