@@ -120,9 +120,7 @@ fn spans_in(numbers: &[u32]) -> [u32; leaves::RECORDS]
     requires { length numbers.now ≡ places }
     ensures { result ≡ spans_on numbers.now }
 {
-    let mut spans = [0u32; leaves::RECORDS];
-    spans.copy_from_slice(&numbers[SPANS..DIGITS]);
-    spans
+    numbers[SPANS..DIGITS].try_into().unwrap()
 }
 
 // The marks of the actions.
@@ -130,9 +128,7 @@ fn marks_in(numbers: &[u32]) -> [u32; ACTIONS]
     requires { length numbers.now ≡ places }
     ensures { result ≡ marks_on numbers.now }
 {
-    let mut marks = [0u32; ACTIONS];
-    marks.copy_from_slice(&numbers[MARKS..MARKS_END]);
-    marks
+    numbers[MARKS..MARKS_END].try_into().unwrap()
 }
 
 // Fills in where the marked actions are possible, in the state of which the sets of formulas tell.

@@ -1,7 +1,6 @@
 -- Finality of the words is that of the remaining program that stands in them, by the sets: by its outermost node, and of the parts by the
 -- same. The number of nodes falls. Assumes nothing.
 use mathlib.Core.Path.{◌∙◌}
-use native.Mathlib.Omega.{arith}
 use Rattle.words.proofs.Standing.{gone_at, leaf_at}
 use Rattle.words.proofs.Reading.{holds_room, Construct, construct, Sized, sized}
 use Rattle.cursors.proofs.Ending.{final_reading, end_stands, end_leaf, end_set, end_left, end_right}
@@ -28,23 +27,11 @@ returns-then-tag-eq-LEAF t c g h =
     let few = end_leaf K (leaf_at _ _ _ c.tag_at-tag.ensures K.rest K.at c.if-tag-eq-LEAF.true) c.record_at-n.ensures in
     final_leaf _ (leaf_at _ _ _ c.tag_at-tag.ensures g h c.if-tag-eq-LEAF.true) c.record_at-n.ensures (final_reading _ few c.final_in.ensures)
 
-pub overflow_add-at : goal.overflow_add-at
-overflow_add-at t c =
-    let left_known : Construct c.args.work.now c.args.at =
-    construct (end_stands c.requires) c.tag_at-tag.ensures c.if-tag-eq-GONE.false c.if-tag-eq-LEAF.false in
-    let h = left_known.left_room in omega arith
-
 pub size_at-left-requires : goal.size_at-left-requires
 size_at-left-requires t c =
     let left_known : Construct c.args.work.now c.args.at =
     construct (end_stands c.requires) c.tag_at-tag.ensures c.if-tag-eq-GONE.false c.if-tag-eq-LEAF.false in
     left_known.left_room
-
-pub overflow_add-at-2 : goal.overflow_add-at-2
-overflow_add-at-2 t c =
-    let left_known : Construct c.args.work.now c.args.at =
-    construct (end_stands c.requires) c.tag_at-tag.ensures c.if-tag-eq-GONE.false c.if-tag-eq-LEAF.false in
-    let h = left_known.left_room in omega arith
 
 pub final_rest-requires : goal.final_rest-requires
 final_rest-requires t c =
@@ -54,24 +41,6 @@ final_rest-requires t c =
     sized (end_stands c.requires) c.tag_at-tag.ensures c.if-tag-eq-GONE.false c.if-tag-eq-LEAF.false c.size_at-left.ensures in
     let K = c.requires in
     (left_known.left_less c.decreases, end_left K (right_known.parts_of K.rest K.at))
-
-pub overflow_add-at-then-final_rest : goal.overflow_add-at-then-final_rest
-overflow_add-at-then-final_rest t c =
-    let right_known : Sized c.args.work.now c.args.at c.tag_at-tag.result c.size_at-left.result =
-    sized (end_stands c.requires) c.tag_at-tag.ensures c.if-tag-eq-GONE.false c.if-tag-eq-LEAF.false c.size_at-left.ensures in
-    let h = right_known.right_room in omega arith
-
-pub overflow_mul-left : goal.overflow_mul-left
-overflow_mul-left t c =
-    let right_known : Sized c.args.work.now c.args.at c.tag_at-tag.result c.size_at-left.result =
-    sized (end_stands c.requires) c.tag_at-tag.ensures c.if-tag-eq-GONE.false c.if-tag-eq-LEAF.false c.size_at-left.ensures in
-    let h = right_known.right_room in omega arith
-
-pub overflow_add-at-then-final_rest-2 : goal.overflow_add-at-then-final_rest-2
-overflow_add-at-then-final_rest-2 t c =
-    let right_known : Sized c.args.work.now c.args.at c.tag_at-tag.result c.size_at-left.result =
-    sized (end_stands c.requires) c.tag_at-tag.ensures c.if-tag-eq-GONE.false c.if-tag-eq-LEAF.false c.size_at-left.ensures in
-    let h = right_known.right_room in omega arith
 
 pub final_rest-requires-then-final_rest : goal.final_rest-requires-then-final_rest
 final_rest-requires-then-final_rest t c =

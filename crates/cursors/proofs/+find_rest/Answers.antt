@@ -1,7 +1,6 @@
 -- One pass: by the outermost node, and of the parts by the same (Pointing.antt). The number of nodes falls. Assumes nothing.
 use mathlib.Core.Path.{◌∙◌, ap}
 use mathlib.Core.Bool.{Bool, ◌&&◌}
-use native.Mathlib.Omega.{arith}
 use Rattle.words.proofs.Standing.{gone_at, leaf_at}
 use Rattle.words.proofs.Reading.{holds_room, Construct, construct, Sized, sized}
 use Rattle.cursors.proofs.Ending.{final_is}
@@ -30,33 +29,12 @@ pub returns-then-tag-eq-LEAF : goal.returns-then-tag-eq-LEAF
 returns-then-tag-eq-LEAF t c W s Q g h = leaf_points _ _ _ c.find_leaf.ensures Q (leaf_at _ _ _ c.tag_at-tag.ensures g h c.if-tag-eq-LEAF.true)
     c.record_at-n.ensures
 
-pub overflow_add-left : goal.overflow_add-left
-overflow_add-left t c =
-    let left_known : Construct c.args.work.now c.args.at =
-    construct (point_stands c.requires.can_point) c.tag_at-tag.ensures c.if-tag-eq-GONE.false c.if-tag-eq-LEAF.false in
-    let L = left_known in
-    let h = L.left_room in omega arith
-
 pub size_at-requires : goal.size_at-requires
 size_at-requires t c =
     let left_known : Construct c.args.work.now c.args.at =
     construct (point_stands c.requires.can_point) c.tag_at-tag.ensures c.if-tag-eq-GONE.false c.if-tag-eq-LEAF.false in
     let L = left_known in
     L.left_room
-
-pub overflow_mul-right : goal.overflow_mul-right
-overflow_mul-right t c =
-    let sized_known : Sized c.args.work.now c.args.at c.tag_at-tag.result c.size_at.result =
-    sized (point_stands c.requires.can_point) c.tag_at-tag.ensures c.if-tag-eq-GONE.false c.if-tag-eq-LEAF.false c.size_at.ensures in
-    let Z = sized_known in
-    let h = Z.right_room in omega arith
-
-pub overflow_add-right : goal.overflow_add-right
-overflow_add-right t c =
-    let sized_known : Sized c.args.work.now c.args.at c.tag_at-tag.result c.size_at.result =
-    sized (point_stands c.requires.can_point) c.tag_at-tag.ensures c.if-tag-eq-GONE.false c.if-tag-eq-LEAF.false c.size_at.ensures in
-    let Z = sized_known in
-    let h = Z.right_room in omega arith
 
 pub find_rest-requires : goal.find_rest-requires
 find_rest-requires t c =

@@ -3,7 +3,7 @@
 use native.Mathlib.Omega.{arith}
 use Rattle.words.proofs.Standing.{leaf_at}
 use Rattle.words.proofs.Reading.{holds_room, Parts}
-use Rattle.cursors.proofs.Laying.{lay_stands, lay_construct, lay_parts, leaf_can, leaf_placed, parts_below, lay_falls_left, lay_falls_right}
+use Rattle.cursors.proofs.Laying.{lay_stands, lay_construct, lay_parts, leaf_can, leaf_placed, lay_falls_left, lay_falls_right}
 use Rattle.cursors.proofs.Laying.{can_left, left_end, left_placed, can_right, right_end, right_placed}
 use Rattle.cursors.proofs.+lay_rest.Goals as goal
 
@@ -28,32 +28,8 @@ returns-then-tag-eq-LEAF t c =
     leaf_placed K (omega (arith, c.ranges.k.fits)) (leaf_at _ _ _ c.tag_at-tag.ensures K.can.rest K.can.at c.if-tag-eq-LEAF.true) c.record_at-j.ensures
     c.lay_record.ensures
 
-pub overflow_add-left : goal.overflow_add-left
-overflow_add-left t c = let h = (lay_construct c.requires.can_lay_rest c.tag_at-tag.ensures c.if-tag-eq-LEAF.false).left_room in omega arith
-
 pub size_at-n-requires : goal.size_at-n-requires
 size_at-n-requires t c = (lay_construct c.requires.can_lay_rest c.tag_at-tag.ensures c.if-tag-eq-LEAF.false).left_room
-
-pub overflow_mul-right : goal.overflow_mul-right
-overflow_mul-right t c =
-    let parts_known : Parts c.requires.can_lay_rest.can.rest c.args.work.now c.args.from c.tag_at-tag.result c.size_at-n.result =
-    lay_parts c.requires.can_lay_rest c.tag_at-tag.ensures c.if-tag-eq-LEAF.false c.size_at-n.ensures in
-    let K = c.requires.can_lay_rest in
-    let D = parts_known in
-    omega (arith, parts_below K D, K.room.inside, K.room.small)
-
-pub overflow_add-right : goal.overflow_add-right
-overflow_add-right t c =
-    let parts_known : Parts c.requires.can_lay_rest.can.rest c.args.work.now c.args.from c.tag_at-tag.result c.size_at-n.result =
-    lay_parts c.requires.can_lay_rest c.tag_at-tag.ensures c.if-tag-eq-LEAF.false c.size_at-n.ensures in
-    let K = c.requires.can_lay_rest in
-    let D = parts_known in
-    omega (arith, parts_below K D, K.room.inside, K.room.small)
-
-pub overflow_add-at : goal.overflow_add-at
-overflow_add-at t c =
-    let K = c.requires.can_lay_rest in
-    omega (arith, K.room.inside, K.room.small)
 
 pub lay_rest-x-requires : goal.lay_rest-x-requires
 lay_rest-x-requires t c =
@@ -78,30 +54,6 @@ returns-then-place-right t c =
     let K = c.requires.can_lay_rest in
     let D = parts_known in
     left_placed K D (omega (arith, c.ranges.k.fits)) c.if-place-right.true c.lay_rest-x.ensures c.put_right.ensures
-
-pub overflow_mul-n : goal.overflow_mul-n
-overflow_mul-n t c =
-    let parts_known : Parts c.requires.can_lay_rest.can.rest c.args.work.now c.args.from c.tag_at-tag.result c.size_at-n.result =
-    lay_parts c.requires.can_lay_rest c.tag_at-tag.ensures c.if-tag-eq-LEAF.false c.size_at-n.ensures in
-    let K = c.requires.can_lay_rest in
-    let D = parts_known in
-    omega (arith, parts_below K D, K.room.inside, K.room.small)
-
-pub overflow_add-n : goal.overflow_add-n
-overflow_add-n t c =
-    let parts_known : Parts c.requires.can_lay_rest.can.rest c.args.work.now c.args.from c.tag_at-tag.result c.size_at-n.result =
-    lay_parts c.requires.can_lay_rest c.tag_at-tag.ensures c.if-tag-eq-LEAF.false c.size_at-n.ensures in
-    let K = c.requires.can_lay_rest in
-    let D = parts_known in
-    omega (arith, parts_below K D, K.room.inside, K.room.small)
-
-pub overflow_add-at-2 : goal.overflow_add-at-2
-overflow_add-at-2 t c =
-    let parts_known : Parts c.requires.can_lay_rest.can.rest c.args.work.now c.args.from c.tag_at-tag.result c.size_at-n.result =
-    lay_parts c.requires.can_lay_rest c.tag_at-tag.ensures c.if-tag-eq-LEAF.false c.size_at-n.ensures in
-    let K = c.requires.can_lay_rest in
-    let D = parts_known in
-    omega (arith, parts_below K D, K.room.inside, K.room.small, c.past_words.ensures.1)
 
 pub lay_rest-x-requires-2 : goal.lay_rest-x-requires-2
 lay_rest-x-requires-2 t c =

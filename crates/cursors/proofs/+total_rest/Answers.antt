@@ -37,23 +37,11 @@ returns-then-tag-eq-LEAF t c g h =
     (far_reading c.args.distances.now few c.value_in-far.ensures) (omega arith)
     (final_reading c.args.table.now few c.final_in.ensures) c.soon_of.ensures
 
-pub overflow_add-at : goal.overflow_add-at
-overflow_add-at t c =
-    let left_known : Construct c.args.work.now c.args.at =
-    construct (end_stands c.requires.can_end) c.tag_at-tag.ensures c.if-tag-eq-GONE.false c.if-tag-eq-LEAF.false in
-    let h = left_known.left_room in omega arith
-
 pub size_at-left-requires : goal.size_at-left-requires
 size_at-left-requires t c =
     let left_known : Construct c.args.work.now c.args.at =
     construct (end_stands c.requires.can_end) c.tag_at-tag.ensures c.if-tag-eq-GONE.false c.if-tag-eq-LEAF.false in
     left_known.left_room
-
-pub overflow_add-at-2 : goal.overflow_add-at-2
-overflow_add-at-2 t c =
-    let left_known : Construct c.args.work.now c.args.at =
-    construct (end_stands c.requires.can_end) c.tag_at-tag.ensures c.if-tag-eq-GONE.false c.if-tag-eq-LEAF.false in
-    let h = left_known.left_room in omega arith
 
 pub total_rest-l-requires : goal.total_rest-l-requires
 total_rest-l-requires t c =
@@ -63,24 +51,6 @@ total_rest-l-requires t c =
     sized (end_stands c.requires.can_end) c.tag_at-tag.ensures c.if-tag-eq-GONE.false c.if-tag-eq-LEAF.false c.size_at-left.ensures in
     let K = c.requires.can_end in
     (left_known.left_less c.decreases, (end_left K (right_known.parts_of K.rest K.at), c.requires.work_len_bound))
-
-pub overflow_add-at-3 : goal.overflow_add-at-3
-overflow_add-at-3 t c =
-    let right_known : Sized c.args.work.now c.args.at c.tag_at-tag.result c.size_at-left.result =
-    sized (end_stands c.requires.can_end) c.tag_at-tag.ensures c.if-tag-eq-GONE.false c.if-tag-eq-LEAF.false c.size_at-left.ensures in
-    let h = right_known.right_room in omega arith
-
-pub overflow_mul-left : goal.overflow_mul-left
-overflow_mul-left t c =
-    let right_known : Sized c.args.work.now c.args.at c.tag_at-tag.result c.size_at-left.result =
-    sized (end_stands c.requires.can_end) c.tag_at-tag.ensures c.if-tag-eq-GONE.false c.if-tag-eq-LEAF.false c.size_at-left.ensures in
-    let h = right_known.right_room in omega arith
-
-pub overflow_add-at-4 : goal.overflow_add-at-4
-overflow_add-at-4 t c =
-    let right_known : Sized c.args.work.now c.args.at c.tag_at-tag.result c.size_at-left.result =
-    sized (end_stands c.requires.can_end) c.tag_at-tag.ensures c.if-tag-eq-GONE.false c.if-tag-eq-LEAF.false c.size_at-left.ensures in
-    let h = right_known.right_room in omega arith
 
 pub total_rest-r-requires : goal.total_rest-r-requires
 total_rest-r-requires t c =

@@ -1,15 +1,8 @@
 -- Before the cursor's place the sets are asked; else the record's first (Pointing.antt). Assumes nothing.
 use mathlib.Core.Path.{ap}
 use mathlib.Core.Bool.{not}
-use native.Mathlib.Omega.{arith}
 use Rattle.cursors.proofs.Pointing.{leaf_before, leaf_at, leaf_passed}
 use Rattle.cursors.proofs.find_leaf.Goals as goal
-
-pub final_in-requires : goal.final_in-requires
-final_in-requires c = let K = c.requires.can_look in (K.surveyed.prepared.long, omega (arith, K.inside, K.surveyed.prepared.few), K.small)
-
-pub enabled_in-requires : goal.enabled_in-requires
-enabled_in-requires c = let K = c.requires.can_look in (K.surveyed.prepared.long, omega (arith, K.inside, K.surveyed.prepared.few), K.small)
 
 pub returns-then-at-place : goal.returns-then-at-place
 returns-then-at-place c = leaf_before _ c.requires.can_look c.final_in.ensures (ap not c.enabled_in.ensures) _ _ _ c.if-at-place.true

@@ -1,25 +1,10 @@
 -- In a sequence what the right part left stands alone; else the left part is put beside it. Assumes nothing.
 use mathlib.Core.Path.{refl}
 use mathlib.Core.Bool.{true}
-use native.Mathlib.Omega.{arith}
 use Rattle.steps.specs.declared.Turn.TheVariants.{Made}
-use Rattle.steps.proofs.Wrapping.{ends_alone, ends_beside}
+use Rattle.steps.proofs.Wrapping.{ends_beside}
 use Rattle.cursors.proofs.Laying.{wraps_left}
 use Rattle.cursors.proofs.put_left.Goals as goal
-
-pub returns-then-tag-eq-SEQUENCE : goal.returns-then-tag-eq-SEQUENCE
-returns-then-tag-eq-SEQUENCE c =
-    record {
-      entry_is = refl;
-      wraps = wraps_left c.args.tag _ _ c.args.n 0 _ _ true _ _
-          (ends_alone c.args.tag _ _ c.args.n true _ {t = Made 0 c.args.x.size} refl c.if-tag-eq-SEQUENCE.true);
-    }
-
-pub put_copy_left-requires : goal.put_copy_left-requires
-put_copy_left-requires c = c.requires
-
-pub overflow_add-result-2 : goal.overflow_add-result-2
-overflow_add-result-2 c = let can = c.requires in omega (arith, can.room.inside, can.room.small)
 
 pub returns : goal.returns
 returns c =

@@ -1,21 +1,11 @@
 -- The right part is copied by its size, which is read where it stands. Assumes nothing.
 use mathlib.Core.Path.{refl}
-use native.Mathlib.Omega.{arith}
-use Rattle.words.proofs.Reading.{holds_room}
-use Rattle.steps.proofs.Wrapping.{right_stands, copy_can, ends_left}
+use Rattle.steps.proofs.Wrapping.{copy_can, ends_left}
 use Rattle.cursors.proofs.Laying.{wraps_right}
 use Rattle.cursors.proofs.put_right.Goals as goal
 
-pub size_at-m-requires : goal.size_at-m-requires
-size_at-m-requires c = holds_room (right_stands c.requires)
-
 pub put_copy_right-requires : goal.put_copy_right-requires
 put_copy_right-requires c = copy_can c.requires c.size_at-m.ensures
-
-pub overflow_add-result-2 : goal.overflow_add-result-2
-overflow_add-result-2 c =
-    let can = copy_can c.requires c.size_at-m.ensures in
-    omega (arith, can.room.inside, can.room.small)
 
 pub returns : goal.returns
 returns c =
