@@ -1,7 +1,6 @@
 -- A search for a plan under a guide answers by runs of the sheet: what it finds is the history of a run that ends final and obeys the guide,
 -- and where it finds nothing there is none. Assumes nothing.
-use Rattle.std.proofs.Common.{◌≡◌, ℕ, ◌≤◌, Bool, true, false, List, length, take, sym, refl, ap, ◌∙◌, subst, ap₂, true≢false, arith, take-take}
-use mathlib.Core.Bool.{false≢true}
+use Rattle.std.proofs.Common.{◌≡◌, ℕ, ◌≤◌, Bool, true, false, List, length, take, Some, None, refl, sym, ap, ◌∙◌, subst, ap₂, arith, take-take}
 use Rattle.runs.specs.Search.{is_plan, Means}
 use Rattle.runs.specs.Guide.{Guide, unguided, along, Obeys}
 use Rattle.runs.specs.Bounded.{join, flagged}
@@ -16,7 +15,7 @@ use Rattle.search.specs.Outcome.{Reported, is_found}
 use Rattle.search.specs.Searching.{verdict_from}
 use Rattle.search.specs.declared.Window.{Window}
 use Rattle.search.specs.declared.Outcome.{Outcome}
-use Rattle.search.specs.declared.Outcome.TheVariants.{Found}
+use Rattle.search.specs.declared.Outcome.TheVariants.{Found, Nothing, More}
 use Rattle.search.proofs.Reporting.{found_says, found_plan}
 use Rattle.first.specs.Settling.{Within, asking, Answers}
 use Rattle.first.specs.declared.History.{History}
@@ -65,21 +64,19 @@ module _ (s : List ℕ) (t : ℕ) (h : History) (i : ℕ) (w : Window) (l : i �
       (R : Reported 0 0 h.entries entries o (join (flagged true) (verdict_from s t (first_of s, along (take i h.entries) w.low w.high)))) where
     pub asked_yes :
         (n u : ℕ) → length entries ≡ length h.entries → o ≡ Found n u
-        → Answers s t h i w (record { found = true; history = record { entries = entries; n = n } })
+        → Answers s t h i w (Some (record { entries = entries; n = n }))
     asked_yes n u long e =
-        let (k, m, f, b) = found_run s t _ true R n u e (omega (arith, held.places)) in
-        record {
-          yes = λ y. (
-            record { places = long ∙ held.places; few = omega (arith, ends_length s u (take n entries) f) },
-            (u, m, f),
-            subst (λ (g : Guide). Obeys g (take n entries)) same_guide b,
-          );
-          no = λ y. absurd (true≢false y);
-        }
+        let (k, m, f, b) = found_run s t _ true R n u e (omega (arith, held.places)) in (
+          record { places = long ∙ held.places; few = omega (arith, ends_length s u (take n entries) f) },
+          (u, m, f),
+          subst (λ (g : Guide). Obeys g (take n entries)) same_guide b,
+        )
 
-    pub asked_no : is_found o ≡ false → Answers s t h i w (record { found = false; history = h })
-    asked_no e =
-        record {
-          yes = λ y. absurd (false≢true y);
-          no = λ y. (refl, λ u g m f b. no_run s t _ true R e u g m f (subst (λ (x : Guide). Obeys x g) (sym same_guide) b));
-        }
+    pub asked_no : is_found o ≡ false → Answers s t h i w None
+    asked_no e u g m f b = no_run s t _ true R e u g m f (subst (λ (x : Guide). Obeys x g) (sym same_guide) b)
+
+-- what is no plan
+pub no_plan : (o : Outcome) → ((n t : ℕ) → ¬ (o ≡ Found n t)) → is_found o ≡ false
+no_plan (Found n t) k = absurd (k n t refl)
+no_plan Nothing k = refl
+no_plan More k = refl

@@ -1,6 +1,6 @@
 -- The bounds one after the other: what the search reports at one of them ends the deepening, or the next is tried. A plan that is found has the
 -- fewest transitions once no search for fewer finds one. Assumes nothing.
-use Rattle.std.proofs.Common.{◌≡◌, ℕ, suc, ◌+◌, ◌<◌, ◌≤◌, Bool, true, false, List, length, take, sym, refl, ap, ◌∙◌, subst, true≢false, arith}
+use Rattle.std.proofs.Common.{◌≡◌, ℕ, suc, ◌+◌, ◌-◌, ◌<◌, ◌≤◌, Bool, true, false, List, length, take, sym, refl, ap, ◌∙◌, subst, true≢false, arith}
 use Rattle.runs.specs.Search.{Verdict, plan, nothing, more, Means}
 use Rattle.runs.specs.First.{NoneBelow}
 use Rattle.runs.specs.Guide.{unguided}
@@ -11,19 +11,12 @@ use Rattle.runs.proofs.Deepening.{so_far_none, so_far_nothing, so_far_more, so_f
 use Rattle.demands.specs.Decoded.{world_of, first_of, bound_of}
 use Rattle.demands.specs.Planning.{Goes, Ends}
 use Rattle.search.specs.Outcome.{ReportsVerdict, Reported, is_found, is_more}
-use Rattle.search.specs.Searching.{verdict_from, verdict_on}
-use Rattle.search.specs.declared.Question.{Question}
+use Rattle.search.specs.Searching.{verdict_from}
 use Rattle.search.specs.declared.Outcome.{Outcome}
 use Rattle.search.specs.declared.Outcome.TheVariants.{Found, Nothing, More}
 use Rattle.search.proofs.Reporting.{unfound_kept}
-use Rattle.first.specs.Settling.{transition_count, any_run, Holds, FoundSoFar, FewestFound}
+use Rattle.first.specs.Settling.{transition_count, Holds, FoundSoFar, FewestFound}
 use Rattle.first.proofs.Asking.{unguided_means, found_run, no_run}
-
--- any run was asked for
-pub any_asked :
-    (s moves : List ℕ) (left : ℕ) (cut : Bool) {a : Question} {trace trace' : List ℕ} {o : Outcome} → a ≡ any_run left cut → Reported 0 0 trace trace' o (verdict_on s moves a)
-    → Reported 0 0 trace trace' o (join (flagged cut) (verdict_from s left (first_of s, unguided)))
-any_asked s moves left cut {a} {trace} {trace'} {o} e R = subst (λ (x : Question). Reported 0 0 trace trace' o (verdict_on s moves x)) e R
 
 -- a plan was found within t transitions, where none has fewer than `low`
 module _ {s : List ℕ} (low t : ℕ) (cut : Bool) (few : NoneBelow (Goes (world_of s)) (Ends (world_of s)) low (first_of s)) (l : t ≤ bound_of s) {trace trace' : List ℕ} {o : Outcome}
@@ -48,16 +41,14 @@ pub tried_none : (s : List ℕ) → Tried s 0
 tried_none s = record { none_so_far = so_far_none (Goes (world_of s)) (Ends (world_of s)) (bound_of s) (first_of s) }
 
 -- the bound is raised: beyond those tried, at most one past d, with room for a plan
-pub record Raising (s best₀ best : List ℕ) (d low : ℕ) : Type 0 where
-  pub best_long : length best ≡ length best₀
+pub record Raising (s best : List ℕ) (d low : ℕ) : Type 0 where
   pub bound : d ≡ bound_of s
   pub room : d ≤ length best
   pub tried : Tried s low
   pub inside : low ≤ d + 1
 
 -- a plan of fewer transitions is sought than that of the plan at hand
-pub record Lowering (s best₀ best : List ℕ) (low : ℕ) (fewest : Outcome) : Type 0 where
-  pub best_long : length best ≡ length best₀
+pub record Lowering (s best : List ℕ) (low : ℕ) (fewest : Outcome) : Type 0 where
   pub room : bound_of s ≤ length best
   pub so_far : FoundSoFar s low best fewest
 
@@ -155,3 +146,14 @@ module _ {s : List ℕ} {low : ℕ} {trace : List ℕ} {o : Outcome} (F : FoundS
         go (plan h t) (q, k) m y p = found m.none_below (omega (arith, l, ap transition_count q, m.within)) y p
         go nothing q m y p = absurd (omega (arith, l, ap transition_count q))
         go more q m y p = absurd (omega (arith, l, ap transition_count q))
+
+-- at most `left` were asked for: a plan takes the place of that at hand, or none has so few
+module _ {s best : List ℕ} {low : ℕ} {fewest : Outcome} (L : Lowering s best low fewest) (left : ℕ) (l : left < transition_count fewest) {best' : List ℕ} {x : Outcome}
+    (R : Reported 0 0 best best' x (join (flagged true) (verdict_from s left (first_of s, unguided)))) (long : length best' ≡ length best) where
+  pub lowering_found : low ≤ left → is_found x ≡ true → Lowering s best' low x × (transition_count x - low < transition_count fewest - low)
+  lowering_found e z =
+      let X = lowered L.so_far left l R L.room z in
+      (record { room = omega (arith, long, L.room); so_far = X.0 }, omega (arith, X.1, l, e))
+
+  pub lowering_none : is_found x ≡ false → Lowering s best' (left + 1) fewest
+  lowering_none z = record { room = omega (arith, long, L.room); so_far = (lowered_none L.so_far left l R z).1 }

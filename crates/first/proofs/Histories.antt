@@ -1,7 +1,6 @@
 -- A history among its 64 places: what follows its first entries, and how it is laid and handed out entry by entry. Assumes nothing.
-use Rattle.std.proofs.Common.{◌≡◌, ℕ, suc, ◌+◌, ◌<◌, ◌≤◌, List, ◌++◌, length, get_or, take, drop}
-use Rattle.std.proofs.Common.{set, sym, ap, ◌∙◌, ap₂, zero-add, add-one, arith, drop_of_length-le, length-take-le, get_or-take, take_at}
-use lib.Seq.{paste-suc}
+use Rattle.std.proofs.Common.{◌≡◌, ℕ, suc, ◌<◌, ◌≤◌, List, length, get_or, take, drop}
+use Rattle.std.proofs.Common.{ap, ◌∙◌, arith, drop_of_length-le, length-take-le, get_or-take, take_at}
 use Rattle.runs.specs.Guide.{rank}
 use Rattle.runs.proofs.Growing.{rank_inside}
 use Rattle.search.specs.Outcome.{lay}
@@ -22,13 +21,3 @@ module _ (h : History) (W : Within h) where
 -- a history laid into places from the front
 pub laid_history : (places h : List ℕ) → length h ≤ length places → take (length h) (lay places 0 h) ≡ h
 laid_history places h l = ap (take (length h)) (lay_front h places l) ∙ take_at h (drop (length h) places) (length h) (omega arith)
-
--- places written one after the other from the front
-abbrev pub written : (trace entries : List ℕ) → (i : ℕ) → List ℕ
-written trace entries i = take i entries ++ drop i trace
-
-pub written_more : (trace entries : List ℕ) (i : ℕ) → i < length trace → i < length entries → set (written trace entries i) i (get_or entries i 0) ≡ written trace entries (i + 1)
-written_more trace entries i l m =
-    ap (λ (k : ℕ). set (take i entries ++ drop k trace) k (get_or entries i 0)) (sym (zero-add i))
-    ∙ paste-suc trace 0 entries i 0 (omega arith) m
-    ∙ ap₂ (λ (j k : ℕ). take j entries ++ drop k trace) (sym (add-one i)) (zero-add (suc i) ∙ sym (add-one i))

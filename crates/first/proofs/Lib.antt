@@ -1,5 +1,4 @@
 pub mod Histories
-pub mod Kept
 pub mod Asking
 pub mod Deepened
 pub mod Settled

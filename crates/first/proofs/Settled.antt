@@ -1,6 +1,6 @@
 -- Settling an entry: an answer raises what is known of the rank that follows, or lowers the rank at hand, until they meet; then one entry more
 -- is settled. Once all are, the history is the first plan's. Assumes nothing.
-use Rattle.std.proofs.Common.{◌≡◌, ℕ, suc, ◌+◌, ◌-◌, ◌<◌, ◌≤◌, true, false, ◌⊎◌, List, length, drop, sym, ◌∙◌, subst, ⊎_elim, add-one, arith, take_all}
+use Rattle.std.proofs.Common.{◌≡◌, ℕ, suc, ◌+◌, ◌-◌, ◌<◌, ◌≤◌, List, length, drop, Option, Some, None, inl, inr, ◌⊎◌, sym, ◌∙◌, subst, add-one, arith, take_all}
 use native.Mathlib.Decide.{dec_lt}
 use Rattle.runs.specs.Guide.{rank}
 use Rattle.runs.specs.Growing.{Grown, Narrowed}
@@ -10,7 +10,6 @@ use Rattle.demands.specs.Planning.{Goes, Ends, FirstPlan}
 use Rattle.search.specs.declared.Window.{Window}
 use Rattle.first.specs.Settling.{history_of, Within, CanSettle, Settled, Answers}
 use Rattle.first.specs.declared.History.{History}
-use Rattle.first.specs.declared.Answer.{Answer}
 use Rattle.first.proofs.Histories.{history_length}
 
 -- the rank of what follows the first i entries
@@ -40,21 +39,29 @@ module _ {s : List ℕ} {t i : ℕ} {h : History} where
     pub narrowing_inside : i ≤ h.n
     narrowing_inside = omega (arith, N.narrowed.inside, history_length h N.within)
 
-    -- an answer was given
-    pub narrowing_on :
-        (w : Window) (low' : ℕ) {r : Answer} → CanSettle s t → w.low ≡ low → low < w.high → w.high ≤ rank_of h i → Answers s t h i w r
-        → ((r.found ≡ true) × (low' ≡ low)) ⊎ ((r.found ≡ false) × (low' ≡ w.high))
-        → Narrowing s t i low' r.history × (rank_of r.history i - low' < rank_of h i - low)
-    narrowing_on w low' {r} P e l m A = ⊎_elim
-        (λ (y, z).
-        let (held, (u, few, f), b) = A.yes y in
-        let (same, g) = fewest_same (Goes (world_of s)) (Ends (world_of s)) t (first_of s) u (history_of r.history) P.fewest few f in
-        let (X, less) = narrowed_found (Goes (world_of s)) (Ends (world_of s)) t (first_of s) N.narrowed w.high (history_of r.history) g (rw e at b) in
-        (rw z (record { within = held; narrowed = X }), omega arith))
-        (λ (y, z).
-        let (same, none) = A.no y in
-        let X = narrowed_up (Goes (world_of s)) (Ends (world_of s)) t (first_of s) N.narrowed w.high (λ g f b. none t g (omega arith) f (rw e b)) in
-        (rw (z, same) (record { within = N.within; narrowed = X }), rw (z, same) (omega arith)))
+    module _ (w : Window) (P : CanSettle s t) (e : w.low ≡ low) (l : low < w.high) (m : w.high ≤ rank_of h i) where
+      -- a plan was found, of a lesser rank
+      pub narrowing_found : {g : History} → Answers s t h i w (Some g) → Narrowing s t i low g × (rank_of g i < rank_of h i)
+      narrowing_found {g} (held, (u, few, f), b) =
+          let (same, r) = fewest_same (Goes (world_of s)) (Ends (world_of s)) t (first_of s) u (history_of g) P.fewest few f in
+          let (X, less) = narrowed_found (Goes (world_of s)) (Ends (world_of s)) t (first_of s) N.narrowed w.high (history_of g) r (rw e at b) in
+          (record { within = held; narrowed = X }, omega arith)
+
+      -- there is none
+      pub narrowing_up : Answers s t h i w None → Narrowing s t i w.high h
+      narrowing_up none =
+          record {
+            within = N.within;
+            narrowed = narrowed_up (Goes (world_of s)) (Ends (world_of s)) t (first_of s) N.narrowed w.high (λ g f b. none t g (omega arith) f (rw e b));
+          }
+
+      -- an answer was given: the window moves up, or the rank at hand goes down
+      pub narrowing_on :
+          (r : Option History) {low' : ℕ} {h' : History} → Answers s t h i w r
+          → ((g : History) × (r ≡ Some g) × (h' ≡ g) × (low' ≡ low)) ⊎ ((r ≡ None) × (h' ≡ h) × (low' ≡ w.high))
+          → Narrowing s t i low' h' × (rank_of h' i - low' < rank_of h i - low)
+      narrowing_on r A (inl (g, eg, eh, el)) = let X = narrowing_found (rw eg at A) in (rw (eh, el) X.0, rw (eh, el) (omega (arith, X.1)))
+      narrowing_on r A (inr (er, eh, el)) = let X = narrowing_up (rw er at A) in (rw (eh, el) X, rw (eh, el) (omega (arith, e, l, m)))
 
     -- what is known meets the rank at hand
     pub narrowing_met : rank_of h i ≤ low → Settled s t (i + 1) h

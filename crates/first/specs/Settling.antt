@@ -1,6 +1,6 @@
 -- Own vocabulary: what the functions of the first plan ask and answer: plans of the fewest transitions, and how far a plan's history is that
 -- of the first one. Assumes nothing.
-use Rattle.std.specs.Prelude.{◌≡◌, ℕ, ◌≤◌, Bool, true, false, List, length, take}
+use Rattle.std.specs.Prelude.{◌≡◌, ℕ, ◌≤◌, false, List, length, take, Option, Some, None}
 use Rattle.runs.specs.Search.{Verdict, plan, nothing, more}
 use Rattle.runs.specs.First.{NoneBelow}
 use Rattle.runs.specs.Guide.{Guide, along, Obeys}
@@ -9,11 +9,9 @@ use Rattle.demands.specs.Decoded.{world_of, first_of, bound_of}
 use Rattle.demands.specs.Planning.{Goes, Ends, RunOf}
 use Rattle.search.specs.Outcome.{is_more}
 use Rattle.search.specs.declared.Window.{Window}
-use Rattle.search.specs.declared.Question.{Question}
 use Rattle.search.specs.declared.Outcome.{Outcome}
 use Rattle.search.specs.declared.Outcome.TheVariants.{Found, Nothing, More}
 use Rattle.first.specs.declared.History.{History}
-use Rattle.first.specs.declared.Answer.{Answer}
 
 -- the entries of a history
 abbrev pub history_of : History → List ℕ
@@ -24,19 +22,11 @@ pub record Within (h : History) : Type 0 where
   pub places : length h.entries ≡ 64
   pub few : h.n ≤ 64
 
--- no such plan: the history at hand stays
-abbrev pub not_found : History → Answer
-not_found h = record { found = false; history = h }
-
 -- the transitions of a plan
 abbrev pub transition_count : Outcome → ℕ
 transition_count (Found n t) = t
 transition_count Nothing = 0
 transition_count More = 0
-
--- any run of at most so many transitions
-abbrev pub any_run : (left : ℕ) (cut : Bool) → Question
-any_run left cut = record { free = true; window = record { low = 0; high = 0 }; left = left; cut = cut }
 
 -- the outcome says the verdict, and a plan's history stands in front of the trace
 abbrev pub Holds : (trace : List ℕ) → Outcome → Verdict → Type 0
@@ -72,6 +62,6 @@ abbrev pub asking : History → (i : ℕ) → Window → Guide
 asking h i w = along (take i (history_of h)) w.low w.high
 
 -- what came of asking for a plan within t transitions
-pub record Answers (s : List ℕ) (t : ℕ) (h : History) (i : ℕ) (w : Window) (r : Answer) : Type 0 where
-  pub yes : r.found ≡ true → Within r.history × ((u : ℕ) × (u ≤ t) × RunOf s (history_of r.history) u) × Obeys (asking h i w) (history_of r.history)
-  pub no : r.found ≡ false → (r.history ≡ h) × ((u : ℕ) (g : List ℕ) → u ≤ t → RunOf s g u → ¬ Obeys (asking h i w) g)
+abbrev pub Answers : (s : List ℕ) (t : ℕ) (h : History) (i : ℕ) (w : Window) → Option History → Type 0
+Answers s t h i w (Some g) = Within g × ((u : ℕ) × (u ≤ t) × RunOf s (history_of g) u) × Obeys (asking h i w) (history_of g)
+Answers s t h i w None = (u : ℕ) (g : List ℕ) → u ≤ t → RunOf s g u → ¬ Obeys (asking h i w) g

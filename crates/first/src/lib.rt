@@ -10,32 +10,26 @@ ghost use Rattle.demands.specs.Planning.{FirstPlan, verdict_of};
 ghost use Rattle.search.specs.Outcome.{Reported};
 ghost use Rattle.search.specs.Searching.{Standing};
 ghost use Rattle.explored.specs.Known.{Lasting};
-ghost use Rattle.first.specs.Settling.{history_of, Within, not_found, transition_count, any_run, FoundSoFar, FewestFound, CanSettle, Settled, Answers};
+ghost use Rattle.first.specs.Settling.{history_of, Within, transition_count, FoundSoFar, FewestFound, CanSettle, Settled, Answers};
 
 use search::{Outcome, Question, Window};
 use sheet::Inspection;
 
 // A history: the first n of the entries.
+// Kept: the array with its length beside it: a plan's history outlives the search that found it, and there is no heap and no slice lent for it.
 #[derive(Clone, Copy)]
 pub struct History {
     pub entries: [u16; sheet::MOST_TRANSITIONS],
     pub n: usize,
 }
 
-// What came of a question: whether there is such a plan, and the history to go on with.
-#[derive(Clone, Copy)]
-struct Answer {
-    found: bool,
-    history: History,
-}
-
+// The transitions of a plan.
 fn transition_count(o: Outcome) -> usize
     ensures { result ≡ transition_count o }
 {
     match o {
-        Outcome::Found { n: _, t } => t,
-        Outcome::Nothing => 0,
-        Outcome::More => 0,
+        Outcome::Found { t, .. } => t,
+        _ => 0,
     }
 }
 
@@ -65,14 +59,17 @@ fn lower(
     ensures stands { Standing s.now work.new found flags.new numbers.new }
     ensures index { Lasting s.now index.new }
 {
-    let none = [0u16; 1];
     let mut fewest = o;
     let mut tried = low;
     while tried < transition_count(fewest) {
         let left = half_way(tried, transition_count(fewest));
-        let a = any_run(left, true);
-        let x = search::explore(work, best, flags, numbers, index, s, found, &none[..0], a);
-        if search::is_found(x) {
+        let a = Question {
+            window: None,
+            left,
+            cut: true,
+        };
+        let x = search::explore(work, best, flags, numbers, index, s, found, &[], a);
+        if x.is_found() {
             fewest = x;
         } else {
             tried = left + 1;
@@ -87,16 +84,16 @@ const LAST: usize = 3;
 // Whether it does, after two searches that cost so much, the bound of one being lower by one: no answer depends on it. Small searches tell
 // nothing of the next.
 fn doubles(before: u32, cost: u32) -> bool {
-    let b = before as u64;
-    let c = cost as u64;
+    let b = u64::from(before);
+    let c = u64::from(cost);
     (8 <= b) & (3 * b <= 2 * c) & (5 * c <= 11 * b)
 }
 
 // How many bounds to pass over next, after two searches that cost so much: one where the second cost little more. No answer depends on it.
 fn leap(before: u32, cost: u32) -> usize {
-    let b = before as u64;
-    let c = cost as u64;
-    if 2 * c <= 3 * b { 1 } else { 0 }
+    let b = u64::from(before);
+    let c = u64::from(cost);
+    usize::from(2 * c <= 3 * b)
 }
 
 // The bound to try where those below `low` are done, so many being passed over: D itself where that is one of the last, to be tried at once.
@@ -104,25 +101,10 @@ fn next_bound(low: usize, d: usize, at_once: bool, ahead: usize) -> usize
     requires { low ≤ d }
     ensures { (low ≤ result) × (result ≤ d) }
 {
-    if at_once & (d - low < LAST) {
+    if at_once && d - low < LAST {
         return d;
     }
-    if d - low <= ahead {
-        return d;
-    }
-    low + ahead
-}
-
-// What is asked where any run will do.
-fn any_run(left: usize, cut: bool) -> Question
-    ensures { result ≡ any_run left cut }
-{
-    Question {
-        free: true,
-        window: Window { low: 0, high: 0 },
-        left,
-        cut,
-    }
+    low + ahead.min(d - low)
 }
 
 // Raises the bound, from 0 to D, until a plan is found, or no run goes on past it. A plan's history is left in `best`.
@@ -142,7 +124,6 @@ fn deepen(
 {
     let l = found.layout;
     let d = l.d;
-    let none = [0u16; 1];
     let mut low = 0;
     let mut at_once = false;
     let mut ahead = 0;
@@ -150,9 +131,13 @@ fn deepen(
     while low <= d {
         let t = next_bound(low, d, at_once, ahead);
         let begun = engine::surveys(numbers);
-        let a = any_run(t, false);
-        let o = search::explore(work, best, flags, numbers, index, s, found, &none[..0], a);
-        if !search::is_more(o) {
+        let a = Question {
+            window: None,
+            left: t,
+            cut: false,
+        };
+        let o = search::explore(work, best, flags, numbers, index, s, found, &[], a);
+        if !o.is_more() {
             return lower(work, best, flags, numbers, index, s, found, low, o);
         }
         let cost = std::num::wrapping_sub_u32(engine::surveys(numbers), begun);
@@ -176,15 +161,6 @@ fn rank_at(h: History, i: usize) -> u32
     0
 }
 
-fn not_found(history: History) -> Answer
-    ensures { result ≡ not_found history }
-{
-    Answer {
-        found: false,
-        history,
-    }
-}
-
 // Asks for a plan of at most t transitions whose history begins with the first i entries, what follows them lying in the window.
 fn ask(
     work: &mut [u32],
@@ -197,7 +173,7 @@ fn ask(
     h: History,
     i: usize,
     window: Window,
-) -> Answer
+) -> Option<History>
     requires { Standing s.now work.old found flags.old numbers.old × (t ≤ bound_of s.now) × Within h × (i ≤ h.n) × Lasting s.now index.old }
     ensures answer { Answers s.now t h i window result }
     ensures stands { Standing s.now work.new found flags.new numbers.new }
@@ -206,8 +182,7 @@ fn ask(
     let given = h.entries;
     let mut entries = h.entries;
     let a = Question {
-        free: false,
-        window,
+        window: Some(window),
         left: t,
         cut: true,
     };
@@ -222,14 +197,10 @@ fn ask(
         &given[..i],
         a,
     );
-    match o {
-        Outcome::Found { n, t: _ } => Answer {
-            found: true,
-            history: History { entries, n },
-        },
-        Outcome::Nothing => not_found(h),
-        Outcome::More => not_found(h),
-    }
+    let Outcome::Found { n, .. } = o else {
+        return None;
+    };
+    Some(History { entries, n })
 }
 
 // Where the next window ends: half way from what is known to what is found.
@@ -237,10 +208,7 @@ fn middle(low: u32, rank: u32) -> u32
     requires { rank ≤ 65536 }
     ensures { (result ≤ rank) × (low < rank → low < result) }
 {
-    if low < rank {
-        return low + (rank - low + 1) / 2;
-    }
-    rank
+    rank - rank.saturating_sub(low) / 2
 }
 
 // Settles entry i, those before it being settled: of what may follow them the least rank is sought, first below that of the plan at hand and
@@ -266,10 +234,9 @@ fn narrow(
     let mut high = rank_at(h, i);
     while low < rank_at(best, i) {
         let window = Window { low, high };
-        let a = ask(work, flags, numbers, index, s, found, t, best, i, window);
-        best = a.history;
-        if !a.found {
-            low = high;
+        match ask(work, flags, numbers, index, s, found, t, best, i, window) {
+            Some(nearer) => best = nearer,
+            None => low = high,
         }
         high = middle(low, rank_at(best, i));
     }
@@ -294,6 +261,7 @@ fn grow(
 {
     let mut best = h;
     let mut settled = 0;
+    // Kept: a `while`, since each turn changes best.n, where it ends.
     while settled < best.n {
         best = narrow(work, flags, numbers, index, s, found, t, best, settled);
         settled += 1;
@@ -306,12 +274,7 @@ fn hand_out(trace: &mut [u16], h: History)
     requires { Within h × (h.n ≤ length trace.old) }
     ensures trace { trace.new ≡ history_of h ++ drop h.n trace.old }
 {
-    let entries = h.entries;
-    let mut i = 0;
-    while i < h.n {
-        trace[i] = entries[i];
-        i += 1;
-    }
+    trace[..h.n].copy_from_slice(&h.entries[..h.n]);
 }
 
 // The first plan in the place of the plan found, which has the fewest transitions: its history goes into the trace.
@@ -330,24 +293,13 @@ fn settle(
     requires fewest_found { FewestFound s.now entries o × (length entries ≡ 64) }
     ensures answer { Reported 0 0 trace.old trace.new result (verdict_of s.now) }
 {
-    match o {
-        Outcome::Found { n, t } => {
-            let h = grow(
-                work,
-                flags,
-                numbers,
-                index,
-                s,
-                found,
-                t,
-                History { entries, n },
-            );
-            hand_out(trace, h);
-            Outcome::Found { n: h.n, t }
-        }
-        Outcome::Nothing => o,
-        Outcome::More => o,
-    }
+    let Outcome::Found { n, t } = o else {
+        return o;
+    };
+    let start = History { entries, n };
+    let h = grow(work, flags, numbers, index, s, found, t, start);
+    hand_out(trace, h);
+    Outcome::Found { n: h.n, t }
 }
 
 // The first plan of an accepted sheet; the work area is as long as required, the index of any length.

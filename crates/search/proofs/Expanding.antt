@@ -1,6 +1,7 @@
 -- The loop over the transitions ahead of a visit's cursor: what is known by now, beside the verdict on those still ahead, is the verdict on
 -- all. The tables for the visit's depth stand while what a transition led to was searched, or are filled again. Assumes nothing.
-use Prim.Native.Nat.{ℕ, ◌+◌, ◌-◌, ◌≤◌}
+use Rattle.std.specs.Prelude.{Ok, ◌&&◌}
+use Prim.Native.Nat.{ℕ, ◌+◌, ◌-◌}
 use native.Mathlib.Omega.{arith}
 use mathlib.Core.Bool.{Bool, true, false, true≢false}
 use mathlib.Core.List.{List, [], ◌∷◌}
@@ -14,7 +15,7 @@ use Rattle.runs.specs.Search.{Verdict}
 use Rattle.runs.specs.Guide.{Guide}
 use Rattle.runs.specs.Bounded.{join, flagged}
 use Rattle.words.proofs.Written.{kept_refl, kept_trans}
-use Rattle.engine.specs.Tables.{Surveyed, Filled, SameTables}
+use Rattle.engine.specs.Tables.{Prepared, Surveyed, Filled, SameTables}
 use Rattle.engine.specs.Frames.{Frame, KeptFrames, frame_at}
 use Rattle.engine.specs.Going.{transitions_of, Ahead, move_of, GoesOn}
 use Rattle.engine.specs.declared.Cursor.{Cursor}
@@ -23,84 +24,50 @@ use Rattle.engine.proofs.Frames.{next_at, frame_kept}
 use Rattle.engine.proofs.Tables.{stands, filled_none, filled_then}
 use Rattle.search.specs.Outcome.{Reported, is_found, is_more, told}
 use Rattle.search.specs.Moves.{passes, noted}
-use Rattle.search.specs.Searching.{verdict_from, branches_of, Ready, configured, guide_of, verdict_at, branches_at, SearchedAs, Unknown, LookedAt, Going, Preserves}
-use Rattle.search.specs.Searching.{Expanded, Follows}
+use Rattle.search.specs.Searching.{verdict_from, branches_of, Ready, configured, guide_of, branches_at, SearchedAs, LookedAt, Going, Preserves}
+use Rattle.search.specs.Searching.{Expanded, Came, Follows}
 use Rattle.search.specs.declared.Task.{Task}
 use Rattle.search.specs.declared.Visit.{Visit}
-use Rattle.search.specs.declared.Seen.{Seen}
 use Rattle.search.specs.declared.Outcome.{Outcome}
 use Rattle.search.proofs.Rows.{tried_found, tried_more, tried_none, flag_reported, told_more}
 use Rattle.search.proofs.Noting.{unfound_flag}
-use Rattle.search.proofs.Trying.{First, ahead_same, first, leads, back, forth}
+use Rattle.search.proofs.Trying.{First, ahead_same, first, back, child, forth}
 
--- what came of where a transition of q led, the visit v: looked at, or searched on from there
-pub record Searched
-    (s w w' moves trace trace' : List ℕ) (t : Task) (q v : Visit) (cut : Bool) (p : Prog) (flags flags' : List Bool) (numbers numbers' : List ℕ) (o : Outcome) (stale : Bool) : Type 0 where
-  pub reported : Reported v.n v.depth trace trace' o (verdict_at s moves t v cut p)
-  pub preserves : Preserves s w w' v flags flags' numbers numbers'
-  pub same : stale ≡ false → SameTables q.depth flags flags' numbers numbers'
-
--- the same, by other names of what it left
-pub as_left :
-    {s w w' w'' moves trace trace' trace'' : List ℕ} {t : Task} {q v : Visit} {cut : Bool} {p : Prog} {flags flags' flags'' : List Bool} {numbers numbers' numbers'' : List ℕ}
-    {o o' : Outcome} {stale stale' : Bool}
-    → w' ≡ w'' → trace' ≡ trace'' → flags' ≡ flags'' → numbers' ≡ numbers'' → stale ≡ stale' → o ≡ o'
-    → Searched s w w'' moves trace trace'' t q v cut p flags flags'' numbers numbers'' o' stale'
-    → Searched s w w' moves trace trace' t q v cut p flags flags' numbers numbers' o stale
-as_left ew et ef en es eo Q = rw (ew, et, ef, en, es, eo) Q
-
--- what the index may be told of it
-pub searched_as :
-    {s w w' moves trace trace' : List ℕ} {n : ℕ} {t : Task} {q v : Visit} {cut : Bool} {p : Prog} {flags flags' : List Bool} {numbers numbers' : List ℕ} {o : Outcome} {stale : Bool}
-    → Ready s w moves n t v p → Searched s w w' moves trace trace' t q v cut p flags flags' numbers numbers' o stale → SearchedAs s w' moves t v cut o
-searched_as {w' = w'} {p = p} R Q = record {
-  program = p;
-  visited = record { of = R.visited.of; frame = frame_kept R.visited.frame w' Q.preserves.kept; used_up = R.visited.used_up };
-  few_left = omega (arith, R.deep);
-  tells = λ e. unfound_flag _ _ _ _ _ _ Q.reported.says e;
-}
-
+-- a visit was looked at, and its transitions are tried from the first cursor
 module _
-    (trace : List ℕ) {s w moves : List ℕ} {t : Task} {q v : Visit} {x : Taken} {cut : Bool} {p : Prog} {flags flags₂ : List Bool} {numbers numbers₂ : List ℕ} {a : Seen}
-    (Y : Follows moves q x v) (R : Ready s w moves (length trace) t v p) (A : LookedAt s w moves t v cut flags flags₂ numbers numbers₂ a) where
-  -- it was seen at once
-  pub seen : a.known ≡ true → Searched s w w moves trace trace t q v cut p flags flags₂ numbers numbers₂ a.outcome false
-  seen e =
-      let d = Y.depth_is in
-      record {
-        reported = A.known p R.visited e trace;
-        preserves = record { kept = kept_refl _ w; prepared = A.prepared; filled = λ k l h. A.filled k l (omega arith) };
-        same = λ z. A.filled q.depth (omega arith) (omega arith);
-      }
+    (trace : List ℕ) {s w moves : List ℕ} {t : Task} {q : Visit} {cut : Bool} {flags flags₁ : List Bool} {numbers numbers₁ : List ℕ} {k : Cursor}
+    (A : LookedAt s w moves t q cut flags flags₁ numbers numbers₁ (Ok k)) where
+  abbrev pub deeper : {p : Prog} → Ready s w moves (length trace) t q p → Going s w moves (length trace) t q k flags₁ numbers₁
+  deeper {p} R =
+      let u = A.says p R.visited in
+      record { program = p; ready = R; some_left = u.some_left; surveyed = u.surveyed; ahead = transitions_of s (configured q p); listed = u.first }
 
-  module _ (e : a.known ≡ false) where
-    abbrev unknown : Unknown s moves t v cut p flags₂ numbers₂ a
-    unknown = A.unknown p R.visited e
+  module _ {w' trace' : List ℕ} {flags' : List Bool} {numbers' : List ℕ} {o : Outcome} (E : Expanded s w moves trace trace' t q cut k flags₁ numbers₁ o)
+      (P : Preserves s w w' q flags₁ flags' numbers₁ numbers') where
+    pub went : Came s w moves trace trace' t q cut o
+    went p R = subst (Reported q.n q.depth trace trace' o) (sym (A.says p R.visited).same) (E (deeper R))
 
-    -- it is searched on from
-    abbrev pub deeper : Going s w moves (length trace) t v a.cursor flags₂ numbers₂
-    deeper = record {
-      program = p;
-      ready = R;
-      some_left = unknown.some_left;
-      surveyed = unknown.surveyed;
-      ahead = transitions_of s (configured v p);
-      listed = unknown.first;
+    pub preserved : Preserves s w w' q flags flags' numbers numbers'
+    preserved = record {
+      kept = P.kept;
+      prepared = P.prepared;
+      filled = filled_then A.filled P.filled q.depth (q.depth + q.left) (omega arith) (omega arith) (omega arith) (omega arith);
     }
 
-    pub went :
-        {w' trace' : List ℕ} {flags' : List Bool} {numbers' : List ℕ} {o : Outcome} {stale : Bool} → 1 ≤ q.left
-        → Expanded s w moves trace trace' t v cut a.cursor flags₂ numbers₂ o → Preserves s w w' v flags₂ flags' numbers₂ numbers' → stale ≡ leb 8 q.left
-        → Searched s w w' moves trace trace' t q v cut p flags flags' numbers numbers' o stale
-    went {trace' = trace'} {o = o} l E P z =
-        let d = Y.depth_is in
-        let k = Y.left_is in
-        let F = filled_then A.filled P.filled v.depth (v.depth + v.left) (omega arith) (omega arith) (omega arith) (omega arith) in
-        record {
-          reported = subst (Reported v.n v.depth trace trace' o) (sym unknown.same) (E deeper);
-          preserves = record { kept = P.kept; prepared = P.prepared; filled = F };
-          same = λ y. let few = leb-false 8 q.left (sym z ∙ y) in F q.depth (omega arith) (omega arith);
-        }
+    -- what the index may be told of it
+    pub searched_as : {p : Prog} → Ready s w moves (length trace) t q p → SearchedAs s w' moves t q cut o
+    searched_as {p} R = record {
+      program = p;
+      visited = record { of = R.visited.of; frame = frame_kept R.visited.frame w' P.kept; used_up = R.visited.used_up };
+      few_left = omega (arith, R.deep);
+      tells = λ e. unfound_flag _ _ _ _ _ _ (went p R).says e;
+    }
+
+-- it was seen at once
+pub seen :
+    {s w : List ℕ} {q : Visit} {flags flags' : List Bool} {numbers numbers' : List ℕ}
+    → Prepared s flags' numbers' → Filled q.depth q.depth flags flags' numbers numbers' → Preserves s w w q flags flags' numbers numbers'
+seen {w = w} P F = record { kept = kept_refl _ w; prepared = P; filled = λ k l h. F k l (omega arith) }
 
 -- from where a transition leads, and from all of a list
 abbrev from_next : List ℕ → Task → Visit → Configuration × Guide → Verdict
@@ -177,10 +144,11 @@ module _
     pub first : First s q g.program L.ahead w₁ x
 
   pub turned :
-      {w₁ : List ℕ} {flags₁ : List Bool} {numbers₁ : List ℕ} {x : Taken} → Surveyed s q.state q.depth flags₁ numbers₁
+      {w₁ : List ℕ} {flags₁ : List Bool} {numbers₁ : List ℕ} {x : Taken} {spent : Bool} → Surveyed s q.state q.depth flags₁ numbers₁
       → Filled q.depth q.depth flags' flags₁ numbers' numbers₁
-      → GoesOn s q.state q.depth k w' w₁ x → is_none L.ahead ≡ false → Turn w₁ flags₁ numbers₁ x
-  turned S Z M some = record { surveyed = S; filled = Z; kept = M.kept; first = first (onward S) M some }
+      → GoesOn s q.state q.depth k w' w₁ x
+      → ((s : List ℕ) (c : Configuration) (xs : List Transition) → Ahead s c k xs → spent ≡ is_none xs) → spent ≡ false → Turn w₁ flags₁ numbers₁ x
+  turned S Z M z some = record { surveyed = S; filled = Z; kept = M.kept; first = first (onward S) M (sym (z _ _ _ L.listed) ∙ some) }
 
   -- it was dealt with: a plan is that of all; else the loop goes on from the cursor after it
   pub record Dealt (x : Taken) (w'' trace'' : List ℕ) (flags'' : List Bool) (numbers'' : List ℕ) (o : Outcome) (stale'' : Bool) : Type 0 where
@@ -241,19 +209,23 @@ module _
 
   -- the guide let it pass, and what came of where it leads was noted
   pub passed :
-      {v : Visit} {w'' trace₂ trace'' : List ℕ} {flags'' : List Bool} {numbers'' : List ℕ} {o : Outcome} {stale'' : Bool}
+      {v : Visit} {w'' trace₂ trace'' : List ℕ} {flags'' : List Bool} {numbers'' : List ℕ} {o : Outcome} {tried : Bool}
       → passes (guide_of moves t q) (move_of x.entry) ≡ true → Follows moves q x v
-      → Searched s w₁ w'' moves trace' trace₂ t q v cut (leads going T.first cut) flags₁ flags'' numbers₁ numbers'' o stale''
-      → trace'' ≡ noted (move_of x.entry) q.n o trace₂ → Dealt L x w'' trace'' flags'' numbers'' o stale''
-  passed {trace₂ = trace₂} {o = o} e Y Q z =
+      → Came s w₁ moves trace' trace₂ t v cut o → Preserves s w₁ w'' v flags₁ flags'' numbers₁ numbers''
+      → (tried ≡ false → Filled v.depth v.depth flags₁ flags'' numbers₁ numbers'')
+      → trace'' ≡ noted (move_of x.entry) q.n o trace₂ → Dealt L x w'' trace'' flags'' numbers'' o (tried && leb 8 q.left)
+  passed {v} {w''} {trace₂} {trace''} {flags''} {numbers''} {o} {tried} e Y C P untried z =
       let l = g.some_left in
       let d = Y.depth_is in
       let k = Y.left_is in
-      let P = Q.preserves in
-      let R = forth going T.first cut Y trace' trace₂ o e Q.reported in
+      let R = forth going T.first cut Y trace' trace₂ o e (C _ (child going T.first cut Y)) in
       dealt (subst (λ (l : List ℕ). Reported q.n q.depth trace' l o (branches_at s moves t q cut (T.first.step ∷ []))) (sym z) R)
       record {
         kept = kept_trans _ _ _ _ _ made_kept P.kept (omega (arith, next_at s q.depth, ap (frame_at s) d));
         prepared = P.prepared;
         filled = filled_then made_filled P.filled q.depth (q.depth + q.left) (omega arith) (omega arith) (omega arith) (omega arith);
-      } Q.same
+      } (same tried untried)
+    where
+      same : (b : Bool) → (b ≡ false → Filled v.depth v.depth flags₁ flags'' numbers₁ numbers'') → b && leb 8 q.left ≡ false → SameTables q.depth flags₁ flags'' numbers₁ numbers''
+      same false F y = F refl q.depth (omega (arith, Y.depth_is)) (omega (arith, Y.depth_is))
+      same true F y = let few = leb-false 8 q.left y in P.filled q.depth (omega (arith, Y.depth_is)) (omega (arith, Y.depth_is, Y.left_is, g.some_left))

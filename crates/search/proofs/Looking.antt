@@ -1,10 +1,11 @@
 -- What can be told of a configuration before a transition is made: it is over, final where a history may end; or the bound is reached,
 -- and it has a transition or none; or nothing later matters, by the law of pruning. Else the verdict is that on its transitions. Assumes
 -- nothing.
-use Prim.Native.Nat.{ℕ, zero, suc, ◌-◌, ◌≤◌}
+use Rattle.std.specs.Prelude.{Ok, Err}
+use Prim.Native.Nat.{ℕ, zero, suc, ◌-◌, ◌≤◌, ◌<◌}
 use native.Mathlib.Nat.{add-zero}
 use native.Mathlib.Omega.{arith}
-use mathlib.Core.Bool.{Bool, true, false, not, ◌&&◌, true≢false}
+use mathlib.Core.Bool.{Bool, true, false, not, ◌&&◌}
 use mathlib.Core.List.{List, [], ◌∷◌, Memᴰ}
 use mathlib.Core.Path.{◌≡◌, refl, sym, ◌∙◌, ap, ap₂, subst}
 use Rattle.golog.specs.Prog.{Prog}
@@ -18,14 +19,14 @@ use Rattle.runs.specs.Pruning.{NoneEndsLater}
 use Rattle.runs.proofs.Pruned.{pruned, none_near}
 use Rattle.demands.specs.Decoded.{world_of}
 use Rattle.demands.specs.Planning.{transitions_in, is_final_in}
-use Rattle.engine.specs.Tables.{Prepared, Filled}
-use Rattle.engine.specs.Going.{transitions_of, is_final}
+use Rattle.engine.specs.Tables.{Prepared, Surveyed, Filled}
+use Rattle.engine.specs.Frames.{Frame}
+use Rattle.engine.specs.Going.{transitions_of, is_final, Ahead, Tells}
+use Rattle.engine.specs.declared.Findings.{Findings}
 use Rattle.search.specs.Outcome.{told, ReportsVerdict, Reported}
-use Rattle.search.specs.Searching.{verdict_from, branches_of, Visited, verdict_at, LookedAt}
+use Rattle.search.specs.Searching.{verdict_from, branches_of, configured, guide_of, Visited, LookedAt}
 use Rattle.search.specs.declared.Task.{Task}
 use Rattle.search.specs.declared.Visit.{Visit}
-use Rattle.search.specs.declared.Seen.{Seen}
-use Rattle.search.specs.declared.Outcome.{Outcome}
 use Rattle.search.specs.declared.Outcome.TheVariants as o
 use Rattle.search.proofs.Rows.{says_flag}
 
@@ -101,17 +102,63 @@ module _ (s : List ℕ) (c : Configuration) (g : Guide) (n d : ℕ) (cut x : Boo
       ap (λ (k : ℕ). verdict_from s k (c, g)) k
       ∙ ap (λ (b : Bool). unless b (branches_of s left g (transitions_of s c))) (sym e ∙ y)
 
--- what is told of a visit where its outcome is known
+-- what is told of a visit that was looked at. x is whether it is over, `done` whether it is final
 module _
-    {s w moves : List ℕ} {t : Task} {q : Visit} {cut : Bool} {flags flags' : List Bool} {numbers numbers' : List ℕ}
-    (P : Prepared s flags' numbers') (F : Filled q.depth q.depth flags flags' numbers numbers') where
-  pub now_known :
-      {r : Seen} {a : Outcome} → (r.known ≡ true) × (r.outcome ≡ a)
-      → ((p : Prog) → Visited s w moves t q p → (h : List ℕ) → Reported q.n q.depth h h a (verdict_at s moves t q cut p))
-      → LookedAt s w moves t q cut flags flags' numbers numbers' r
-  now_known {r} (k, e) R = record {
-    prepared = P;
-    filled = F;
-    known = λ p Y z h. subst (λ (a : Outcome). Reported q.n q.depth h h a (verdict_at s moves t q cut p)) (sym e) (R p Y h);
-    unknown = λ p Y z. absurd (true≢false (sym k ∙ z));
-  }
+    {s w moves : List ℕ} {t : Task} {q : Visit} {flags flags' : List Bool} {numbers numbers' : List ℕ} {x done : Bool}
+    (P : Prepared s flags' numbers') (F : Filled q.depth q.depth flags flags' numbers numbers') (e : x ≡ (may_end (guide_of moves t q) && done))
+    (final : (left : ℕ) (p : Prog) → Frame s left w q.depth p → done ≡ is_final s (configured q p)) where
+  is : {p : Prog} → Visited s w moves t q p → x ≡ (may_end (guide_of moves t q) && is_final s (configured q p))
+  is {p} Y = e ∙ ap (λ (b : Bool). may_end (guide_of moves t q) && b) (final _ p Y.frame)
+
+  module _ {cut : Bool} where
+    pub told_over : x ≡ true → LookedAt s w moves t q cut flags flags' numbers numbers' (Err (o.Found q.n q.depth))
+    told_over y = record { prepared = P; filled = F; says = λ p Y h. over s (configured q p) (guide_of moves t q) q.n q.depth cut x (is Y) q.left h y }
+
+    pub told_last : x ≡ false → (cut ≡ true) × (q.left ≡ 0) → LookedAt s w moves t q cut flags flags' numbers numbers' (Err o.More)
+    told_last y z = record {
+      prepared = P;
+      filled = F;
+      says = λ p Y h. last_out s (configured q p) (guide_of moves t q) q.n q.depth cut x (is Y) q.left h y z.0 z.1;
+    }
+
+-- the same after a survey
+module _
+    {s w moves : List ℕ} {t : Task} {q : Visit} {flags flags' : List Bool} {numbers numbers' : List ℕ} {x : Bool} {f : Findings}
+    (S : Surveyed s q.state q.depth flags' numbers') (F : Filled q.depth q.depth flags flags' numbers numbers') (e : x ≡ (may_end (guide_of moves t q) && f.done))
+    (T : (left : ℕ) (p : Prog) → Frame s left w q.depth p → Tells s (configured q p) f) where
+  pub surveyed_over : {cut : Bool} → x ≡ true → LookedAt s w moves t q cut flags flags' numbers numbers' (Err (o.Found q.n q.depth))
+  surveyed_over = told_over S.prepared F e (λ left p Y. (T left p Y).final_is)
+
+  abbrev is_now : {p : Prog} → Visited s w moves t q p → x ≡ (may_end (guide_of moves t q) && is_final s (configured q p))
+  is_now = is S.prepared F e (λ left p Y. (T left p Y).final_is)
+
+  module _ {cut : Bool} (y : x ≡ false) where
+    pub surveyed_last :
+        {spent : Bool} → cut ≡ false → q.left ≡ 0
+        → ((s : List ℕ) (c : Configuration) (xs : List Transition) → Ahead s c f.first xs → spent ≡ is_none xs)
+        → LookedAt s w moves t q cut flags flags' numbers numbers' (Err (told (not spent)))
+    surveyed_last {spent} ce z none = record {
+      prepared = S.prepared;
+      filled = F;
+      says = λ p Y h. at_bound s (configured q p) (guide_of moves t q) q.n q.depth cut x (is_now Y) q.left spent h y ce z (none _ _ _ (T _ p Y.frame).first);
+    }
+
+    pub surveyed_far : 1 ≤ q.left → (cut ≡ true) × (q.left < f.soon) → LookedAt s w moves t q cut flags flags' numbers numbers' (Err o.More)
+    surveyed_far l z = record {
+      prepared = S.prepared;
+      filled = F;
+      says = λ p Y h.
+          far_out s (configured q p) (guide_of moves t q) q.n q.depth cut x (is_now Y) q.left h y z.0 l (λ d k. omega (arith, z.1, (T _ p Y.frame).far d k));
+    }
+
+    pub surveyed_on : 1 ≤ q.left → LookedAt s w moves t q cut flags flags' numbers numbers' (Ok f.first)
+    surveyed_on l = record {
+      prepared = S.prepared;
+      filled = F;
+      says = λ p Y. record {
+        some_left = l;
+        surveyed = S;
+        first = (T _ p Y.frame).first;
+        same = ap (join (flagged cut)) (on_ward s (configured q p) (guide_of moves t q) q.n q.depth cut x (is_now Y) q.left y l);
+      };
+    }

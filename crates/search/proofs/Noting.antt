@@ -1,11 +1,12 @@
 -- What the index says of a visit is the verdict on it, a label being what is left of the guide; and what came of a visit that was searched on
 -- from without a plan may be claimed of it. A search in a round of its own knows what lasts from the rounds before. Assumes nothing.
-use Prim.Native.Nat.{ℕ, ◌+◌, ◌≤◌}
+use Rattle.std.specs.Prelude.{Option, Some, None, Err}
+use Prim.Native.Nat.{ℕ, ◌≤◌}
 use native.Mathlib.Numerals.{add-one}
-use mathlib.Core.Bool.{Bool, true, false, cond, true≢false}
+use mathlib.Core.Bool.{Bool, true≢false, false}
 use mathlib.Core.List.{List}
 use mathlib.Core.Path.{◌≡◌, refl, sym, ◌∙◌, ap, subst}
-use lib.ListN.{length, drop}
+use lib.ListN.{length}
 use Rattle.golog.specs.Prog.{Prog}
 use Rattle.runs.specs.Search.{Verdict, plan, nothing, more}
 use Rattle.runs.specs.Guide.{Guide}
@@ -22,24 +23,18 @@ use Rattle.explored.specs.declared.Subject.{Subject}
 use Rattle.explored.specs.Known.{verdict_in, ClaimOf, Lasting, Explored}
 use Rattle.explored.proofs.Recalling.{opened, lasting}
 use Rattle.search.specs.Outcome.{ReportsVerdict, is_found, is_more, told}
-use Rattle.search.specs.Moves.{guide_as, guide_at, label_of, guide_for, subject_of}
+use Rattle.search.specs.Moves.{guide_at, label_of, guide_for, subject_of}
 use Rattle.search.specs.Searching.{configured, guide_of, verdict_at, Told, SearchedAs, Visited, LookedAt}
-use Rattle.search.specs.declared.Given.{Given}
 use Rattle.search.specs.declared.Window.{Window}
 use Rattle.search.specs.declared.Task.{Task}
 use Rattle.search.specs.declared.Visit.{Visit}
-use Rattle.search.specs.declared.Seen.{Seen}
 use Rattle.search.specs.declared.Outcome.{Outcome}
-use Rattle.search.proofs.Looking.{now_known}
 use Rattle.search.proofs.Rows.{flag_reported}
 
 -- a label and what it stands for
-guide_labelled : (moves : List ℕ) (w : Window) (g : Given) → guide_for moves w (label_of g) ≡ guide_at moves w g
-guide_labelled moves w g = go g.free
-  where
-    go : (b : Bool) → guide_for moves w (cond b 0 (g.used + 1)) ≡ guide_as b (drop g.used moves) w
-    go true = refl
-    go false = ap (guide_for moves w) (add-one g.used)
+guide_labelled : (moves : List ℕ) (w : Window) (given : Option ℕ) → guide_for moves w (label_of given) ≡ guide_at moves w given
+guide_labelled moves w None = refl
+guide_labelled moves w (Some used) = ap (guide_for moves w) (add-one used)
 
 -- where no plan was found, the verdict is a flag
 pub unfound_flag : (n d : ℕ) (trace trace' : List ℕ) (o : Outcome) (v : Verdict) → ReportsVerdict n d trace trace' o v → is_found o ≡ false → v ≡ flagged (is_more o)
@@ -54,10 +49,10 @@ module _ {s w moves : List ℕ} {t : Task} {q : Visit} {c : Subject} (is : c ≡
 
   -- passed over, by what the index says
   pub passed_over :
-      (cut b : Bool) {flags : List Bool} {numbers : List ℕ} {r : Seen} → Prepared s flags numbers
+      (cut b : Bool) {flags : List Bool} {numbers : List ℕ} → Prepared s flags numbers
       → ((p : Prog) → Visited s w moves t q p → join (flagged cut) (verdict_in s q.left ((p, c.state), guide_for moves t.window c.label)) ≡ flagged b)
-      → (r.known ≡ true) × (r.outcome ≡ told b) → LookedAt s w moves t q cut flags flags numbers numbers r
-  passed_over cut b P K e = now_known P (filled_none _ _) e (λ p Y h. flag_reported q.n q.depth b (sym (at p Y)) refl refl)
+      → LookedAt s w moves t q cut flags flags numbers numbers (Err (told b))
+  passed_over cut b P K = record { prepared = P; filled = filled_none _ _; says = λ p Y h. flag_reported q.n q.depth b (sym (at p Y)) refl refl }
     where
       at : (p : Prog) → Visited s w moves t q p → verdict_at s moves t q cut p ≡ flagged b
       at p Y =

@@ -1,91 +1,66 @@
 -- A search starts ready: the first configuration stands in frame 0, with room for as many transitions as the bound. What is reported of the
 -- visit to it is the verdict on it, and it still stands there afterwards. Assumes nothing.
+use Rattle.std.specs.Prelude.{Option, Some, None, IfSome, unwrap_or}
+use Rattle.std.specs.Option.{option_and}
 use Prim.Native.Nat.{ℕ, ◌≤◌}
 use native.Mathlib.Omega.{arith}
-use mathlib.Core.Bool.{Bool, true, false}
+use mathlib.Core.Bool.{Bool}
 use mathlib.Core.List.{List}
-use mathlib.Core.Path.{◌≡◌, sym, ◌∙◌, subst}
+use mathlib.Core.Path.{◌≡◌, refl, ◌∙◌, ap₂, subst}
 use lib.ListN.{length}
 use Rattle.golog.specs.declared.State.{State}
 use Rattle.runs.specs.Bounded.{join, flagged}
 use Rattle.sheet.specs.declared.Inspection.{Inspection}
 use Rattle.sheet.proofs.Accepted.{laid}
 use Rattle.demands.specs.Decoded.{initial_of, first_of, bound_of}
-use Rattle.engine.specs.Going.{transitions_of}
 use Rattle.engine.proofs.Frames.{frame_kept, frame_fewer}
 use Rattle.search.specs.Outcome.{Reported}
-use Rattle.search.specs.Moves.{guide_as}
-use Rattle.search.specs.Searching.{verdict_from, verdict_on, Standing, Ready, configured, verdict_at, SearchedAs, Unknown, LookedAt, Going, Preserves, Expanded}
+use Rattle.runs.specs.Guide.{Guide}
+use Rattle.search.specs.Moves.{guide_as, guide_at}
+use Rattle.search.specs.Searching.{verdict_from, verdict_on, Standing, Ready, Preserves, Came}
 use Rattle.search.specs.declared.Question.{Question}
+use Rattle.search.specs.declared.Window.{Window}
 use Rattle.search.specs.declared.Task.{Task}
 use Rattle.search.specs.declared.Visit.{Visit}
-use Rattle.search.specs.declared.Seen.{Seen}
 use Rattle.search.specs.declared.Outcome.{Outcome}
-use Rattle.search.proofs.Noting.{unfound_flag}
 
 -- before the first transition
-abbrev starting : Question → State → Visit
-starting a st = record { depth = 0; left = a.left; given = record { used = 0; free = a.free }; n = 0; state = st }
+abbrev pub starting : Question → Option ℕ → State → Visit
+starting a given st = record { depth = 0; left = a.left; given = given; n = 0; state = st }
 
-abbrev pub asked : Inspection → Question → (round : ℕ) → Task
-asked found a r = record { found = found; window = a.window; round = r }
+abbrev pub asked : Inspection → Window → (round : ℕ) → Task
+asked found w r = record { found = found; window = w; round = r }
 
-module _ (moves trace : List ℕ) (a : Question) (r : ℕ) {s w : List ℕ} {found : Inspection} {st : State} {flags : List Bool} {numbers : List ℕ}
-    (S : Standing s w found flags numbers) (l : a.left ≤ bound_of s) (m : a.left ≤ length trace) (i : st ≡ initial_of s) where
-  pub at_first : Ready s w moves (length trace) (asked found a r) (starting a st) (first_of s).0
+-- none of the moves is used
+none_used : (n : ℕ) (w : Option Window) → IfSome (option_and w (Some 0)) (λ (used : ℕ). used ≤ n)
+none_used n None = tt
+none_used n (Some w) = omega arith
+
+all_left : (moves : List ℕ) (w : Option Window) → guide_at moves (unwrap_or w (record { low = 0; high = 0 })) (option_and w (Some 0)) ≡ guide_as moves w
+all_left moves None = refl
+all_left moves (Some w) = refl
+
+module _ (moves trace : List ℕ) (a : Question) (r : ℕ) {s w : List ℕ} {found : Inspection} {window : Window} {given : Option ℕ} {st : State} {flags : List Bool}
+    {numbers : List ℕ} (S : Standing s w found flags numbers) (l : a.left ≤ bound_of s) (m : a.left ≤ length trace)
+    (window_is : window ≡ unwrap_or a.window (record { low = 0; high = 0 })) (given_is : given ≡ option_and a.window (Some 0)) (i : st ≡ initial_of s) where
+  pub at_first : Ready s w moves (length trace) (asked found window r) (starting a given st) (first_of s).0
   at_first =
       let f = laid s S.of.accepted in
       record {
-        visited = record { of = S.of; frame = frame_fewer S.frame a.left l; used_up = omega arith };
+        visited = record { of = S.of; frame = frame_fewer S.frame a.left l; used_up = rw given_is (none_used (length moves) a.window) };
         traced = omega arith;
         few = omega arith;
         deep = omega (arith, f.d);
       }
 
-  on_first :
-      {trace' : List ℕ} {o : Outcome} → Reported 0 0 trace trace' o (verdict_at s moves (asked found a r) (starting a st) a.cut (first_of s).0)
+  -- what came of the visit to it
+  pub on_first :
+      {trace' : List ℕ} {o : Outcome} → Came s w moves trace trace' (asked found window r) (starting a given st) a.cut o
       → Reported 0 0 trace trace' o (verdict_on s moves a)
-  on_first {trace'} {o} =
-      subst (λ (x : State). Reported 0 0 trace trace' o (join (flagged a.cut) (verdict_from s a.left (((first_of s).0, x), guide_as a.free moves a.window)))) i
+  on_first {trace'} {o} C =
+      let guide_is : guide_at moves window given ≡ guide_as moves a.window = ap₂ (guide_at moves) window_is given_is ∙ all_left moves a.window in
+      subst (λ (g : Guide). Reported 0 0 trace trace' o (join (flagged a.cut) (verdict_from s a.left (first_of s, g)))) guide_is
+      (subst (λ (x : State). Reported 0 0 trace trace' o (join (flagged a.cut) (verdict_from s a.left (((first_of s).0, x), guide_at moves window given)))) i (C _ at_first))
 
-  module _ {flags' : List Bool} {numbers' : List ℕ} {x : Seen} (A : LookedAt s w moves (asked found a r) (starting a st) a.cut flags flags' numbers numbers' x) where
-    -- it was told by a look
-    pub seen_first : x.known ≡ true → Reported 0 0 trace trace x.outcome (verdict_on s moves a) × Standing s w found flags' numbers'
-    seen_first e = (on_first (A.known (first_of s).0 at_first.visited e trace), record { of = S.of; frame = S.frame; prepared = A.prepared })
-
-    module _ (e : x.known ≡ false) where
-      abbrev unknown : Unknown s moves (asked found a r) (starting a st) a.cut (first_of s).0 flags' numbers' x
-      unknown = A.unknown (first_of s).0 at_first.visited e
-
-      abbrev pub from_first : Going s w moves (length trace) (asked found a r) (starting a st) x.cursor flags' numbers'
-      from_first = record {
-        program = (first_of s).0;
-        ready = at_first;
-        some_left = unknown.some_left;
-        surveyed = unknown.surveyed;
-        ahead = transitions_of s (configured (starting a st) (first_of s).0);
-        listed = unknown.first;
-      }
-
-      -- its transitions were tried
-      pub tried_first :
-          {w'' trace'' : List ℕ} {flags'' : List Bool} {numbers'' : List ℕ} {o : Outcome}
-          → Expanded s w moves trace trace'' (asked found a r) (starting a st) a.cut x.cursor flags' numbers' o
-          → Preserves s w w'' (starting a st) flags' flags'' numbers' numbers''
-          → Reported 0 0 trace trace'' o (verdict_on s moves a) × Standing s w'' found flags'' numbers''
-      tried_first {w''} {trace''} {o = o} E P = (
-        on_first (subst (Reported 0 0 trace trace'' o) (sym unknown.same) (E from_first)),
-        record { of = S.of; frame = frame_kept S.frame w'' P.kept; prepared = P.prepared },
-      )
-
-      -- and what may be noted of it
-      pub searched_first :
-          {w'' trace'' : List ℕ} {flags'' : List Bool} {numbers'' : List ℕ} {o : Outcome}
-          → Expanded s w moves trace trace'' (asked found a r) (starting a st) a.cut x.cursor flags' numbers' o
-          → Preserves s w w'' (starting a st) flags' flags'' numbers' numbers'' → SearchedAs s w'' moves (asked found a r) (starting a st) a.cut o
-      searched_first {w''} E P = record {
-        program = (first_of s).0;
-        visited = record { of = S.of; frame = frame_kept at_first.visited.frame w'' P.kept; used_up = at_first.visited.used_up };
-        few_left = omega (arith, at_first.deep);
-        tells = λ e. unknown.same ∙ unfound_flag _ _ _ _ _ _ (E from_first).says e;
-      }
+  pub stands_first : {w' : List ℕ} {flags' : List Bool} {numbers' : List ℕ} → Preserves s w w' (starting a given st) flags flags' numbers numbers' → Standing s w' found flags' numbers'
+  stands_first {w'} P = record { of = S.of; frame = frame_kept S.frame w' P.kept; prepared = P.prepared }

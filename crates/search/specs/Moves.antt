@@ -1,31 +1,33 @@
 -- Own vocabulary: a transition's move in the search: the guide as it stands, whether it lets the move pass, what that leaves of it, and what
 -- the move puts into the trace. Assumes nothing.
-use Rattle.std.specs.Prelude.{ℕ, zero, suc, ◌+◌, Bool, true, false, cond, List, [], ◌∷◌, eqb, drop, set}
+use Rattle.std.specs.Prelude.{ℕ, zero, suc, ◌+◌, Bool, true, false, cond, List, [], ◌∷◌, eqb, drop, set, Some, None}
+use Rattle.std.specs.Prelude as rust
 use Rattle.std.proofs.Math.Option.{Option, none, some}
 use Rattle.runs.specs.Guide.{Guide, unguided, along, in_window}
 use Rattle.explored.specs.declared.Subject.{Subject}
-use Rattle.search.specs.declared.Given.{Given}
 use Rattle.search.specs.declared.Visit.{Visit}
 use Rattle.search.specs.declared.Window.{Window}
 use Rattle.search.specs.declared.Outcome.{Outcome}
 use Rattle.search.specs.Outcome.{is_found}
 
--- these moves still to be made, and then what the window has; or nothing is asked
-abbrev pub guide_as : (free : Bool) → (moves : List ℕ) → Window → Guide
-guide_as true moves w = unguided
-guide_as false moves w = along moves w.low w.high
+-- these moves still to be made, and then what the window has; without a window nothing is asked
+abbrev pub guide_as : (moves : List ℕ) → rust.Option Window → Guide
+guide_as moves None = unguided
+guide_as moves (Some w) = along moves w.low w.high
 
--- what is left of the guide with the given moves
-abbrev pub guide_at : (moves : List ℕ) → Window → Given → Guide
-guide_at moves w g = guide_as g.free (drop g.used moves) w
+-- what is left of the guide with the given moves: so many of them are used, or nothing is asked any more
+abbrev pub guide_at : (moves : List ℕ) → Window → rust.Option ℕ → Guide
+guide_at moves w None = unguided
+guide_at moves w (Some used) = along (drop used moves) w.low w.high
 
--- the same as a number, and back: nothing is asked any more, or so many of the given moves are used
-abbrev pub label_of : Given → ℕ
-label_of g = cond g.free 0 (g.used + 1)
+-- the same as a number, and back
+abbrev pub label_of : rust.Option ℕ → ℕ
+label_of None = 0
+label_of (Some used) = used + 1
 
 abbrev pub guide_for : (moves : List ℕ) → Window → (label : ℕ) → Guide
 guide_for moves w zero = unguided
-guide_for moves w (suc used) = guide_as false (drop used moves) w
+guide_for moves w (suc used) = along (drop used moves) w.low w.high
 
 -- the configuration of a visit, as the index is asked of it
 abbrev pub subject_of : Visit → Subject

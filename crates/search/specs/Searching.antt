@@ -1,5 +1,5 @@
 -- Own vocabulary: what the functions of the search ask and answer, over the engine's face. Assumes nothing.
-use Rattle.std.specs.Prelude.{ℕ, ◌+◌, ◌-◌, ◌≤◌, Bool, true, false, List, ◌≡◌, length}
+use Rattle.std.specs.Prelude.{ℕ, ◌+◌, ◌-◌, ◌≤◌, Bool, false, List, ◌≡◌, length, IfSome, Result, Ok, Err}
 use Rattle.golog.specs.Prog.{Prog}
 use Rattle.golog.specs.Transitions.{Configuration, Transition}
 use Rattle.runs.specs.Search.{Verdict, tries}
@@ -20,7 +20,6 @@ use Rattle.search.specs.Moves.{guide_as, guide_at, guide_for, left_over, entries
 use Rattle.search.specs.declared.Question.{Question}
 use Rattle.search.specs.declared.Task.{Task}
 use Rattle.search.specs.declared.Visit.{Visit}
-use Rattle.search.specs.declared.Seen.{Seen}
 use Rattle.search.specs.declared.Outcome.{Outcome}
 
 -- the verdict on a configuration of the sheet s, under a guide
@@ -33,7 +32,7 @@ branches_of s left g xs = tries (λ (d : Configuration × Guide). verdict_from s
 
 -- the verdict on the first configuration, as it is asked
 abbrev pub verdict_on : List ℕ → (moves : List ℕ) → Question → Verdict
-verdict_on s moves a = join (flagged a.cut) (verdict_from s a.left (first_of s, guide_as a.free moves a.window))
+verdict_on s moves a = join (flagged a.cut) (verdict_from s a.left (first_of s, guide_as moves a.window))
 
 -- a search stands at the first configuration: its program in frame 0, and in the tables what is told once of the sheet
 pub record Standing (s w : List ℕ) (found : Inspection) (flags : List Bool) (numbers : List ℕ) : Type 0 where
@@ -45,7 +44,7 @@ pub record Standing (s w : List ℕ) (found : Inspection) (flags : List Bool) (n
 pub record Visited (s w moves : List ℕ) (t : Task) (q : Visit) (p : Prog) : Type 0 where
   pub of : Of s t.found
   pub frame : Frame s q.left w q.depth p
-  pub used_up : q.given.used ≤ length moves
+  pub used_up : IfSome q.given (λ used. used ≤ length moves)
 
 -- and there is room for what may follow: in the trace, and within the largest bound
 pub record Ready (s w moves : List ℕ) (trace : ℕ) (t : Task) (q : Visit) (p : Prog) : Type 0 where
@@ -81,18 +80,22 @@ pub record SearchedAs (s w moves : List ℕ) (t : Task) (q : Visit) (cut : Bool)
   pub few_left : q.left ≤ 64
   pub tells : is_found o ≡ false → verdict_at s moves t q cut program ≡ flagged (is_more o)
 
--- looked at without a transition: the outcome is known, or the verdict is that on all transitions, which are ahead of the cursor
-pub record Unknown (s moves : List ℕ) (t : Task) (q : Visit) (cut : Bool) (p : Prog) (flags : List Bool) (numbers : List ℕ) (r : Seen) : Type 0 where
+-- the verdict is that on all transitions, which are ahead of the cursor
+pub record Unknown (s moves : List ℕ) (t : Task) (q : Visit) (cut : Bool) (p : Prog) (flags : List Bool) (numbers : List ℕ) (k : Cursor) : Type 0 where
   pub some_left : 1 ≤ q.left
   pub surveyed : Surveyed s q.state q.depth flags numbers
-  pub first : Ahead s (configured q p) r.cursor (transitions_of s (configured q p))
+  pub first : Ahead s (configured q p) k (transitions_of s (configured q p))
   pub same : verdict_at s moves t q cut p ≡ branches_at s moves t q cut (transitions_of s (configured q p))
 
-pub record LookedAt (s w moves : List ℕ) (t : Task) (q : Visit) (cut : Bool) (flags flags' : List Bool) (numbers numbers' : List ℕ) (r : Seen) : Type 0 where
+-- what is told of a visit without a transition: the outcome, or the first cursor
+abbrev pub Says : (s moves : List ℕ) (t : Task) (q : Visit) (cut : Bool) (p : Prog) (flags : List Bool) (numbers : List ℕ) → Result Cursor Outcome → Type 0
+Says s moves t q cut p flags numbers (Err o) = (h : List ℕ) → Reported q.n q.depth h h o (verdict_at s moves t q cut p)
+Says s moves t q cut p flags numbers (Ok k) = Unknown s moves t q cut p flags numbers k
+
+pub record LookedAt (s w moves : List ℕ) (t : Task) (q : Visit) (cut : Bool) (flags flags' : List Bool) (numbers numbers' : List ℕ) (r : Result Cursor Outcome) : Type 0 where
   pub prepared : Prepared s flags' numbers'
   pub filled : Filled q.depth q.depth flags flags' numbers numbers'
-  pub known : (p : Prog) → Visited s w moves t q p → r.known ≡ true → (h : List ℕ) → Reported q.n q.depth h h r.outcome (verdict_at s moves t q cut p)
-  pub unknown : (p : Prog) → Visited s w moves t q p → r.known ≡ false → Unknown s moves t q cut p flags' numbers' r
+  pub says : (p : Prog) → Visited s w moves t q p → Says s moves t q cut p flags' numbers' r
 
 -- a visit with the tables of its state, and the transitions that are ahead of a cursor
 pub record Going (s w moves : List ℕ) (trace : ℕ) (t : Task) (q : Visit) (k : Cursor) (flags : List Bool) (numbers : List ℕ) : Type 0 where
@@ -114,11 +117,15 @@ abbrev pub Expanded : (s w moves trace trace' : List ℕ) (t : Task) (q : Visit)
 Expanded s w moves trace trace' t q cut k flags numbers o =
     (g : Going s w moves (length trace) t q k flags numbers) → Reported q.n q.depth trace trace' o (branches_at s moves t q cut g.ahead)
 
+-- the verdict on the visit is reported
+abbrev pub Came : (s w moves trace trace' : List ℕ) (t : Task) (q : Visit) (cut : Bool) → Outcome → Type 0
+Came s w moves trace trace' t q cut o = (p : Prog) → Ready s w moves (length trace) t q p → Reported q.n q.depth trace trace' o (verdict_at s moves t q cut p)
+
 -- the visit v that the transition x of the visit q leads to
 pub record Follows (moves : List ℕ) (q : Visit) (x : Taken) (v : Visit) : Type 0 where
   pub depth_is : v.depth ≡ q.depth + 1
   pub left_is : v.left ≡ q.left - 1
-  pub used_up : v.given.used ≤ length moves
+  pub used_up : IfSome v.given (λ used. used ≤ length moves)
   pub guide_is : (t : Task) → guide_of moves t v ≡ left_over (guide_of moves t q) (move_of x.entry)
   pub moves_are : v.n ≡ q.n + entries (move_of x.entry)
   pub one_more : v.n ≤ q.n + 1

@@ -1,7 +1,7 @@
 // The bounded depth-first search over the engine's configurations, under a guide: the one primitive of the strategies. And replay.
 #![tactic(auto)]
 
-ghost use Rattle.std.specs.Prelude.{◌≡◌, true, false, ℕ, ◌≤◌, length, get_or, replicate};
+ghost use Rattle.std.specs.Prelude.{◌≡◌, true, false, ℕ, ◌≤◌, length, get_or, replicate, IfSome};
 ghost use Rattle.golog.specs.Prog.{Prog};
 ghost use Rattle.demands.specs.Decoded.{bound_of};
 ghost use Rattle.demands.specs.Planning.{accepts_of};
@@ -11,7 +11,7 @@ ghost use Rattle.engine.specs.Frames.{Frame};
 ghost use Rattle.explored.specs.Known.{Lasting};
 ghost use Rattle.search.specs.Outcome.{Reported, is_found, is_more, told};
 ghost use Rattle.search.specs.Moves.{subject_of};
-ghost use Rattle.search.specs.Searching.{verdict_on, Standing, Visited, Told, SearchedAs, LookedAt, Going, Preserves, Expanded, Follows};
+ghost use Rattle.search.specs.Searching.{verdict_on, Standing, Visited, Told, Ready, SearchedAs, LookedAt, Going, Preserves, Expanded, Came, Follows};
 
 use engine::{Cursor, Taken};
 use explored::Subject;
@@ -22,11 +22,25 @@ mod guide;
 mod pruning;
 
 // What a search comes to: a run that ends final, of n moves and t transitions; none at all; none within the bound.
-#[derive(Clone, Copy)]
+#[derive(Clone, Copy, Debug, PartialEq, Eq)]
 pub enum Outcome {
     Found { n: usize, t: usize },
     Nothing,
     More,
+}
+
+impl Outcome {
+    pub fn is_found(self) -> bool
+        ensures { result ≡ is_found self }
+    {
+        matches!(self, Outcome::Found { .. })
+    }
+
+    pub fn is_more(self) -> bool
+        ensures { result ≡ is_more self }
+    {
+        matches!(self, Outcome::More)
+    }
 }
 
 // What may follow the given moves, by rank: nothing is 0, and an entry e is e + 1. From low on, below high.
@@ -36,19 +50,11 @@ pub struct Window {
     pub high: u32,
 }
 
-// What is left of the guide: so many of the given moves are used; or nothing is asked any more.
-#[derive(Clone, Copy)]
-pub struct Given {
-    pub used: usize,
-    pub free: bool,
-}
-
-// What is asked of a search: a run of at most `left` transitions that makes the given moves, followed by what the window has, or any run.
-// With `cut` only a plan matters, as where the bound ran out in some run before.
+// What is asked of a search: a run of at most `left` transitions that makes the given moves, followed by what the window has; without a
+// window, any run. With `cut` only a plan matters, as where the bound ran out in some run before.
 #[derive(Clone, Copy)]
 pub struct Question {
-    pub free: bool,
-    pub window: Window,
+    pub window: Option<Window>,
     pub left: usize,
     pub cut: bool,
 }
@@ -61,23 +67,15 @@ struct Task {
     round: u32,
 }
 
-// A visit to a configuration: the transitions made, which number its frame, and those left; what is left of the guide, the moves made; the
-// state.
+// A visit to a configuration: the transitions made, which number its frame, and those left; how many of the given moves are used, unless
+// nothing is asked any more; the moves made; the state.
 #[derive(Clone, Copy)]
 struct Visit {
     depth: usize,
     left: usize,
-    given: Given,
+    given: Option<usize>,
     n: usize,
     state: State,
-}
-
-// What is seen without a transition: what the search comes to, where that is known, or else the first cursor.
-#[derive(Clone, Copy)]
-struct Seen {
-    known: bool,
-    outcome: Outcome,
-    cursor: Cursor,
 }
 
 // Where the transitions of a visit are tried from: whether the bound ran out in some run before, and the first cursor.
@@ -91,31 +89,7 @@ struct Start {
 pub fn clear(work: &mut [u32])
     ensures work { work.new ≡ replicate (length work.old) 0 }
 {
-    let mut i = 0;
-    while i < work.len() {
-        work[i] = 0;
-        i += 1;
-    }
-}
-
-pub fn is_found(o: Outcome) -> bool
-    ensures { result ≡ is_found o }
-{
-    match o {
-        Outcome::Found { n: _, t: _ } => true,
-        Outcome::Nothing => false,
-        Outcome::More => false,
-    }
-}
-
-pub fn is_more(o: Outcome) -> bool
-    ensures { result ≡ is_more o }
-{
-    match o {
-        Outcome::Found { n: _, t: _ } => false,
-        Outcome::Nothing => false,
-        Outcome::More => true,
-    }
+    work.fill(0);
 }
 
 // What a search comes to that found no plan: whether the bound ran out in some run is all that matters.
@@ -125,18 +99,8 @@ fn unfound(cut: bool) -> Outcome
     if cut { Outcome::More } else { Outcome::Nothing }
 }
 
-fn known(outcome: Outcome) -> Seen
-    ensures { (result.known ≡ true) × (result.outcome ≡ outcome) }
-{
-    Seen {
-        known: true,
-        outcome,
-        cursor: Cursor { next: 0, end: 0 },
-    }
-}
-
-// Looks at the configuration visited: what the search comes to, where that can be told before a transition is made. `cut` is whether the
-// bound ran out in some run before.
+// Looks at the configuration visited: what the search comes to, where that can be told before a transition is made, or else the first
+// cursor. `cut` is whether the bound ran out in some run before.
 fn look(
     flags: &mut [bool],
     numbers: &mut [u32],
@@ -146,38 +110,34 @@ fn look(
     t: Task,
     q: Visit,
     cut: bool,
-) -> Seen
+) -> Result<Cursor, Outcome>
     requires { Prepared s.now flags.old numbers.old × ((p : Prog) × Visited s.now work.now moves.now t q p) }
     ensures { LookedAt s.now work.now moves.now t q cut flags.old flags.new numbers.old numbers.new result }
 {
     if pruning::only_final(cut, q.left) {
         let end = engine::is_final(flags, numbers, work, s, t.found, q.state, q.depth);
         if guide::is_over(moves, t.window, q.given, end) {
-            return known(Outcome::Found { n: q.n, t: q.depth });
+            return Err(Outcome::Found { n: q.n, t: q.depth });
         }
-        return known(Outcome::More);
+        return Err(Outcome::More);
     }
     let x = engine::survey(flags, numbers, work, s, t.found, q.state, q.depth);
     let first = x.first;
     if guide::is_over(moves, t.window, q.given, x.done) {
-        return known(Outcome::Found { n: q.n, t: q.depth });
+        return Err(Outcome::Found { n: q.n, t: q.depth });
     }
     if q.left == 0 {
-        return known(unfound(!engine::is_spent(first)));
+        return Err(unfound(!engine::is_spent(first)));
     }
     if pruning::too_far(cut, q.left, x.soon) {
-        return known(Outcome::More);
+        return Err(Outcome::More);
     }
-    Seen {
-        known: false,
-        outcome: Outcome::Nothing,
-        cursor: first,
-    }
+    Ok(first)
 }
 
 // The configuration visited, as the index is asked of it.
 fn subject_of(q: Visit) -> Subject
-    requires { q.given.used ≤ 64 }
+    requires { IfSome q.given (λ used. used ≤ 64) }
     ensures { result ≡ subject_of q }
 {
     let state = q.state;
@@ -199,7 +159,7 @@ fn see(
     t: Task,
     q: Visit,
     cut: bool,
-) -> Seen
+) -> Result<Cursor, Outcome>
     requires { Prepared s.now flags.old numbers.old × ((p : Prog) × Visited s.now work.now moves.now t q p) × Told s.now moves.now t index.now }
     ensures { LookedAt s.now work.now moves.now t q cut flags.old flags.new numbers.old numbers.new result }
 {
@@ -207,7 +167,7 @@ fn see(
         let c = subject_of(q);
         let x = explored::recall(index, work, s, t.found, c, q.left, t.round, cut);
         if x.served {
-            return known(unfound(x.more));
+            return Err(unfound(x.more));
         }
     }
     look(flags, numbers, work, s, moves, t, q, cut)
@@ -215,7 +175,7 @@ fn see(
 
 // The visit that a transition leads to.
 fn follow(moves: &[u16], q: Visit, x: Taken) -> Visit
-    requires { (1 ≤ q.left) × (q.given.used ≤ length moves.now) × (q.n ≤ 64) × (q.depth ≤ 64) }
+    requires { (1 ≤ q.left) × IfSome q.given (λ used. used ≤ length moves.now) × (q.n ≤ 64) × (q.depth ≤ 64) }
     ensures { Follows moves.now q x result }
 {
     let state = x.state;
@@ -243,9 +203,9 @@ fn remember(
     requires { Told s.now moves.now t index.old × SearchedAs s.now work.now moves.now t q cut o }
     ensures { Told s.now moves.now t index.new }
 {
-    if explored::has_room(index) & !is_found(o) {
+    if explored::has_room(index) && !o.is_found() {
         let c = subject_of(q);
-        let flag = explored::flag_of(cut, is_more(o));
+        let flag = explored::flag_of(cut, o.is_more());
         explored::note(index, work, s, t.found, c, q.left, t.round, flag);
     }
 }
@@ -271,7 +231,8 @@ fn refresh(
 }
 
 // Tries the transitions ahead of a cursor of the configuration visited, until a plan is found: each is made in the next frame and, if the
-// guide lets it pass, searched on from. What was searched on from without a plan is noted in the index.
+// guide lets it pass, visited.
+#[cycle(searching)]
 fn expand(
     work: &mut [u32],
     trace: &mut [u16],
@@ -300,22 +261,46 @@ fn expand(
         stale = false;
         if guide::lets_pass(moves, t.window, q.given, x.entry) {
             let v = follow(moves, q, x);
-            let a = see(flags, numbers, work, index, s, moves, t, v, cut);
-            let mut o = a.outcome;
-            if !a.known {
-                let cursor = a.cursor;
-                let first = Start { ran: cut, cursor };
-                o = expand(work, trace, flags, numbers, index, s, moves, t, v, first);
-                remember(index, work, s, moves, t, v, cut, o);
-                stale = engine::SETS <= q.left;
-            }
+            let (o, tried) = search_from(work, trace, flags, numbers, index, s, moves, t, v, cut);
+            stale = tried & (engine::SETS <= q.left);
             if guide::note(trace, q.n, x.entry, o) {
                 return o;
             }
-            cut = is_more(o);
+            cut = o.is_more();
         }
     }
     unfound(cut)
+}
+
+// What a visit comes to: what is seen of it, or else what its transitions come to, which is noted in the index. And whether they were tried.
+#[cycle(searching)]
+fn search_from(
+    work: &mut [u32],
+    trace: &mut [u16],
+    flags: &mut [bool],
+    numbers: &mut [u32],
+    index: &mut [u32],
+    s: &[u8],
+    moves: &[u16],
+    t: Task,
+    q: Visit,
+    cut: bool,
+) -> (Outcome, bool)
+    requires { Prepared s.now flags.old numbers.old × ((p : Prog) × Ready s.now work.old moves.now (length trace.old) t q p) × Told s.now moves.now t index.old }
+    ensures answer { Came s.now work.old moves.now trace.old trace.new t q cut result.0 }
+    ensures tables { Preserves s.now work.old work.new q flags.old flags.new numbers.old numbers.new }
+    ensures untried { result.1 ≡ false → Filled q.depth q.depth flags.old flags.new numbers.old numbers.new }
+    ensures index { Told s.now moves.now t index.new }
+{
+    match see(flags, numbers, work, index, s, moves, t, q, cut) {
+        Err(o) => (o, false),
+        Ok(cursor) => {
+            let start = Start { ran: cut, cursor };
+            let o = expand(work, trace, flags, numbers, index, s, moves, t, q, start);
+            remember(index, work, s, moves, t, q, cut, o);
+            (o, true)
+        }
+    }
 }
 
 // Makes a search stand at the sheet's first configuration: its program in frame 0, and in the tables what is told once of the sheet.
@@ -348,11 +333,8 @@ pub fn explore(
 {
     let state = engine::initial_of(s, found);
     let round = index::next_round(index);
-    let window = a.window;
-    let given = Given {
-        used: 0,
-        free: a.free,
-    };
+    let window = a.window.unwrap_or(Window { low: 0, high: 0 });
+    let given = a.window.and(Some(0));
     let t = Task {
         found,
         window,
@@ -365,15 +347,7 @@ pub fn explore(
         n: 0,
         state,
     };
-    let x = see(flags, numbers, work, index, s, moves, t, q, a.cut);
-    let seen = x.outcome;
-    if x.known {
-        return seen;
-    }
-    let cursor = x.cursor;
-    let first = Start { ran: a.cut, cursor };
-    let o = expand(work, trace, flags, numbers, index, s, moves, t, q, first);
-    remember(index, work, s, moves, t, q, a.cut, o);
+    let (o, _tried) = search_from(work, trace, flags, numbers, index, s, moves, t, q, a.cut);
     o
 }
 
@@ -391,8 +365,7 @@ pub fn accepts(s: &[u8], found: Inspection, history: &[u16], work: &mut [u32]) -
     stand(work, &mut flags, &mut numbers, s, found);
     let l = found.layout;
     let a = Question {
-        free: false,
-        window: Window { low: 0, high: 1 },
+        window: Some(Window { low: 0, high: 1 }),
         left: l.d,
         cut: true,
     };
@@ -411,5 +384,5 @@ pub fn accepts(s: &[u8], found: Inspection, history: &[u16], work: &mut [u32]) -
         a,
     );
     clear(work);
-    is_found(o)
+    o.is_found()
 }

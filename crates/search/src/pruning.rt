@@ -6,15 +6,12 @@ ghost use Rattle.std.specs.Prelude.{◌≡◌, true, false, ◌<◌};
 pub fn only_final(cut: bool, left: usize) -> bool
     ensures { (result ≡ true → (cut ≡ true) × (left ≡ 0)) × (result ≡ false → left ≡ 0 → cut ≡ false) }
 {
-    if cut { left == 0 } else { false }
+    cut && left == 0
 }
 
 // The same, told by a survey: so far is the end by way of any transition that those left do not reach it.
 pub fn too_far(cut: bool, left: usize, soon: usize) -> bool
     ensures { result ≡ true → (cut ≡ true) × (left < soon) }
 {
-    if soon <= left {
-        return false;
-    }
-    cut
+    cut && left < soon
 }

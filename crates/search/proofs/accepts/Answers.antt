@@ -1,18 +1,13 @@
 -- A search for exactly these moves stands ready at the first configuration, with an index that says nothing yet; what it finds says
 -- whether they are accepted. Assumes nothing.
-use Prim.Native.Nat.{ℕ}
 use native.Mathlib.Omega.{arith}
 use mathlib.Core.Path.{refl, ◌∙◌, ap}
-use lib.ListN.{replicate}
 use Rattle.sheet.specs.declared.Layout.{Layout}
 use Rattle.sheet.proofs.Accepted.{laid}
 use Rattle.engine.proofs.Tables.{blank}
 use Rattle.explored.proofs.Recalling.{nothing_noted}
 use Rattle.search.proofs.Reporting.{exactly_found}
 use Rattle.search.proofs.accepts.Goals as goal
-
-pub stand-requires-clause-of : goal.stand-requires-clause-of
-stand-requires-clause-of c = (c.requires.0, c.requires.1)
 
 pub stand-requires-clause-flags_len : goal.stand-requires-clause-flags_len
 stand-requires-clause-flags_len c = (refl, refl, blank)
@@ -28,7 +23,3 @@ pub returns-clause-answer : goal.returns-clause-answer
 returns-clause-answer c =
     let O = c.requires.0 in c.is_found.ensures ∙ exactly_found c.args.s.now c.args.history.now _ _ c.explore-o.result _ (ap (λ (l : Layout). l.d) O.layout_is)
     c.explore-o.ensures.answer
-
-pub returns-clause-work : goal.returns-clause-work
-returns-clause-work c =
-    c.clear.ensures.work ∙ ap (λ (n : ℕ). replicate n 0) (c.explore-o.auto.work ∙ c.stand.auto.work)

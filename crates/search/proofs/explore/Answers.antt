@@ -1,64 +1,29 @@
--- A round of the index begins; what is known of the first configuration is seen, then its transitions are tried, by the laws of Starting.
--- Assumes nothing.
-use mathlib.Core.Path.{◌∙◌}
+-- A round of the index begins; what came of the visit to the first configuration is the verdict, by the laws of Starting. Assumes nothing.
 use Rattle.search.proofs.Noting.{told_anew, still_lasting}
-use Rattle.search.proofs.Starting.{asked, at_first, seen_first, from_first, tried_first, searched_first}
+use Rattle.search.proofs.Starting.{at_first, on_first, stands_first}
 use Rattle.search.proofs.explore.Goals as goal
 
-pub see-x-requires : goal.see-x-requires
-see-x-requires c =
+pub search_from-o-requires : goal.search_from-o-requires
+search_from-o-requires c =
     let p = c.requires in
-    let a = c.args in
-    let r = c.next_round-round.result in (
+    let a = c.args in (
       p.0.prepared,
-      (_, (at_first a.moves.now a.trace.now a.a r p.0 p.1 p.2 c.initial_of-state.ensures).visited),
-      told_anew (asked a.found a.a r) p.3 c.next_round-round.ensures p.4,
+      (_, at_first a.moves.now a.trace.now a.a c.next_round-round.result p.0 p.1 p.2 c.unwrap_or-window.ensures c.and-given.ensures c.initial_of-state.ensures),
+      told_anew _ p.3 c.next_round-round.ensures p.4,
     )
 
-pub returns-then-x : goal.returns-then-x
-returns-then-x c =
+pub returns-clause-answer : goal.returns-clause-answer
+returns-clause-answer c =
     let p = c.requires in
     let a = c.args in
-    let r = c.next_round-round.result in
-    let S = seen_first a.moves.now a.trace.now a.a r p.0 p.1 p.2 c.initial_of-state.ensures c.see-x.ensures c.if-x.true in
-    let T = told_anew {moves = a.moves.now} (asked a.found a.a r) p.3 c.next_round-round.ensures p.4 in
-    record {
-      answer = S.0;
-      stands = S.1;
-      index = still_lasting T;
-    }
+    on_first a.moves.now a.trace.now a.a _ p.0 p.1 p.2 c.unwrap_or-window.ensures c.and-given.ensures c.initial_of-state.ensures c.search_from-o.ensures.answer
 
-pub expand-o-requires : goal.expand-o-requires
-expand-o-requires c =
+pub returns-clause-stands : goal.returns-clause-stands
+returns-clause-stands c =
     let p = c.requires in
     let a = c.args in
-    let r = c.next_round-round.result in (
-      from_first a.moves.now a.trace.now a.a r p.0 p.1 p.2 c.initial_of-state.ensures c.see-x.ensures c.if-x.false,
-      told_anew (asked a.found a.a r) p.3 c.next_round-round.ensures p.4,
-    )
+    stands_first a.moves.now a.trace.now a.a c.next_round-round.result p.0 p.1 p.2 c.unwrap_or-window.ensures c.and-given.ensures c.initial_of-state.ensures
+    c.search_from-o.ensures.tables
 
-pub remember-requires : goal.remember-requires
-remember-requires c =
-    let p = c.requires in
-    let a = c.args in
-    let X = searched_first a.moves.now a.trace.now a.a c.next_round-round.result p.0 p.1 p.2 c.initial_of-state.ensures c.see-x.ensures
-    c.if-x.false c.expand-o.ensures.answer
-    c.expand-o.ensures.tables in
-    (c.expand-o.ensures.index, X)
-
-pub shape_of-index : goal.shape_of-index
-shape_of-index c =
-    c.remember.auto.index ∙ c.expand-o.auto.index ∙ c.next_round-round.auto.index
-
-pub returns : goal.returns
-returns c =
-    let p = c.requires in
-    let a = c.args in
-    let R = tried_first a.moves.now a.trace.now a.a c.next_round-round.result p.0 p.1 p.2 c.initial_of-state.ensures c.see-x.ensures
-    c.if-x.false c.expand-o.ensures.answer
-    c.expand-o.ensures.tables in
-    record {
-      answer = R.0;
-      stands = R.1;
-      index = still_lasting c.remember.ensures;
-    }
+pub returns-clause-index : goal.returns-clause-index
+returns-clause-index c = still_lasting c.search_from-o.ensures.index
