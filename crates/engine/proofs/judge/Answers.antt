@@ -1,5 +1,5 @@
 -- Truths first, then the records that may be final, then those in doubt: the tables are those of the state. Assumes nothing.
-use Rattle.std.proofs.Common.{◌≡◌, ℕ, ◌+◌, ◌-◌, ◌≤◌, Bool, true, List, length, get_or, sym, refl, ap, ◌∙◌, subst, subst₂, arith, take, drop, length-take-le}
+use Rattle.std.proofs.Common.{◌≡◌, ℕ, ◌+◌, ◌-◌, ◌≤◌, Bool, true, List, length, get_or, sym, ap, ◌∙◌, subst, subst₂, arith, take, drop, length-take-le}
 use borrow.Rule.Slice.PartMut.{put_mid, same_len_mid}
 use lib.Seq.{paste, length-paste}
 use Rattle.leaves.specs.Endable.{FinalsKnown}
@@ -80,7 +80,7 @@ mark_finals-requires c =
     record {
       program_table = (programs_long _ _ (in_sheet O), omega (arith, F.len));
       all_lower = (runs_lower O, runs_plain O);
-      skips = skips_by O P _ _ F.finals refl;
+      skips = skips_by O P _ F.finals;
     }
 
 pub returns : goal.returns
