@@ -97,13 +97,10 @@ module _ {s : List ℕ} {m : Inspection} (O : Of s m) where
 
   module _ {flags : List Bool} {numbers : List ℕ} (P : Prepared s flags numbers) where
     -- what a pass over the records in doubt goes by
-    pub skips_by :
-        (finals : List Bool) (skips : List ℕ) → finals ≡ endable_in flags → skips ≡ skips_in numbers
-        → Skips (runs s m.layout m.interrupts) (many m.layout m.interrupts) finals skips
-    skips_by finals skips e k =
-        by_found O (λ (l : Layout) (b : Bool). Skips (runs s l b) (many l b) finals skips)
-        (subst (λ (x : List Bool). Skips (extended_records s) (extended_size_of s) x skips) (sym e)
-        (subst (Skips (extended_records s) (extended_size_of s) (endable_in flags)) (sym k) P.skipping))
+    pub skips_by : (finals : List Bool) → finals ≡ endable_in flags → Skips (runs s m.layout m.interrupts) (many m.layout m.interrupts) finals (skips_in numbers)
+    skips_by finals e =
+        by_found O (λ (l : Layout) (b : Bool). Skips (runs s l b) (many l b) finals (skips_in numbers))
+        (subst (λ (x : List Bool). Skips (extended_records s) (extended_size_of s) x (skips_in numbers)) (sym e) P.skipping)
 
     -- told of a state
     pub judged :
