@@ -8,13 +8,12 @@ ghost use Rattle.golog.specs.Prog.{Prog};
 ghost use Rattle.runs.specs.Guide.{Guide};
 ghost use Rattle.runs.specs.Bounded.{join, flagged};
 ghost use Rattle.runs.specs.Claims.{claim_flag, serves};
-ghost use Rattle.sheet.specs.Inspection.{Of};
 ghost use Rattle.engine.specs.Frames.{Frame};
 ghost use Rattle.index.specs.Content.{Sound};
 ghost use Rattle.explored.specs.Known.{verdict_in, value_of, flag_in, left_in, round_of, Known, Explored};
 
 use golog::State;
-use sheet::Inspection;
+use sheet::Sheet;
 
 // A configuration as an index is asked of it: the frame of its program, its state, and what is asked of the moves to come, as a number,
 // 0 where that is nothing.
@@ -51,19 +50,18 @@ fn weigh(value: u32, label: usize, left: usize, round: u32, cut: bool) -> Option
 pub fn recall(
     index: &[u32],
     work: &[u32],
-    s: &[u8],
-    found: Inspection,
+    s: &Sheet,
     c: Subject,
     left: usize,
     round: u32,
     cut: bool,
 ) -> Option<bool>
-    requires { Sound index.now × Of s.now found × ((k : ℕ) × (p : Prog) × Frame s.now k work.now c.depth p) }
+    requires { Sound index.now × ((k : ℕ) × (p : Prog) × Frame s.now k work.now c.depth p) }
     ensures { (guides : ℕ → Guide) (k : ℕ) (p : Prog) → Known s.now guides round index.now → Frame s.now k work.now c.depth p
         → IfSome result (λ more. join (flagged cut) (verdict_in s.now left ((p, c.state), guides c.label)) ≡ flagged more) }
 {
     let mut key = [0u32; keys::WORDS];
-    let n = keys::key_of(&mut key, work, s, found, c.state, c.depth, c.label)?;
+    let n = keys::key_of(&mut key, work, s, c.state, c.depth, c.label)?;
     let value = index::find(index, &key[..n])?;
     weigh(value, c.label, left, round, cut)
 }
@@ -90,19 +88,18 @@ fn value_of(round: u32, left: usize, flag: u32) -> u32
 pub fn note(
     index: &mut [u32],
     work: &[u32],
-    s: &[u8],
-    found: Inspection,
+    s: &Sheet,
     c: Subject,
     left: usize,
     round: u32,
     flag: u32,
 )
-    requires { Sound index.old × Of s.now found × ((k : ℕ) × (p : Prog) × Frame s.now k work.now c.depth p) × (round < 65536) × (left ≤ 64) × (flag ≤ 2) }
+    requires { Sound index.old × ((k : ℕ) × (p : Prog) × Frame s.now k work.now c.depth p) × (round < 65536) × (left ≤ 64) × (flag ≤ 2) }
     ensures { (guides : ℕ → Guide) → Known s.now guides round index.old → Explored s.now work.now guides c left flag →
         Known s.now guides round index.new }
 {
     let mut key = [0u32; keys::WORDS];
-    if let Some(n) = keys::key_of(&mut key, work, s, found, c.state, c.depth, c.label) {
+    if let Some(n) = keys::key_of(&mut key, work, s, c.state, c.depth, c.label) {
         index::note(index, &key[..n], value_of(round, left, flag));
     }
 }

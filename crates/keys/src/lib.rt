@@ -3,13 +3,12 @@
 
 ghost use Rattle.std.specs.Prelude.{◌≡◌, true, ℕ, ◌+◌, ◌*◌, ◌/◌, ◌%◌, ◌^◌, ◌≤◌, ◌<◌, length, get_or, take, IfSome};
 ghost use Rattle.golog.specs.Prog.{Prog};
-ghost use Rattle.sheet.specs.Inspection.{Of};
 ghost use Rattle.engine.specs.Frames.{Frame};
 ghost use Rattle.keys.specs.Packed.{two_at, four_at, eight_at, node_at, pair_at, limit_of, words_of, word_at, head_of, Coded, CodedPair, Whole, WrittenValues, WrittenNodes, Held, Packed};
 ghost use Rattle.keys.specs.Keyed.{Keyed};
 
 use golog::State;
-use sheet::Inspection;
+use sheet::Sheet;
 
 // How many words a caller has for a key: a configuration that takes more has none.
 pub const WORDS: usize = 32;
@@ -218,18 +217,17 @@ fn pack(
 pub fn key_of(
     key: &mut [u32],
     work: &[u32],
-    s: &[u8],
-    found: Inspection,
+    s: &Sheet,
     st: State,
     d: usize,
     label: usize,
 ) -> Option<usize>
-    requires { Of s.now found × ((left : ℕ) × (p : Prog) × Frame s.now left work.now d p) }
+    requires { (left : ℕ) × (p : Prog) × Frame s.now left work.now d p }
     ensures inside { IfSome result (λ size. size ≤ length key.old) }
     ensures keyed { (left : ℕ) (p : Prog) → Frame s.now left work.now d p → IfSome result (λ size. Keyed s.now (p, st) label (take size key.new)) }
 {
+    let found = s.found();
     let at = d * found.frame + height::HEADER;
     let n = words::size_at(work, at);
-    let l = found.layout;
-    pack(key, work, at, n, st, (l.f + 7) / 8, label)
+    pack(key, work, at, n, st, (found.layout.f + 7) / 8, label)
 }

@@ -51,7 +51,7 @@ mark_finals-requires c =
     record {
       program_table = (rw (ap (λ (l : Layout). l.p) O.layout_is) c.programs.ensures.long, omega (arith, n));
       all_lower = rw programs (runs_lower O, runs_plain O);
-      skips = rw programs (skips_by O P _ _ finals refl);
+      skips = rw programs (skips_by O P _ finals);
     }
 
 pub returns : goal.returns

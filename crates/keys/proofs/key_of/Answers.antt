@@ -44,27 +44,27 @@ module _ {s w : List ℕ} {m : Inspection} {left d n : ℕ} {p : Prog} (O : Of s
 
 pub overflow_mul-at : goal.overflow_mul-at
 overflow_mul-at c =
-    let F = c.requires.1.2 in
-    omega (arith, frame_by c.requires.0 c.args.d, F.roomy.inside, F.roomy.small)
+    let F = c.requires.2 in
+    omega (arith, frame_by c.found-found.ensures.of c.args.d, F.roomy.inside, F.roomy.small)
 
 pub overflow_add-at : goal.overflow_add-at
 overflow_add-at c =
-    let F = c.requires.1.2 in
-    omega (arith, frame_by c.requires.0 c.args.d, F.roomy.inside, F.roomy.small)
+    let F = c.requires.2 in
+    omega (arith, frame_by c.found-found.ensures.of c.args.d, F.roomy.inside, F.roomy.small)
 
 pub size_at-n-requires : goal.size_at-n-requires
 size_at-n-requires c =
-    let F = c.requires.1.2 in
-    omega (arith, frame_by c.requires.0 c.args.d, at_node_room F.rest _ _ F.words_are)
+    let F = c.requires.2 in
+    omega (arith, frame_by c.found-found.ensures.of c.args.d, at_node_room F.rest _ _ F.words_are)
 
-pub overflow_add-l : goal.overflow_add-l
-overflow_add-l c = let O = c.requires.0 in omega (arith, (in_sheet O).f)
+pub overflow_add-found : goal.overflow_add-found
+overflow_add-found c = let O = c.found-found.ensures.of in omega (arith, (in_sheet O).f)
 
 pub pack-requires : goal.pack-requires
 pack-requires c =
-    let O = c.requires.0 in
-    let F = c.requires.1.2 in
+    let O = c.found-found.ensures.of in
+    let F = c.requires.2 in
     (nodes-inside O F c.size_at-n.ensures, omega (arith, (in_sheet O).f))
 
 pub returns-clause-keyed : goal.returns-clause-keyed
-returns-clause-keyed c = λ left p F. IfSome_then _ c.pack.ensures (keyed c.requires.0 F c.size_at-n.ensures _)
+returns-clause-keyed c = λ left p F. IfSome_then _ c.pack.ensures (keyed c.found-found.ensures.of F c.size_at-n.ensures _)
