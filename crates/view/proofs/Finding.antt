@@ -9,6 +9,7 @@ use lib.ListN.{length, get_or, drop, length-drop}
 use lib.Seq.{get_or-take, length-take-le}
 use lib.Dec.{ltb}
 use borrow.Author.Tests.{lt-ltb, le-ltb}
+use Rattle.std.proofs.lemmas.Bool.Decides.{nat_tests}
 use denote.Ref.{Bor}
 use Rattle.records.specs.Bytes.{part}
 use Rattle.records.specs.Records.{fluent_at}
@@ -37,23 +38,14 @@ module _ (s : List ℕ) (at : ℕ) where
   pub past_end : (x : ℕ) → length s < at → Err (refusal_of 12 0) ≡ looked_in (part s at (length s)) (count_from s at) x
   unfolding looked_in count_from
   past_end x l =
-      let none : (length s - at) / 2 ≡ 0 = omega arith in
-      let few : cond (ltb (length s) 18) 0 (min (trailer_of s).f ((length s - at) / 2)) ≡ 0 =
-      elim (dec_lt (length s) 18) [
-        | yes h ↦ simp (lt-ltb (length s) 18 h)
-        | no h ↦ let g : 18 ≤ length s = omega arith in simp (le-ltb (length s) 18 g) (omega arith)
-      ] in
+      let few : cond (ltb (length s) 18) 0 (min (trailer_of s).f ((length s - at) / 2)) ≡ 0 = grind (arith, nat_tests) in
       simp (few, le-ltb x 0 (omega arith))
 
   -- the bytes from the offset on hold the fluents counted
   pub table_long : (k : ℕ) → k ≡ count_from s at → at ≤ length s → 2 * k ≤ length (part s at (length s))
   unfolding count_from
   table_long k e l =
-      let half : k ≤ (length s - at) / 2 =
-      elim (dec_lt (length s) 18) [
-        | yes h ↦ rw e (simp (lt-ltb (length s) 18 h) (omega arith))
-        | no h ↦ let g : 18 ≤ length s = omega arith in rw e (simp (le-ltb (length s) 18 g) (omega arith))
-      ] in
+      let half : k ≤ (length s - at) / 2 = rw e (grind (arith, nat_tests)) in
       let long : length (part s at (length s)) ≡ length s - at =
       length-take-le (length s - at) (drop at s) (let d = length-drop at s in omega (arith, d)) in
       rw long (omega arith)
