@@ -25,7 +25,8 @@ use Rattle.golog.specs.Written.{entry_in, sees, span_of}
 use Rattle.remaining.proofs.Written.{Linked, picks_b}
 use Rattle.enabled.specs.Spans.{SpansKnown}
 use Rattle.enabled.specs.Enabled.{Valuation, valuation_of, final_in, enabled_in}
-use Rattle.enabled.specs.Filled.{most_formulas, table_sets, final_set, enabled_set, possible_set, valuation_by, RuledTable, Readable, FinalBy, EnabledBy, Sees, Known, KnownWherever, Kept}
+use Rattle.enabled.specs.Filled.{most_formulas, table_sets, final_set, enabled_set, possible_set, valuation_by, RuledTable, Readable, FinalBy, EnabledBy}
+use Rattle.enabled.specs.Filled.{Sees, Known, KnownWherever, SeesConditions, FinalsWherever, Kept}
 use Rattle.enabled.proofs.Read.{Agree, either_same, final_agrees, enabled_agrees, final_read, enabled_read}
 
 -- nothing was put
@@ -42,6 +43,9 @@ kept_more low high put K = record {
 
 pub known_none : {p : ℕ → Program} {m : ℕ} {running : Bool} {old : List ℕ} → KnownWherever p m 0 running old old
 known_none W s S = record { final = λ i l. absurd (omega arith); enabled = λ i l. absurd (omega arith) }
+
+pub finals_none : {p : ℕ → Program} {m : ℕ} {running : Bool} {old : List ℕ} → FinalsWherever p m 0 running old old
+finals_none W s S i l = absurd (omega arith)
 
 -- the sets of record i are put
 module _ {i : ℕ} {table mid new ends goes : List ℕ} (few : i < 260) (first : PutSet (enabled_set i) goes table mid) (second : PutSet (final_set i) ends mid new) where
@@ -133,6 +137,38 @@ module _ {p : ℕ → Program} (ruled : RuledTable most_formulas p) where
     either_same (picks (p i).kind) (λ t. ap (some_from _ 0) (known.each i l t)) refl,
   )
 
+  -- where record i is final is right, where it is for those below: of a state no more is asked than where conditions hold
+  final_right :
+      {W : World} {s : State} {m i : ℕ} {running : Bool} {spans old table ends : List ℕ} → SeesConditions W s p m running old → SpansKnown p m spans → i < m → Kept old table
+      → ((k : ℕ) → k < i → Has ((valuation_of W s p).final k) (set_at table (final_set k))) → FinalBy table running (get_or spans i 0) (p i) ends
+      → Has ((valuation_of W s p).final i) ends
+  final_right {W} {s} {m} {i} {running} {spans} {old} {table} S known l K D F =
+      has_by F
+      (λ e small. agrees (get_or spans i 0) e small
+      ∙ (span_read known i l (valuation_of W s p) running e).0
+      ∙ ap (λ (b : Bool). final_in (valuation_of W s p) b (span_of p i) (p i) e) (sym S.runs)
+      ∙ sym (final_read W s p linked i e small))
+    where
+      below : (k e : ℕ) → k < i → e < 256 → (valuation_by table).final k e ≡ (valuation_of W s p).final k e
+      below k e g small = (D k g).each e small
+
+      agrees : (n e : ℕ) → e < 256 → final_in (valuation_by table) running n (p i) e ≡ final_in (valuation_of W s p) running n (p i) e
+      agrees n e small =
+          final_agrees (valuation_by table) (valuation_of W s p) n (p i) e running
+          (λ t. ap (λ (x : List ℕ). member x e) (K.sets (p i).c (inl ((ruled i).condition t))) ∙ (S.each i l t).each e small)
+          (λ t. below (p i).a e (below_a i t) small) (λ t. below (p i).b e (below_b i t) small)
+          (λ t v g. below (p i).b (put e (p i).c v) (below_b i (picks_b (p i).kind t)) (put_small e small (p i).c v))
+
+  pub finals_more :
+      {m i : ℕ} {spans old table new ends : List ℕ} (running : Bool) → SpansKnown p m spans → i < m → m ≤ 260
+      → PutSet (final_set i) ends table new → Kept old table → FinalBy table running (get_or spans i 0) (p i) ends → FinalsWherever p m i running old table
+      → FinalsWherever p m (i + 1) running old new
+  finals_more {m} {i} {spans} {old} {table} {new} {ends} running known l few put_at K F D W s S j h = go (dec_lt j i)
+    where
+      go : Dec (j < i) → Has ((valuation_of W s p).final j) (set_at new (final_set j))
+      go (yes k) = subst (Has _) (sym (put_at.others (final_set j) (λ e. omega arith))) (D W s S j k)
+      go (no k) = let z : j ≡ i = omega arith in rw (z, put_at.here) (final_right S known l K (D W s S) F)
+
   -- the sets of record i are right, where those below are
   pub known_more :
       {m i : ℕ} {spans old table mid new ends goes : List ℕ} (running : Bool) → SpansKnown p m spans → i < m → m ≤ 260
@@ -141,11 +177,7 @@ module _ {p : ℕ → Program} (ruled : RuledTable most_formulas p) where
       → KnownWherever p m i running old table → KnownWherever p m (i + 1) running old new
   known_more {m} {i} {spans} running known l few first second K F G D W s S =
       put_known (omega arith) first second (D W s S)
-      (has_by F
-      (λ e small. final_agrees (agree S K (D W s S) l (get_or spans i 0) e small) running
-      ∙ (span_read known i l (valuation_of W s p) running e).0
-      ∙ ap (λ (b : Bool). final_in (valuation_of W s p) b (span_of p i) (p i) e) (sym S.runs)
-      ∙ sym (final_read W s p linked i e small)))
+      (final_right (record { runs = S.runs; each = λ j l. (S.each j l).condition }) known l K (D W s S).final F)
       (has_by G
       (λ e small. enabled_agrees (agree S K (D W s S) l (get_or spans i 0) e small) running
       ∙ (span_read known i l (valuation_of W s p) running e).1

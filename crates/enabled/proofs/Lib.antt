@@ -3,4 +3,3 @@ pub mod Told
 pub mod Listing
 pub mod Filling
 pub mod Ruling
-pub mod Ending

@@ -84,19 +84,16 @@ either_same false p q = q
 
 -- so they say the same of it; for whether it is final less is asked
 module _ (says says' : Valuation) (n : ℕ) (r : Program) (e : ℕ) (running : Bool) where
-  pub final_agrees_by :
+  pub final_agrees :
       (T (has_condition r.kind) → says.holds r.c e ≡ says'.holds r.c e) → (T (has_a r.kind) → says.final r.a e ≡ says'.final r.a e)
       → (T (has_b r.kind) → says.final r.b e ≡ says'.final r.b e)
       → (T (picks r.kind) → (v : ℕ) → v < n → says.final r.b (put e r.c v) ≡ says'.final r.b (put e r.c v))
       → final_in says running n r e ≡ final_in says' running n r e
   unfolding final_in
-  final_agrees_by condition part_a part_b chosen_b =
+  final_agrees condition part_a part_b chosen_b =
       either_same (picks r.kind) (λ t. some_same _ _ n 0 (λ v (l, m). chosen_b t v (omega arith))) (final_same r.kind running part_a part_b condition)
 
 module _ {says says' : Valuation} {n : ℕ} {r : Program} {e : ℕ} (A : Agree says says' n r e) (running : Bool) where
-  pub final_agrees : final_in says running n r e ≡ final_in says' running n r e
-  final_agrees = final_agrees_by says says' n r e running A.condition (λ t. (A.part_a t).0) (λ t. (A.part_b t).0) (λ t v l. (A.chosen_b t v l).0)
-
   pub enabled_agrees : enabled_in says running n r e ≡ enabled_in says' running n r e
   unfolding enabled_in
   enabled_agrees =

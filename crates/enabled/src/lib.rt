@@ -221,6 +221,7 @@ fn enabled_set(r: Program, n: usize, running: bool, table: &[u32]) -> [u32; sets
 
 // Fills in where each record of the table that runs is final, and with `goes` where it is enabled, in the state of which the sets of formulas and
 // of actions tell, whatever stood there: one pass upwards, since a record names lower ones only.
+// Kept: `goes` is a flag and no closure, which would have to say in its clauses what it reads of the table and puts into it.
 fn fill_sets(
     programs: &[u8],
     n: usize,

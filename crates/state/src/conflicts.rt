@@ -15,6 +15,7 @@ pub const ACTIONS: usize = 64;
 pub const FLUENTS: usize = 32;
 
 // Whether something was noted and it is another: `noted` is 0 where nothing was, and else, as `given`, from 1 on.
+// Kept: its clause speaks of numbers (specs/Conflicts.antt, `differs`), and the pass of the crate possible calls it.
 pub fn differs(noted: u16, given: u16) -> bool
     ensures { result ≡ differs noted given }
 {

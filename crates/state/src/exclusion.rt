@@ -13,6 +13,7 @@ const FORMULAS: usize = 512;
 const VALUES: usize = 16;
 
 // The places of a list of actions: one for each, and one for how many there are.
+// Kept: the count stands behind the places by the promises of `listed` and `in_conflict` (specs/Conflicts.antt, `Lists`, `listed_count`).
 pub const LIST: usize = ACTIONS + 1;
 
 // What a condition asks for: that a fluent has a value.

@@ -1,11 +1,10 @@
--- The table is filled upwards, by the laws of Filling and of Ending: each turn puts the sets of a record, right in whatever state is seen so.
+-- The table is filled upwards, by the laws of Filling: each turn puts the sets of a record, right in whatever state is seen so.
 -- Assumes nothing.
 use mathlib.Core.Path.{sym, ◌∙◌}
 use mathlib.Core.Bool.{false≢true}
 use native.Mathlib.Nat.{le_antisymm}
 use native.Mathlib.Omega.{arith}
-use Rattle.enabled.proofs.Filling.{readable, kept_none, known_none, kept_more, known_more}
-use Rattle.enabled.proofs.Ending.{finals_none, finals_more}
+use Rattle.enabled.proofs.Filling.{readable, kept_none, known_none, finals_none, kept_more, known_more, finals_more}
 use Rattle.enabled.proofs.fill_sets.Goals as goal
 use Rattle.enabled.proofs.fill_sets.Goals.{then-goes, else-goes}
 
