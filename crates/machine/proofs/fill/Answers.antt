@@ -6,29 +6,16 @@ use lib.ListN.{length}
 use borrow.Rule.Slice.PartMut.{put_mid, same_len_mid}
 use Rattle.enabled.specs.Spans.{SpansKnown}
 use Rattle.machine.specs.Tables.{window, Only, sets_from, sets_at, records_of, many_of}
-use Rattle.machine.specs.Told.{Marks, SetsKnown}
-use Rattle.machine.proofs.Windows.{window_long, window_at_long, only_put, window_put}
+use Rattle.machine.specs.Told.{SetsKnown}
+use Rattle.machine.proofs.Windows.{window_at_long, only_put, window_put}
 use Rattle.machine.proofs.Keeping.{told_kept}
 use Rattle.machine.proofs.Surveying.{spans_known}
 use Rattle.machine.proofs.fill.Goals as goal
 
-pub fill_sets-requires : goal.fill_sets-requires
-fill_sets-requires c =
-    let R = c.requires.ruled_tables in
-    let T = c.requires.told_2 in
-    let numbers = c.args.numbers.now in
-    let programs = c.args.programs.now in
+pub fill_sets-requires-clause-spans_known : goal.fill_sets-requires-clause-spans_known
+fill_sets-requires-clause-spans_known c =
     let v = c.args.v in
-    let x = c.sets_from-from.result in
-    let m = c.marks_in-marks.ensures in
-    record {
-      ruled_tables = (R, window_at_long x (x + 8768) 8768 numbers (omega arith) (omega (arith, c.sets_from-from.ensures.1, T.long)));
-      spans_known = subst (SpansKnown (records_of programs v) (many_of v)) (sym (c.spans_in-spans.ensures ∙ T.spans_are)) (spans_known R.once);
-      marks_len = (
-        ap length m ∙ window_long 780 64 numbers (omega (arith, T.long)),
-        subst (Marks c.args.formulas.now c.args.effects.now c.args.actions.now programs v.p) (sym m) T.marks_are,
-      );
-    }
+    subst (SpansKnown (records_of c.args.programs.now v) (many_of v)) (sym (c.spans_in-spans.ensures ∙ c.requires.told_2.spans_are)) (spans_known c.requires.ruled_tables.once)
 
 pub returns : goal.returns
 returns c =

@@ -1,14 +1,7 @@
 -- Truths, then where actions are possible, then the records, by the law of Filling. Assumes nothing.
 use native.Mathlib.Omega.{arith}
-use Rattle.machine.proofs.Filling.{records_allowed, readable_marked, filled_known}
+use Rattle.machine.proofs.Filling.{records_allowed, filled_known}
 use Rattle.machine.proofs.fill_sets.Goals as goal
-
-pub fill_possible-requires : goal.fill_possible-requires
-fill_possible-requires c =
-    readable_marked c.requires.ruled_tables.0 c.requires.marks_len.1 c.requires.marks_len.0 (omega (arith, c.fill.ensures.len, c.requires.ruled_tables.1))
-
-pub fill-requires-2-clause-program_table : goal.fill-requires-2-clause-program_table
-fill-requires-2-clause-program_table c = c.requires.ruled_tables.0.once.programs_long
 
 pub fill-requires-2-clause-fillable : goal.fill-requires-2-clause-fillable
 fill-requires-2-clause-fillable c = record {

@@ -3,23 +3,12 @@ use Prim.Native.Nat.{ℕ}
 use mathlib.Core.Bool.{Bool}
 use mathlib.Core.List.{List}
 use mathlib.Core.Path.{◌≡◌, ◌∙◌, ap₂}
-use native.Mathlib.Omega.{arith}
 use lib.ListN.{length}
 use Rattle.positions.specs.Levels.{digits_of}
 use Rattle.machine.specs.Tables.{records_of, many_of}
 use Rattle.machine.proofs.Keeping.{put_only, put_told}
 use borrow.Author.Rules.{rules}
 use Rattle.machine.proofs.prepare.Goals as goal
-
-pub put_numbers-requires-3 : goal.put_numbers-requires-3
-put_numbers-requires-3 c =
-    let n : length c.distances-distances.result ≡ 260 = search rules in
-    omega (arith, n, c.put_numbers.ensures.len, c.put_numbers-2.ensures.len, c.requires.1)
-
-pub put_numbers-requires-4 : goal.put_numbers-requires-4
-put_numbers-requires-4 c =
-    let n : length c.marks_of-marks.result ≡ 64 = search rules in
-    omega (arith, n, c.put_numbers.ensures.len, c.put_numbers-2.ensures.len, c.put_numbers-3.ensures.len, c.requires.1)
 
 pub returns : goal.returns
 returns c =
