@@ -17,7 +17,7 @@ use Rattle.height.specs.Work.{levels, work_words}
 use Rattle.sheet.specs.Trailer.{trailer_of, limits_ok, WithinLimits, record_bytes, distance_ok}
 use Rattle.sheet.specs.Layout.{layout_in, layout_of, LaidOut, fluents_in, formulas_in, effects_in, actions_in, programs_in}
 use Rattle.sheet.specs.Check.{refused, refused_at, tables_checked, names_in, height_checked, records_checked, trailer_checked, check_of, Accepts, Checked, accepted_with, words_of, fluents_named}
-use Rattle.sheet.proofs.Checking.{within, limits_exactly, placed, placed_exactly, fits}
+use Rattle.sheet.proofs.Checking.{within, limits_exactly, lies, placed_exactly, fits}
 use Rattle.sheet.specs.declared.Layout.{Layout}
 
 -- an answer that accepts has passed the test
@@ -95,7 +95,7 @@ both s w u e =
     let e₂ = passed (not (eqb t.magic 0x5142)) 1 0 _ e₁.1 in
     let e₃ = passed (not (limits_ok t)) 2 0 _ e₂.1 in
     let e₄ = passed (not (distance_ok t (length s - 18))) 3 0 _ e₃.1 in
-    let p = placed t (length s - 18) (not-false (distance_ok t (length s - 18)) e₄.0) in (
+    let p = lies t (length s - 18) (not-false (distance_ok t (length s - 18)) e₄.0) in (
       record {
         long = ltb-false (length s) 18 e₁.0;
         magic = eqb-true t.magic 0x5142 (not-false (eqb t.magic 0x5142) e₂.0);

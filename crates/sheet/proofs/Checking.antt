@@ -43,16 +43,16 @@ limits_exactly t = (
       ),
 )
 
-pub placed : (t : Trailer) (room : ℕ) → distance_ok t room ≡ true → (t.distance ≡ record_bytes t) × (t.distance ≤ room)
+pub lies : (t : Trailer) (room : ℕ) → distance_ok t room ≡ true → (t.distance ≡ record_bytes t) × (t.distance ≤ room)
 unfolding distance_ok
-placed t room e =
+lies t room e =
     let a : Bool = eqb t.distance (record_bytes t) in
     let b : Bool = leb t.distance room in
     (eqb-true t.distance (record_bytes t) (and_left a b e), leb-true t.distance room (and_right a b e))
 
 pub placed_exactly : (t : Trailer) (room : ℕ) → (distance_ok t room ≡ true) ↔ ((t.distance ≡ record_bytes t) × (t.distance ≤ room))
 unfolding distance_ok
-placed_exactly t room = (placed t room, λ (e, l). simp (eq-eqb _ _ e, le-leb _ _ l))
+placed_exactly t room = (lies t room, λ (e, l). simp (eq-eqb _ _ e, le-leb _ _ l))
 
 -- where the distance is the sum and there is room for it, the tables fit
 pub fits : (t : Trailer) (room : ℕ) → WithinLimits t → t.distance ≡ record_bytes t → t.distance ≤ room → LaidOut (layout_in t room) (room + 18)

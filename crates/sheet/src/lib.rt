@@ -272,7 +272,7 @@ fn measure(s: &[u8], l: Layout) -> Result<Inspection, Refusal>
 }
 
 // Checks a sheet, and keeps what was found.
-#[tactic(auto, using(crate::proofs::Checking::within, crate::proofs::Checking::placed), unfolding(crate::specs::Check::check_of, crate::specs::Check::trailer_checked, crate::specs::Layout::layout_of))]
+#[tactic(auto, using(crate::proofs::Checking::within, crate::proofs::Checking::lies), unfolding(crate::specs::Check::check_of, crate::specs::Check::trailer_checked, crate::specs::Layout::layout_of))]
 pub fn inspect(s: &[u8]) -> Result<Inspection, Refusal>
     ensures { result ≡ inspect_of s.now }
 {
