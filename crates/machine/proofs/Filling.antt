@@ -9,7 +9,7 @@ use native.Mathlib.Decide.{dec_lt}
 use native.Mathlib.Omega.{arith}
 use borrow.Author.Tests.{eqb-true}
 use lib.Dec.{T, eqb}
-use lib.ListN.{length, get_or}
+use lib.ListN.{get_or}
 use Rattle.records.specs.declared.Program.{Program}
 use Rattle.records.specs.Records.{action_at, program_at}
 use Rattle.kinds.specs.Programs.{field_a, acts}
@@ -22,7 +22,7 @@ use Rattle.truths.specs.Evaluated as truths
 use Rattle.remaining.specs.Extended.{empty, virtual}
 use Rattle.remaining.proofs.Started.{table_below, table_above}
 use Rattle.possible.specs.Written.{Written}
-use Rattle.possible.specs.Possible.{Readable, NeverConflicts, PossibleSet}
+use Rattle.possible.specs.Possible.{NeverConflicts, PossibleSet}
 use Rattle.possible.proofs.Exclusive.{exclusive_conflicts_none}
 use Rattle.enabled.specs.Filled.{most_formulas, possible_set, RuledTable, Sees}
 use Rattle.enabled.specs.Filled as enabled
@@ -30,19 +30,8 @@ use Rattle.enabled.proofs.Ruling.{table_ruled, ruled_more, sees_all}
 use Rattle.machine.specs.declared.Shape.{Shape}
 use Rattle.machine.specs.Tables.{records_of, many_of}
 use Rattle.machine.specs.Ruled.{RuledOnce, RuledTables}
-use Rattle.machine.specs.Told.{Marks, ReadableMarked, SetOf, ActionsFilled, SetsKnown}
-use Rattle.machine.proofs.Reading.{range_few, asks_below, readable_action}
-
--- an action is readable by its table's length
-pub readable_same : {fluents effects actions table table' : List ℕ} {a : ℕ} → length table' ≡ length table → Readable fluents effects actions table a
-    → Readable fluents effects actions table' a
-readable_same same R = record {
-  action = R.action;
-  known = R.known;
-  precondition = omega (arith, R.precondition);
-  range = record { few = R.range.few; long = R.range.long; names = R.range.names; conditions = λ i x y. omega (arith, R.range.conditions i x y) };
-  values = R.values;
-}
+use Rattle.machine.specs.Told.{Marks, SetOf, ActionsFilled, SetsKnown}
+use Rattle.machine.proofs.Reading.{range_few, asks_below}
 
 -- sets of formulas that are kept tell the same
 pub held_kept :
@@ -50,9 +39,6 @@ pub held_kept :
 held_kept W s n old table same H q l = subst (HoldsIn W s q) (sym (same q l)) (H q l)
 
 module _ {fluents effects actions marks : List ℕ} where
-  pub actions_none : (table : List ℕ) → ActionsFilled fluents effects actions marks 0 table table
-  actions_none table = record { len = refl; below = λ j l. refl; each = λ a l. absurd (omega arith) }
-
   module _ {a : ℕ} {old table : List ℕ} (F : ActionsFilled fluents effects actions marks a old table) where
     -- an action that no record performs
     pub actions_skip : get_or marks a 0 ≡ 0 → ActionsFilled fluents effects actions marks (a + 1) old table
@@ -112,13 +98,6 @@ module _ {fluents formulas effects actions programs : List ℕ} {v : Shape} (R :
     (M : Marks formulas effects actions programs v.p marks) where
   marked_known : (a : ℕ) → ¬ (get_or marks a 0 ≡ 0) → a < v.a
   marked_known a n = let (i, l, t, e) = M.only a n in subst (λ (b : ℕ). b < v.a) e (R.once.acts_known i l t)
-
-  pub readable_marked : {table : List ℕ} → length marks ≡ 64 → 8768 ≤ length table → ReadableMarked fluents effects actions marks table
-  readable_marked long room = record {
-    len = long;
-    room = room;
-    each = λ a n. readable_action R (marked_known a n) (omega (arith, R.once.moves.few_formulas));
-  }
 
   -- effects that are not compared contradict each other in no environment
   never : (W : World) → Written fluents formulas effects actions W → (s : State) (a : ℕ) → a < v.a → not (eqb (get_or marks a 0) 1) ≡ false → NeverConflicts W s actions a

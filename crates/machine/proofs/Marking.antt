@@ -9,12 +9,11 @@ use native.Mathlib.Omega.{arith}
 use lib.ListN.{length, get_or, get_or-eq_default}
 use Rattle.records.specs.Records.{program_at}
 use Rattle.records.specs.Laid.{Laid}
-use Rattle.state.specs.Exclusion.{ReadableAll, MayConflict}
+use Rattle.state.specs.Exclusion.{MayConflict}
 use Rattle.leaves.specs.Performed.{Performed}
 use Rattle.machine.specs.declared.Shape.{Shape}
 use Rattle.machine.specs.Ruled.{RuledOnce}
 use Rattle.machine.specs.Told.{mark_of, Marks}
-use Rattle.machine.proofs.Reading.{exclusion_readable}
 
 -- what a mark tells
 mark_performed : (p c : Bool) → ¬ (mark_of p c ≡ 0) → p ≡ true
@@ -36,12 +35,6 @@ module _ {formulas effects actions programs : List ℕ} {v : Shape} (R : RuledOn
   -- what is marked is an action of the sheet
   known : (a : ℕ) → get_or performed a false ≡ true → a < v.a
   known a h = let (i, l, t, e) = P.only a h in subst (λ (b : ℕ). b < v.a) e (R.acts_known i l t)
-
-  pub performed_readable : ReadableAll formulas effects actions performed
-  performed_readable = record {
-    known = λ a h. omega (arith, known a h, R.moves.actions_long);
-    each = λ a h. exclusion_readable R.moves (known a h) R.formulas_long;
-  }
 
 module _ {formulas effects actions : List ℕ} (programs : List ℕ) {n : ℕ} {performed may : List Bool} (P : Performed (program_at programs) n performed)
     (M : MayConflict formulas effects actions performed may) {w marks : List ℕ}

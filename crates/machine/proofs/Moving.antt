@@ -5,7 +5,7 @@ use mathlib.Core.Bool.{Bool, cond}
 use mathlib.Core.List.{List}
 use mathlib.Core.Option.{Option, none, some}
 use mathlib.Core.Path.{◌≡◌, sym, ◌∙◌, ap, subst}
-use borrow.Author.Tests.{eq-eqb, ne_eqb}
+use borrow.Author.Tests.{ne_eqb}
 use Rattle.golog.specs.declared.State.{State}
 use Rattle.golog.specs.World.{World, after}
 use Rattle.truths.specs.Held.{AllHold}
@@ -16,9 +16,6 @@ use Rattle.machine.specs.declared.Shape.{Shape}
 use Rattle.machine.specs.Ruled.{RuledActions, IsEntry}
 use Rattle.machine.specs.Told.{move_of}
 use Rattle.machine.proofs.Reading.{range_conditions}
-
-pub is_test : (entry : ℕ) → entry ≡ test_code → move_of entry ≡ none
-is_test entry z = ap (λ (b : Bool). cond b none (some entry)) (eq-eqb entry test_code z)
 
 is_move : (entry : ℕ) → ¬ (entry ≡ test_code) → move_of entry ≡ some entry
 is_move entry z = ap (λ (b : Bool). cond b none (some entry)) (ne_eqb entry test_code z)

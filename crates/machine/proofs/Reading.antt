@@ -7,9 +7,9 @@ use lib.ListN.{length}
 use Rattle.records.specs.Records.{action_at}
 use Rattle.state.specs.Ranges.{Names, ConditionsBelow}
 use Rattle.state.specs.Exclusion as exclusion
-use Rattle.possible.specs.Possible.{ReadableRange, Readable, AsksBelow, Performable}
+use Rattle.possible.specs.Possible.{ReadableRange, Readable, AsksBelow}
 use Rattle.machine.specs.declared.Shape.{Shape}
-use Rattle.machine.specs.Ruled.{RuledActions, RuledTables, IsEntry}
+use Rattle.machine.specs.Ruled.{RuledActions, RuledTables}
 
 module _ {effects actions : List ℕ} {v : Shape} (R : RuledActions effects actions v) {a : ℕ} (l : a < v.a) where
   abbrev first : ℕ
@@ -58,15 +58,4 @@ readable_action R {a} l room =
       precondition = omega (arith, (M.each_action a l).precondition);
       range = range_readable M l 32 M.few_fluents room;
       values = λ i x y. R.each_value i (omega (arith, (M.each_action a l).range));
-    }
-
-pub performable :
-    {effects actions table : List ℕ} {v : Shape} → RuledActions effects actions v → {entry : ℕ} → IsEntry v entry → 8 * v.q ≤ length table
-    → Performable effects actions table v.f entry
-performable {v = v} M {entry} known room h =
-    let (small, l) = known h in
-    record {
-      environment = small;
-      known = omega (arith, M.actions_long, l);
-      range = range_readable M l v.f (omega arith) room;
     }

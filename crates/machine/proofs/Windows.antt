@@ -1,13 +1,11 @@
 -- Windows of a list: writing in one leaves those beside it, and a window that is written anew is what was written. Assumes nothing.
-use mathlib.Core.Path.{◌≡◌, refl, sym, ◌∙◌, ap}
+use mathlib.Core.Path.{◌≡◌, sym, ◌∙◌, ap}
 use mathlib.Core.List.{List, ◌++◌}
-use Prim.Native.Nat.{ℕ, ◌+◌, ◌-◌, ◌≤◌, ◌<◌}
-use native.Mathlib.Decide.{dec_lt}
-use native.Mathlib.Nat.{zero-add}
+use Prim.Native.Nat.{ℕ, ◌+◌, ◌-◌, ◌≤◌}
 use native.Mathlib.Omega.{arith}
 use borrow.Rule.Slice.PartMut.{put_mid, post_of, take_put, drop_put}
-use lib.ListN.{length, get_or, set, take, drop, length-take, length-drop, get_or-eq_default}
-use lib.Seq.{get_or-take, get_or-drop, length-take-le, take-take, take-add, take_at, drop_at, drop-drop, take-set-le, take-set-lt, drop-set-lt, drop-set-add}
+use lib.ListN.{length, take, drop, length-drop}
+use lib.Seq.{length-take-le, take-take, take-add, take_at, drop_at, drop-drop}
 use Rattle.machine.specs.Tables.{window, Only}
 
 module _ {A : Type 0} where
@@ -21,9 +19,6 @@ module _ {A : Type 0} where
   -- what is in front of its end has the window at its end
   front : (o n : ℕ) (l : List A) → o ≤ length l → window o n l ≡ drop o (take (o + n) l)
   front o n l h = sym (ap (drop o) (take-add o n l) ∙ drop_at (take o l) (window o n l) o (length-take-le o l h))
-
-  pub only_same : {o n : ℕ} (l : List A) → Only o n l l
-  only_same l = record { before = refl; behind = refl }
 
   pub only_then : {o n : ℕ} {l m k : List A} → Only o n l m → Only o n m k → Only o n l k
   only_then P Q = record { before = Q.before ∙ P.before; behind = Q.behind ∙ P.behind }
@@ -45,9 +40,6 @@ module _ {A : Type 0} where
   -- what is written in a part is written in the whole
   pub only_in : {o n p m : ℕ} {l l' : List A} → p ≤ o → o + n ≤ p + m → Only o n l l' → Only p m l l'
   only_in {o} {n} {p} {m} {l} {l'} h k P = record { before = earlier o p l l' h P.before; behind = later (o + n) (p + m) l l' k P.behind }
-
-  pub only_set : {o n : ℕ} (l : List A) (k : ℕ) (v : A) → o ≤ k → k < o + n → Only o n l (set l k v)
-  only_set {o} {n} l k v h j = record { before = take-set-le o l k v h; behind = drop-set-lt (o + n) l k v j }
 
   pub only_put : (o e n : ℕ) (l x : List A) → e ≡ o + n → e ≤ length l → length x ≡ n → Only o n l (put_mid o (e - o) l x)
   only_put o e n l x h k j = record {
@@ -71,26 +63,6 @@ module _ {A : Type 0} where
   window_put o e n l x h k j =
       ap (take n) (drop_at (take o l) (x ++ post_of o (e - o) l) o (length-take-le o l (omega arith)))
       ∙ take_at x (post_of o (e - o) l) n j
-
-  -- one place of it was written
-  pub window_set : (o n : ℕ) (l : List A) (i : ℕ) (v : A) → i < n → window o n (set l (o + i) v) ≡ set (window o n l) i v
-  window_set o n l i v h = ap (take n) (drop-set-add o l i v) ∙ take-set-lt n (drop o l) i v h
-
--- a window of a list that has one value in all its places
-pub window_same : {A : Type 0} (v : A) (o n : ℕ) (l : List A) → ((i : ℕ) → get_or l i v ≡ v) → (i : ℕ) → get_or (window o n l) i v ≡ v
-window_same v o n l h i = go (dec_lt i n)
-  where
-    go : Dec (i < n) → get_or (window o n l) i v ≡ v
-    go (yes k) = get_or-take n (drop o l) i v k ∙ get_or-drop o l i v ∙ h (o + i)
-    go (no k) = get_or-eq_default (window o n l) v (omega (arith, length-take n (drop o l)))
-
--- a place in front of what was written
-pub read_before : {A : Type 0} {o n : ℕ} {l l' : List A} (v : A) → Only o n l l' → (k : ℕ) → k < o → get_or l' k v ≡ get_or l k v
-read_before {A} {o} {n} {l} {l'} v P k h = sym (get_or-take o l' k v h) ∙ ap (λ (x : List A). get_or x k v) P.before ∙ get_or-take o l k v h
-
--- the front was written
-pub only_front : {A : Type 0} (n : ℕ) (l x : List A) → length x ≡ n → Only 0 n l (x ++ drop n l)
-only_front {A} n l x h = record { before = refl; behind = ap (λ (i : ℕ). drop i (x ++ drop n l)) (zero-add n) ∙ drop_at x (drop n l) n h ∙ ap (λ (i : ℕ). drop i l) (sym (zero-add n)) }
 
 -- a part that begins where a window does, by another name, and ends where it ends
 pub window_at : {A : Type 0} (a o e n : ℕ) (l : List A) → a ≡ o → e ≡ a + n → take (e - a) (drop a l) ≡ window o n l

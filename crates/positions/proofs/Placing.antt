@@ -5,17 +5,16 @@ use mathlib.Core.Bool.{true, false}
 use mathlib.Core.List.Memᴰ
 use mathlib.Core.List.{List, Memᴰ}
 use mathlib.Core.Logic.{⊎_elim}
-use Prim.Native.Nat.{ℕ, suc, ◌+◌, ◌*◌, ◌^◌, ◌≤◌, ◌<◌}
+use Prim.Native.Nat.{ℕ, suc, ◌+◌, ◌*◌, ◌≤◌, ◌<◌}
 use native.Mathlib.Omega.{arith}
 use lib.Dec.{T, eqb}
 use lib.ListN.{get_or}
 use Rattle.std.specs.Prelude.{Some, None}
 use Rattle.std.specs.Option.{is_some, IsSome}
 use Rattle.records.specs.declared.Program.{Program}
-use Rattle.records.specs.Records.{TwoBytes}
 use Rattle.records.specs.Placeholders.{environments, reading}
 use Rattle.records.proofs.Placeholders.{read_in_lem}
-use Rattle.kinds.specs.Programs.{has_condition, picks, has_own, tag_a, tag_b}
+use Rattle.kinds.specs.Programs.{picks, has_own, tag_a, tag_b}
 use Rattle.kinds.proofs.ProgramKinds.{by_kind, record_of}
 use Rattle.height.specs.Height.{rise}
 use Rattle.height.proofs.Paths.{rise_less}
@@ -35,7 +34,6 @@ use Rattle.positions.specs.declared.Way.{Way}
 use Rattle.positions.specs.declared.Fork.{Fork}
 use Rattle.positions.specs.Spots.{Spot}
 use Rattle.positions.specs.Found.{Tables, digits_in, spots_in, Surveyed, Leads, Forked, ForksRecord, CanLook}
-use Rattle.positions.specs.Read.{Readable}
 use Rattle.positions.specs.Placed.{CanPlace, Placed, LaidOwn, WrappedLaid}
 use Rattle.positions.proofs.Listed.{spots_are}
 use Rattle.positions.proofs.Parts.{some_member}
@@ -49,19 +47,6 @@ read_span e r {n} {m} =
     by_kind (λ (k : ℕ). (T (picks k) → n ≡ m) → program_read e n (record_of k r.a r.b r.c) ≡ program_read e m (record_of k r.a r.b r.c))
     (λ h. refl) (λ h. refl) (λ h. refl) (λ h. refl) (λ h. refl) (λ h. refl) (λ h. refl) (λ h. refl) (λ h. refl) (λ h. refl) (λ h. refl) (λ h. refl)
     (λ h. ap (λ (n : ℕ). program_read e n (record_of 12 r.a r.b r.c)) (h tt)) (λ k h. refl) r.kind
-
--- record i, read in e
-abbrev read_of : Tables → (i e : ℕ) → Program
-read_of t i e = program_read e (span_of t.records i) (t.records i)
-
-pub can_read : {t : Tables} {i e n : ℕ} {r : Program} → CanLook t i e → r ≡ t.records i → TwoBytes r → n < 2 ^ 32 → Readable r e n
-can_read {t} {i} {e} {n} {r} C q b few = record {
-  a = b.a;
-  b = b.b;
-  c = λ u. let l = C.surveyed.prepared.conditions i (subst (λ (r : Program). T (has_condition r.kind)) q u) in omega (arith, ap (λ (r : Program). r.c) q);
-  environment = C.small;
-  few = few;
-}
 
 pub is_read : {t : Tables} {i e n : ℕ} {r q : Program} → CanLook t i e → r ≡ t.records i → n ≡ get_or t.spans i 1 → q ≡ program_read e n r →
     q ≡ program_read e (span_of t.records i) (t.records i)
