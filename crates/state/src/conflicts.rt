@@ -4,8 +4,9 @@ ghost use Rattle.records.specs.Records.{effect_at};
 ghost use Rattle.golog.specs.World.{conflicting};
 ghost use Rattle.state.specs.Truths.{said_by};
 ghost use Rattle.state.specs.Ranges.{Names};
-ghost use Rattle.state.specs.Conflicts.{differs, in_conflict, Conflicted, ReadableListed};
+ghost use Rattle.state.specs.Conflicts.{in_conflict, Conflicted, ReadableListed};
 
+use crate::effects;
 use records::Action;
 
 // How many actions a sheet may have.
@@ -14,32 +15,18 @@ pub const ACTIONS: usize = 64;
 // How many fluents.
 pub const FLUENTS: usize = 32;
 
-// Whether something was noted and it is another: `noted` is 0 where nothing was, and else, as `given`, from 1 on.
-// Kept: its clause speaks of numbers (specs/Conflicts.antt, `differs`), and the pass of the crate possible calls it.
-pub fn differs(noted: u16, given: u16) -> bool
-    ensures { result ≡ differs noted given }
-{
-    (noted != 0) & (noted != given)
-}
-
 // Whether effects of a range that hold give one fluent different values: one pass, which notes what value each fluent was given.
 pub fn conflict(effects: &[u8], first: usize, count: usize, truths: &[bool]) -> bool
     requires { (4 * (first + count) ≤ length effects.now) × Names effects.now 32 first count }
     ensures { result ≡ conflicting (said_by truths.now) (effect_at effects.now) first count }
 {
-    let mut noted: [Option<u8>; FLUENTS] = [None; FLUENTS];
-    for i in first..first + count {
-        let e = records::effect_at(effects, i);
-        if records::value_in(truths, e.condition, false) {
-            let x = e.fluent;
-            let given = e.value as u8;
-            if noted[x].is_some_and(|v| v != given) {
-                return true;
-            }
-            noted[x] = Some(given);
-        }
-    }
-    false
+    effects::conflict(
+        effects,
+        first,
+        count,
+        |q| records::value_in(truths, q, false),
+        |value| value as u8,
+    )
 }
 
 // Whether effects of an action contradict each other although its precondition holds.

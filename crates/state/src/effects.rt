@@ -6,8 +6,8 @@ ghost use Rattle.golog.specs.World.{conflicting, changed};
 ghost use Rattle.state.specs.Ranges.{Names};
 ghost use Rattle.state.specs.Reads.{Reads, MayAsk};
 
-use crate::conflicts::{FLUENTS, differs};
-use records::Action;
+use crate::conflicts::FLUENTS;
+use records::{Action, Effect};
 
 // Whether effects of a range that hold give one fluent different values: one pass, which notes what value each fluent was given.
 pub fn conflict<H: Fn(usize) -> bool, V: Fn(usize) -> u8>(
@@ -21,16 +21,19 @@ pub fn conflict<H: Fn(usize) -> bool, V: Fn(usize) -> u8>(
     requires asked { MayAsk (H.pre holds) (V.pre meant) effects.now first count }
     ensures { (says : ℕ → Bool) (table : List ℕ) → Reads (H.post holds) (V.post meant) says effects.now table first count → result ≡ conflicting says (effect_at table) first count }
 {
-    let mut noted = [0u16; FLUENTS];
+    let mut noted: [Option<u8>; FLUENTS] = [None; FLUENTS];
     for i in first..first + count {
-        let e = records::effect_at(effects, i);
-        if holds(e.condition) {
-            let x = e.fluent;
-            let given = u16::from(meant(e.value)) + 1;
-            if differs(noted[x], given) {
+        let Effect {
+            condition,
+            fluent: x,
+            value,
+        } = records::effect_at(effects, i);
+        if holds(condition) {
+            let given = meant(value);
+            if noted[x].is_some_and(|v| v != given) {
                 return true;
             }
-            noted[x] = given;
+            noted[x] = Some(given);
         }
     }
     false

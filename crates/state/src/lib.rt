@@ -99,8 +99,7 @@ pub fn possible_check(
     }
 }
 
-// The values after an action's effects, which name fluents below n: one pass from the first effect to the last. It notes which fluents were
-// given a value, since the first effect that holds gives it, and is left once all were.
+// The values after an action's effects, which name fluents below n, where `truths` has what the formulas say.
 pub fn new_values(
     effects: &[u8],
     r: Action,
@@ -111,22 +110,14 @@ pub fn new_values(
     requires { (4 * (r.first + r.count) ≤ length effects.now) × (n ≤ 32) × Names effects.now n r.first r.count }
     ensures { result ≡ changed (said_by truths.now) (effect_at effects.now) r values }
 {
-    let mut new = values;
-    let mut given = [false; conflicts::FLUENTS];
-    let mut left = n;
-    for i in r.first..r.first + r.count {
-        let e = records::effect_at(effects, i);
-        let x = e.fluent;
-        if records::value_in(truths, e.condition, false) & !given[x] {
-            new[x] = e.value as u8;
-            given[x] = true;
-            left -= 1;
-            if left == 0 {
-                return new;
-            }
-        }
-    }
-    new
+    effects::new_values(
+        effects,
+        r,
+        n,
+        values,
+        |q| records::value_in(truths, q, false),
+        |value| value as u8,
+    )
 }
 
 // The state after action a, where n is the number of fluents and `truths` has what the formulas say of s.
