@@ -1,13 +1,11 @@
 -- What a key that was written holds: nodes without higher bits, pair after pair. Assumes nothing.
 use Prim.Native.Nat.{ℕ, ◌+◌, ◌-◌, ◌*◌, ◌/◌, ◌<◌}
-use mathlib.Core.Path.{◌≡◌, subst, ◌∙◌}
+use mathlib.Core.Path.{◌≡◌, subst}
 use mathlib.Core.Bool.{Bool, true, false}
 use mathlib.Core.List.{List}
 use native.Mathlib.Omega.{arith}
 use native.Mathlib.Decide.{dec_lt}
-use lib.ListN.{get_or, take, set}
-use lib.Seq.{get_or-take, get_or-set_same, get_or-set_other}
-use Rattle.keys.specs.Packed.{eight_at, limit_of, words_of, word_at, Coded, CodedPair, Whole, WrittenValues, Held}
+use Rattle.keys.specs.Packed.{limit_of, words_of, Coded, CodedPair, Whole}
 
 -- nodes without higher bits, word after word
 pub coded_all : (wide : Bool) (w : List ℕ) (i n : ℕ) → ((k : ℕ) → k < words_of wide n → Whole wide w i n k)
