@@ -5,23 +5,20 @@ ghost use Rattle.std.specs.Prelude.{◌≡◌, ◌+◌, ◌*◌, ◌≤◌, ◌<
 ghost use Rattle.records.specs.Bytes.{limit16, le16, le32};
 ghost use Rattle.records.specs.Records.{fluent_at, formula_at, effect_at, action_at, program_at, TwoBytes};
 
-// Numbers of two bytes are below it.
-const LIMIT_16: usize = 65536;
-
 // Document 02, F-6: the placeholders, and the most values that are chosen from.
 pub const PLACEHOLDERS: usize = 2;
 
 pub const CHOICES: usize = 16;
 
 // Document 01: "Fluent, 2 bytes".
-#[derive(Clone, Copy)]
+#[derive(Clone, Copy, Debug, PartialEq, Eq)]
 pub struct Fluent {
     pub size: usize,
     pub initial: usize,
 }
 
 // Document 01: "Formula, 6 bytes".
-#[derive(Clone, Copy)]
+#[derive(Clone, Copy, Debug, PartialEq, Eq)]
 pub struct Formula {
     pub kind: usize,
     pub x: usize,
@@ -30,7 +27,7 @@ pub struct Formula {
 }
 
 // Document 01: "Effect, 4 bytes".
-#[derive(Clone, Copy)]
+#[derive(Clone, Copy, Debug, PartialEq, Eq)]
 pub struct Effect {
     pub condition: usize,
     pub fluent: usize,
@@ -38,7 +35,7 @@ pub struct Effect {
 }
 
 // Document 01: "Action, 6 bytes".
-#[derive(Clone, Copy)]
+#[derive(Clone, Copy, Debug, PartialEq, Eq)]
 pub struct Action {
     pub precondition: usize,
     pub first: usize,
@@ -46,7 +43,7 @@ pub struct Action {
 }
 
 // Document 01: "Program, 8 bytes".
-#[derive(Clone, Copy)]
+#[derive(Clone, Copy, Debug, PartialEq, Eq)]
 pub struct Program {
     pub kind: usize,
     pub a: usize,
@@ -54,56 +51,47 @@ pub struct Program {
     pub c: usize,
 }
 
-pub fn wide(x: u8) -> usize
-    ensures { (result ≡ x) × (result < 256) }
-{
-    x as usize
-}
-
-pub fn wide32(x: u32) -> usize
-    ensures { (result ≡ x) × (result < 4294967296) }
-{
-    x as usize
-}
-
 pub fn read16(s: &[u8], at: usize) -> usize
     requires { at + 1 < length s.now }
     ensures { (result ≡ le16 s.now at) × (result < limit16) }
 {
-    wide(s[at]) + 256 * wide(s[at + 1])
+    usize::from(u16::from_le_bytes([s[at], s[at + 1]]))
 }
 
 pub fn read32(s: &[u8], at: usize) -> usize
     requires { at + 3 < length s.now }
     ensures { (result ≡ le32 s.now at) × (result < 4294967296) }
 {
-    read16(s, at) + LIMIT_16 * read16(s, at + 2)
+    u32::from_le_bytes([s[at], s[at + 1], s[at + 2], s[at + 3]]) as usize
 }
 
+#[tactic(auto, unfolding(crate::specs::Records::fluent_at))]
 pub fn fluent_at(t: &[u8], i: usize) -> Fluent
     requires { 2 * i + 2 ≤ length t.now }
     ensures record { result ≡ fluent_at t.now i }
     ensures fields { (result.size < 256) × (result.initial < 256) }
 {
     let at = 2 * i;
-    let size = wide(t[at]);
-    let initial = wide(t[at + 1]);
+    let size = usize::from(t[at]);
+    let initial = usize::from(t[at + 1]);
     Fluent { size, initial }
 }
 
+#[tactic(auto, unfolding(crate::specs::Records::formula_at))]
 pub fn formula_at(t: &[u8], i: usize) -> Formula
     requires { 6 * i + 6 ≤ length t.now }
     ensures record { result ≡ formula_at t.now i }
     ensures fields { result.x < 256 }
 {
     let at = 6 * i;
-    let kind = wide(t[at]);
-    let x = wide(t[at + 1]);
+    let kind = usize::from(t[at]);
+    let x = usize::from(t[at + 1]);
     let a = read16(t, at + 2);
     let b = read16(t, at + 4);
     Formula { kind, x, a, b }
 }
 
+#[tactic(auto, unfolding(crate::specs::Records::effect_at))]
 pub fn effect_at(t: &[u8], i: usize) -> Effect
     requires { 4 * i + 4 ≤ length t.now }
     ensures record { result ≡ effect_at t.now i }
@@ -111,8 +99,8 @@ pub fn effect_at(t: &[u8], i: usize) -> Effect
 {
     let at = 4 * i;
     let condition = read16(t, at);
-    let fluent = wide(t[at + 2]);
-    let value = wide(t[at + 3]);
+    let fluent = usize::from(t[at + 2]);
+    let value = usize::from(t[at + 3]);
     Effect {
         condition,
         fluent,
@@ -120,6 +108,7 @@ pub fn effect_at(t: &[u8], i: usize) -> Effect
     }
 }
 
+#[tactic(auto, unfolding(crate::specs::Records::action_at))]
 pub fn action_at(t: &[u8], i: usize) -> Action
     requires { 6 * i + 6 ≤ length t.now }
     ensures record { result ≡ action_at t.now i }
@@ -136,6 +125,7 @@ pub fn action_at(t: &[u8], i: usize) -> Action
     }
 }
 
+#[tactic(auto, unfolding(crate::specs::Records::program_at))]
 pub fn program_at(t: &[u8], i: usize) -> Program
     requires { 8 * i + 8 ≤ length t.now }
     ensures record { result ≡ program_at t.now i }
@@ -156,21 +146,8 @@ pub fn value_in<V: Copy>(table: &[V], i: usize, default: V) -> V
     table.get(i).copied().unwrap_or(default)
 }
 
-// The same, one reader for each type of its entries.
-pub fn flag_in(table: &[bool], i: usize, default: bool) -> bool
-    ensures { result ≡ get_or table.now i default }
-{
-    if i < table.len() { table[i] } else { default }
-}
-
-pub fn number_in(table: &[u32], i: usize, default: u32) -> u32
-    ensures { result ≡ get_or table.now i default }
-{
-    if i < table.len() { table[i] } else { default }
-}
-
 pub fn byte_in(bytes: &[u8], i: usize) -> usize
     ensures { (result ≡ get_or bytes.now i 0) × (result < 256) }
 {
-    if i < bytes.len() { wide(bytes[i]) } else { 0 }
+    usize::from(value_in(bytes, i, 0))
 }
