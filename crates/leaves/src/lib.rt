@@ -14,6 +14,7 @@ ghost use Rattle.leaves.specs.Endable.{final_bounds_of, doubt_by, skips_of, Tall
 ghost use Rattle.leaves.specs.Distances.{distances_of};
 ghost use Rattle.leaves.specs.Performed.{Performed};
 
+use kinds::programs::Kind;
 use records::Program;
 
 // How many program records can run: those of a sheet, and four more.
@@ -30,7 +31,7 @@ pub const FARTHEST: usize = 65;
 
 // The record that does nothing.
 const EMPTY: Program = Program {
-    kind: 0,
+    kind: Kind::Nil as usize,
     a: 0,
     b: 0,
     c: 0,
@@ -44,25 +45,25 @@ fn virtual_at(n: usize, k: usize) -> Program
 {
     match k {
         0 => Program {
-            kind: 1,
+            kind: Kind::Act as usize,
             a: golog::START,
             b: 0,
             c: 0,
         },
         1 => Program {
-            kind: 1,
+            kind: Kind::Act as usize,
             a: golog::STOP,
             b: 0,
             c: 0,
         },
         2 => Program {
-            kind: 9,
+            kind: Kind::Over as usize,
             a: n - 1,
             b: n + 1,
             c: 0,
         },
         3 => Program {
-            kind: 3,
+            kind: Kind::Sequence as usize,
             a: n,
             b: n + 2,
             c: 0,
