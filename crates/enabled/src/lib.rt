@@ -15,6 +15,7 @@ ghost use Rattle.enabled.specs.Spans.{seeing_of, span_by, spans_of};
 ghost use Rattle.enabled.specs.Filled.{most_formulas, final_set, enabled_set, table_sets, valuation_by, Readable};
 ghost use Rattle.enabled.specs.Filled.{BothFinal, EitherEnabled, FinalBy, EnabledBy, Fillable, Filled, FinalsFilled};
 
+use kinds::programs::{Kind, kind_of};
 use records::Program;
 
 // The sets of a table: first the formulas', then these.
@@ -37,12 +38,14 @@ fn either_in(marks: &[bool], a: usize, b: usize) -> bool
 fn sees_by(r: Program, c: usize, lower: &[bool]) -> bool
     ensures { result ≡ sees_of r c lower.now }
 {
-    match r.kind {
-        1 | 2 | 6 | 7 | 11 => true,
-        3 | 4 | 8 | 9 => either_in(lower, r.a, r.b),
-        5 | 10 => records::value_in(lower, r.a, false),
-        12 => records::value_in(lower, r.b, false) & (r.c != c),
-        _ => false,
+    match kind_of(r.kind) {
+        Some(Kind::Act | Kind::Test | Kind::If | Kind::While | Kind::Interrupt) => true,
+        Some(Kind::Sequence | Kind::Choice | Kind::Together | Kind::Over) => either_in(
+            lower, r.a, r.b,
+        ),
+        Some(Kind::Star | Kind::Iteration) => records::value_in(lower, r.a, false),
+        Some(Kind::Pick) => records::value_in(lower, r.b, false) & (r.c != c),
+        None | Some(Kind::Nil) => false,
     }
 }
 
@@ -67,7 +70,7 @@ fn span_by(r: Program, first: &[bool], second: &[bool]) -> u32
     ensures { result ≡ span_by r first.now second.now }
 {
     let seeing = if r.c == 0 { first } else { second };
-    if (r.kind == 12) & records::value_in(seeing, r.b, false) {
+    if (kind_of(r.kind) == Some(Kind::Pick)) & records::value_in(seeing, r.b, false) {
         return r.a as u32;
     }
     1
@@ -174,18 +177,26 @@ fn final_set(r: Program, n: usize, running: bool, table: &[u32]) -> [u32; sets::
     requires { Readable table.now n r }
     ensures { FinalBy table.now running n r result }
 {
-    match r.kind {
-        1 | 2 => sets::whole(false),
-        3 | 8 | 9 => both_final(table, r.a, r.b),
-        4 => sets::either(final_at(table, r.a), final_at(table, r.b)),
-        6 => branch(
+    match kind_of(r.kind) {
+        Some(Kind::Act | Kind::Test) => sets::whole(false),
+        Some(Kind::Sequence | Kind::Together | Kind::Over) => both_final(table, r.a, r.b),
+        Some(Kind::Choice) => sets::either(final_at(table, r.a), final_at(table, r.b)),
+        Some(Kind::If) => branch(
             holding_at(table, r.c),
             final_at(table, r.a),
             final_at(table, r.b),
         ),
-        7 => sets::either(sets::others(holding_at(table, r.c)), final_at(table, r.a)),
-        11 => while_running(running, holding_at(table, r.c), final_at(table, r.a), true),
-        12 => sets::some(final_at(table, r.b), r.c, n),
+        Some(Kind::While) => sets::either(
+            sets::others(holding_at(table, r.c)),
+            final_at(table, r.a),
+        ),
+        Some(Kind::Interrupt) => while_running(
+            running,
+            holding_at(table, r.c),
+            final_at(table, r.a),
+            true,
+        ),
+        Some(Kind::Pick) => sets::some(final_at(table, r.b), r.c, n),
         _ => sets::whole(true),
     }
 }
@@ -196,25 +207,25 @@ fn enabled_set(r: Program, n: usize, running: bool, table: &[u32]) -> [u32; sets
     requires { Readable table.now n r }
     ensures { EnabledBy table.now running n r result }
 {
-    match r.kind {
-        1 => possible_at(table, r.a),
-        2 => holding_at(table, r.a),
-        3 => either_enabled(table, r.a, r.b, true),
-        4 | 8 | 9 => either_enabled(table, r.a, r.b, false),
-        5 | 10 => enabled_at(table, r.a),
-        6 => branch(
+    match kind_of(r.kind) {
+        Some(Kind::Act) => possible_at(table, r.a),
+        Some(Kind::Test) => holding_at(table, r.a),
+        Some(Kind::Sequence) => either_enabled(table, r.a, r.b, true),
+        Some(Kind::Choice | Kind::Together | Kind::Over) => either_enabled(table, r.a, r.b, false),
+        Some(Kind::Star | Kind::Iteration) => enabled_at(table, r.a),
+        Some(Kind::If) => branch(
             holding_at(table, r.c),
             enabled_at(table, r.a),
             enabled_at(table, r.b),
         ),
-        7 => sets::both(holding_at(table, r.c), enabled_at(table, r.a)),
-        11 => while_running(
+        Some(Kind::While) => sets::both(holding_at(table, r.c), enabled_at(table, r.a)),
+        Some(Kind::Interrupt) => while_running(
             running,
             holding_at(table, r.c),
             enabled_at(table, r.a),
             false,
         ),
-        12 => sets::some(enabled_at(table, r.b), r.c, n),
+        Some(Kind::Pick) => sets::some(enabled_at(table, r.b), r.c, n),
         _ => sets::whole(false),
     }
 }
