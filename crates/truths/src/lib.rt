@@ -8,7 +8,7 @@ ghost use Rattle.truths.specs.Held.{RuledFormulas};
 ghost use Rattle.truths.specs.Evaluated.{Atomic, AtomSet, Composable, ComposedSet, Evaluable, EvaluatedSet, WalkedSet, Filled};
 
 use golog::State;
-use kinds::formulas::{kind_of, Kind};
+use kinds::formulas::{Kind, kind_of};
 use records::Formula;
 
 // The first kind of formula that goes through values.
@@ -26,7 +26,7 @@ fn with_value(c: usize, v: usize) -> [u32; sets::WORDS]
 }
 
 // The environments in which a formula holds that has no parts.
-#[tactic(auto, unfolding(crate::specs::Evaluated::said_in, kinds::specs::Formulas::field_a))]
+#[tactic(auto, using(sets::proofs::Members::has_by), unfolding(crate::specs::Evaluated::said_in, kinds::specs::Formulas::field_a))]
 fn atom_set(r: Formula, values: &[u8]) -> [u32; sets::WORDS]
     requires { Atomic r }
     ensures { AtomSet r values.now result }
@@ -43,7 +43,7 @@ fn atom_set(r: Formula, values: &[u8]) -> [u32; sets::WORDS]
 }
 
 // The environments in which a formula holds that goes through no values, where the table has the sets of its parts.
-#[tactic(auto, unfolding(kinds::specs::Formulas::field_a, kinds::specs::Formulas::field_b))]
+#[tactic(auto, using(sets::proofs::Members::has_by), unfolding(crate::specs::Evaluated::said_in, kinds::specs::Formulas::field_a, kinds::specs::Formulas::field_b))]
 fn composed_set(r: Formula, values: &[u8], table: &[u32]) -> [u32; sets::WORDS]
     requires { Composable r table.now }
     ensures { ComposedSet r values.now table.now result }

@@ -1,42 +1,47 @@
 -- Evaluation by the parts of a formula, and a walk by its last value and those below: lower formulas, then values left. Assumes nothing.
 use native.Mathlib.Omega.{arith}
-use Rattle.kinds.specs.declared.formulas.Kind.TheVariants.{Not, And, Or, ForSome, ForEvery}
-use Rattle.kinds.proofs.FormulaKinds.{number_is}
+use Rattle.std.proofs.lemmas.Grind.{common_steps}
+use Rattle.sets.proofs.Members.{has_by}
 use Rattle.truths.specs.Evaluated.{said_in}
 use Rattle.truths.proofs.Said.{says}
-use Rattle.truths.proofs.Composing.{of_kind, not_set, and_set, or_set}
 use Rattle.truths.proofs.Walking.{walk_none, walk_every, walk_some}
 use Rattle.truths.proofs.Evaluating.{evaluated}
 use Rattle.truths.proofs.+evaluate_walk.Goals as goal
 
 pub evaluate-returns-in-Some-Not : goal.evaluate-returns-in-Some-Not
+unfolding said_in
 evaluate-returns-in-Some-Not t c W s from v H =
-    evaluated c.requires c.formula_at-r.ensures.record W s from v (not_set (says W s) c.formula_at-r.result c.args.values.now
-    (c.evaluate.ensures W s from v H) (number_is c.formula_at-r.result.kind {k = Not} (cc)) c.others.ensures)
+    let a = c.evaluate.ensures W s from v H in
+    evaluated c.requires c.formula_at-r.ensures.record W s from v
+    (has_by c.others.ensures (λ e l. let x = a.each e l in grind (arith, common_steps)))
 
 pub evaluate-returns-in-Some-And : goal.evaluate-returns-in-Some-And
+unfolding said_in
 evaluate-returns-in-Some-And t c W s from v H =
-    evaluated c.requires c.formula_at-r.ensures.record W s from v (and_set (says W s) c.formula_at-r.result c.args.values.now
-    (c.evaluate-in-Some-And.ensures W s from v H) (c.evaluate-in-Some-And-2.ensures W s from v H)
-    (number_is c.formula_at-r.result.kind {k = And} (cc)) c.both.ensures)
+    let a = c.evaluate-in-Some-And.ensures W s from v H in
+    let b = c.evaluate-in-Some-And-2.ensures W s from v H in
+    evaluated c.requires c.formula_at-r.ensures.record W s from v
+    (has_by c.both.ensures (λ e l. let x = a.each e l in let y = b.each e l in grind (arith, common_steps)))
 
 pub evaluate-returns-in-Some-Or : goal.evaluate-returns-in-Some-Or
+unfolding said_in
 evaluate-returns-in-Some-Or t c W s from v H =
-    evaluated c.requires c.formula_at-r.ensures.record W s from v (or_set (says W s) c.formula_at-r.result c.args.values.now
-    (c.evaluate-in-Some-Or.ensures W s from v H) (c.evaluate-in-Some-Or-2.ensures W s from v H)
-    (number_is c.formula_at-r.result.kind {k = Or} (cc)) c.either.ensures)
+    let a = c.evaluate-in-Some-Or.ensures W s from v H in
+    let b = c.evaluate-in-Some-Or-2.ensures W s from v H in
+    evaluated c.requires c.formula_at-r.ensures.record W s from v
+    (has_by c.either.ensures (λ e l. let x = a.each e l in let y = b.each e l in grind (arith, common_steps)))
 
 pub evaluate-returns-in-Some-ForSome : goal.evaluate-returns-in-Some-ForSome
 unfolding said_in
 evaluate-returns-in-Some-ForSome t c W s from v H =
-    evaluated c.requires c.formula_at-r.ensures.record W s from v (of_kind (says W s) c.formula_at-r.result c.args.values.now 9
-    (number_is c.formula_at-r.result.kind {k = ForSome} (cc)) (c.walk.ensures W s from v H))
+    evaluated c.requires c.formula_at-r.ensures.record W s from v
+    (has_by (c.walk.ensures W s from v H) (λ e l. grind (arith, common_steps)))
 
 pub evaluate-returns-in-Some-ForEvery : goal.evaluate-returns-in-Some-ForEvery
 unfolding said_in
 evaluate-returns-in-Some-ForEvery t c W s from v H =
-    evaluated c.requires c.formula_at-r.ensures.record W s from v (of_kind (says W s) c.formula_at-r.result c.args.values.now 10
-    (number_is c.formula_at-r.result.kind {k = ForEvery} (cc)) (c.walk-in-Some-ForEvery.ensures W s from v H))
+    evaluated c.requires c.formula_at-r.ensures.record W s from v
+    (has_by (c.walk-in-Some-ForEvery.ensures W s from v H) (λ e l. grind (arith, common_steps)))
 
 pub evaluate-returns-in_default : goal.evaluate-returns-in_default
 evaluate-returns-in_default t c W s from v H = evaluated c.requires c.formula_at-r.ensures.record W s from v
