@@ -14,7 +14,6 @@ use Rattle.golog.specs.World.{World}
 use Rattle.truths.specs.Held.{Ruled, WrittenFrom, HoldsIn}
 use Rattle.truths.specs.Evaluated.{said_in, Evaluable}
 use Rattle.truths.proofs.Said.{says, said_held}
-use Rattle.truths.proofs.Composing.{part_a, part_b}
 
 module _ {formulas table : List ℕ} {filled i : ℕ} (E : Evaluable formulas table filled i) where
   -- a lower formula
@@ -25,11 +24,11 @@ module _ {formulas table : List ℕ} {filled i : ℕ} (E : Evaluable formulas ta
     pub rule : Ruled i r
     rule = subst (Ruled i) (sym of) (E.ruled i (omega arith))
 
-    pub a_lower : (k : ℕ) → r.kind ≡ k → T (has_a k) → r.a < i
-    a_lower k e t = rule.lower.0 (part_a k e t)
+    pub a_lower : T (has_a r.kind) → r.a < i
+    a_lower t = rule.lower.0 t
 
-    pub b_lower : (k : ℕ) → r.kind ≡ k → T (has_b k) → r.b < i
-    b_lower k e t = rule.lower.1 (part_b k e t)
+    pub b_lower : T (has_b r.kind) → r.b < i
+    b_lower t = rule.lower.1 t
 
     pub evaluated : (W : World) (s : State) {values set : List ℕ} → WrittenFrom formulas W → s.values ≡ values → Has (said_in (says W s) r values) set → HoldsIn W s i set
     evaluated W s {values} {set} from v h =

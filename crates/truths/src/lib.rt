@@ -8,10 +8,11 @@ ghost use Rattle.truths.specs.Held.{RuledFormulas};
 ghost use Rattle.truths.specs.Evaluated.{Atomic, AtomSet, Composable, ComposedSet, Evaluable, EvaluatedSet, WalkedSet, Filled};
 
 use golog::State;
+use kinds::formulas::{Kind, kind_of};
 use records::Formula;
 
 // The first kind of formula that goes through values.
-const FIRST_QUANTIFIER: usize = 9;
+const FIRST_QUANTIFIER: usize = Kind::ForSome as usize;
 
 // The environments with v in placeholder c; a placeholder never has 16 or more.
 fn with_value(c: usize, v: usize) -> [u32; sets::WORDS]
@@ -25,33 +26,32 @@ fn with_value(c: usize, v: usize) -> [u32; sets::WORDS]
 }
 
 // The environments in which a formula holds that has no parts.
+#[tactic(auto, using(sets::proofs::Members::has_by), unfolding(crate::specs::Evaluated::said_in, kinds::specs::Formulas::field_a))]
 fn atom_set(r: Formula, values: &[u8]) -> [u32; sets::WORDS]
     requires { Atomic r }
     ensures { AtomSet r values.now result }
 {
-    let kind = r.kind;
     let value = records::byte_in(values, r.x);
-    match kind {
-        0 => sets::whole(true),
-        2 => sets::whole(value == r.a),
-        3 => sets::whole(value < r.a),
-        4 => sets::whole(value == records::byte_in(values, r.a)),
-        8 => with_value(r.a, value),
+    match kind_of(r.kind) {
+        Some(Kind::True) => sets::whole(true),
+        Some(Kind::HasValue) => sets::whole(value == r.a),
+        Some(Kind::LessThan) => sets::whole(value < r.a),
+        Some(Kind::EqualValues) => sets::whole(value == records::byte_in(values, r.a)),
+        Some(Kind::EqualsPlaceholder) => with_value(r.a, value),
         _ => sets::whole(false),
     }
 }
 
 // The environments in which a formula holds that goes through no values, where the table has the sets of its parts.
-#[tactic(auto, unfolding(kinds::specs::Formulas::field_a, kinds::specs::Formulas::field_b))]
+#[tactic(auto, using(sets::proofs::Members::has_by), unfolding(crate::specs::Evaluated::said_in, kinds::specs::Formulas::field_a, kinds::specs::Formulas::field_b))]
 fn composed_set(r: Formula, values: &[u8], table: &[u32]) -> [u32; sets::WORDS]
     requires { Composable r table.now }
     ensures { ComposedSet r values.now table.now result }
 {
-    let kind = r.kind;
-    match kind {
-        5 => sets::others(sets::set_at(table, r.a)),
-        6 => sets::both(sets::set_at(table, r.a), sets::set_at(table, r.b)),
-        7 => sets::either(sets::set_at(table, r.a), sets::set_at(table, r.b)),
+    match kind_of(r.kind) {
+        Some(Kind::Not) => sets::others(sets::set_at(table, r.a)),
+        Some(Kind::And) => sets::both(sets::set_at(table, r.a), sets::set_at(table, r.b)),
+        Some(Kind::Or) => sets::either(sets::set_at(table, r.a), sets::set_at(table, r.b)),
         _ => atom_set(r, values),
     }
 }
@@ -74,19 +74,18 @@ fn evaluate(
         return sets::set_at(table, i);
     }
     let r = records::formula_at(formulas, i);
-    let kind = r.kind;
-    match kind {
-        5 => sets::others(evaluate(formulas, values, table, filled, r.a)),
-        6 => sets::both(
+    match kind_of(r.kind) {
+        Some(Kind::Not) => sets::others(evaluate(formulas, values, table, filled, r.a)),
+        Some(Kind::And) => sets::both(
             evaluate(formulas, values, table, filled, r.a),
             evaluate(formulas, values, table, filled, r.b),
         ),
-        7 => sets::either(
+        Some(Kind::Or) => sets::either(
             evaluate(formulas, values, table, filled, r.a),
             evaluate(formulas, values, table, filled, r.b),
         ),
-        9 => walk(formulas, values, table, filled, r.a, r.b, r.x, false),
-        10 => walk(formulas, values, table, filled, r.a, r.b, r.x, true),
+        Some(Kind::ForSome) => walk(formulas, values, table, filled, r.a, r.b, r.x, false),
+        Some(Kind::ForEvery) => walk(formulas, values, table, filled, r.a, r.b, r.x, true),
         _ => atom_set(r, values),
     }
 }
