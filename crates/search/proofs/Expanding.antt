@@ -1,6 +1,6 @@
 -- The loop over the transitions ahead of a visit's cursor: what is known by now, beside the verdict on those still ahead, is the verdict on
 -- all. The tables for the visit's depth stand while what a transition led to was searched, or are filled again. Assumes nothing.
-use Rattle.std.specs.Prelude.{Ok, ◌&&◌}
+use Rattle.std.specs.Prelude.{Ok, Some, None, ◌&&◌}
 use Prim.Native.Nat.{ℕ, ◌+◌, ◌-◌}
 use native.Mathlib.Omega.{arith}
 use mathlib.Core.Bool.{Bool, true, false, true≢false}
@@ -31,7 +31,7 @@ use Rattle.search.specs.declared.Visit.{Visit}
 use Rattle.search.specs.declared.Outcome.{Outcome}
 use Rattle.search.proofs.Rows.{tried_found, tried_more, tried_none, flag_reported, told_more}
 use Rattle.search.proofs.Noting.{unfound_flag}
-use Rattle.search.proofs.Trying.{First, ahead_same, first, back, child, forth}
+use Rattle.search.proofs.Trying.{First, ahead_same, first, some_made, back, child, forth}
 
 -- a visit was looked at, and its transitions are tried from the first cursor
 module _
@@ -58,7 +58,7 @@ module _
     pub searched_as : {p : Prog} → Ready s w moves (length trace) t q p → SearchedAs s w' moves t q cut o
     searched_as {p} R = record {
       program = p;
-      visited = record { of = R.visited.of; frame = frame_kept R.visited.frame w' P.kept; used_up = R.visited.used_up };
+      visited = record { accepted = R.visited.accepted; frame = frame_kept R.visited.frame w' P.kept; used_up = R.visited.used_up };
       few_left = omega (arith, R.deep);
       tells = λ e. unfound_flag _ _ _ _ _ _ (went p R).says e;
     }
@@ -115,7 +115,7 @@ module _
         program = g.program;
         ready =
             record {
-              visited = record { of = r.visited.of; frame = standing; used_up = r.visited.used_up };
+              visited = record { accepted = r.visited.accepted; frame = standing; used_up = r.visited.used_up };
               traced = omega (arith, r.traced, e);
               few = r.few;
               deep = r.deep;
@@ -146,9 +146,14 @@ module _
   pub turned :
       {w₁ : List ℕ} {flags₁ : List Bool} {numbers₁ : List ℕ} {x : Taken} {spent : Bool} → Surveyed s q.state q.depth flags₁ numbers₁
       → Filled q.depth q.depth flags' flags₁ numbers' numbers₁
-      → GoesOn s q.state q.depth k w' w₁ x
+      → GoesOn s q.state q.depth k w' w₁ (Some x)
       → ((s : List ℕ) (c : Configuration) (xs : List Transition) → Ahead s c k xs → spent ≡ is_none xs) → spent ≡ false → Turn w₁ flags₁ numbers₁ x
   turned S Z M z some = record { surveyed = S; filled = Z; kept = M.kept; first = first (onward S) M (sym (z _ _ _ L.listed) ∙ some) }
+
+  pub not_out :
+      {w₁ : List ℕ} {flags₁ : List Bool} {numbers₁ : List ℕ} {spent : Bool} → Surveyed s q.state q.depth flags₁ numbers₁ → GoesOn s q.state q.depth k w' w₁ None
+      → ((s : List ℕ) (c : Configuration) (xs : List Transition) → Ahead s c k xs → spent ≡ is_none xs) → ¬ (spent ≡ false)
+  not_out S M z some = some_made (onward S) M (sym (z _ _ _ L.listed) ∙ some)
 
   -- it was dealt with: a plan is that of all; else the loop goes on from the cursor after it
   pub record Dealt (x : Taken) (w'' trace'' : List ℕ) (flags'' : List Bool) (numbers'' : List ℕ) (o : Outcome) (stale'' : Bool) : Type 0 where

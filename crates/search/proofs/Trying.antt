@@ -5,6 +5,7 @@ use native.Mathlib.Omega.{arith}
 use mathlib.Core.Bool.{Bool, true, false, true≢false}
 use mathlib.Core.List.{List, [], ◌∷◌}
 use mathlib.Core.Option.{Option}
+use Rattle.std.specs.Prelude.{Some, None}
 use mathlib.Core.Path.{◌≡◌, refl, sym, ◌∙◌, ap, subst}
 use lib.ListN.{drop}
 use Rattle.golog.specs.declared.State.{State}
@@ -65,13 +66,22 @@ module _ {s w moves : List ℕ} {trace : ℕ} {t : Task} {q : Visit} {k : Cursor
         listed = g.listed;
       }
 
-  pub first : {w₁ : List ℕ} {x : Taken} → GoesOn s q.state q.depth k w w₁ x → is_none g.ahead ≡ false → First s q g.program g.ahead w₁ x
+  pub first : {w₁ : List ℕ} {x : Taken} → GoesOn s q.state q.depth k w w₁ (Some x) → is_none g.ahead ≡ false → First s q g.program g.ahead w₁ x
   unfolding can
   first {w₁} {x} M some = go g.ahead some (M.makes can)
     where
-      go : (xs : List Transition) → is_none xs ≡ false → MakesNext s (configured q g.program) (q.left - 1) w₁ (q.depth + 1) x xs → First s q g.program xs w₁ x
+      go : (xs : List Transition) → is_none xs ≡ false → MakesNext s (configured q g.program) (q.left - 1) w₁ (q.depth + 1) (Some x) xs → First s q g.program xs w₁ x
       go [] e m = absurd (true≢false e)
       go (y ∷ ys) e m = record { step = y; later = ys; split = refl; made = m }
+
+  -- there is one
+  pub some_made : {w₁ : List ℕ} → GoesOn s q.state q.depth k w w₁ None → ¬ (is_none g.ahead ≡ false)
+  unfolding can
+  some_made {w₁} M some = go g.ahead some (M.makes can)
+    where
+      go : (xs : List Transition) → is_none xs ≡ false → ¬ (MakesNext s (configured q g.program) (q.left - 1) w₁ (q.depth + 1) None xs)
+      go [] e m = true≢false e
+      go (y ∷ ys) e m = m
 
   module _ {w₁ : List ℕ} {x : Taken} (F : First s q g.program g.ahead w₁ x) (cut : Bool) where
     abbrev from_next : Configuration × Guide → Verdict
@@ -106,7 +116,7 @@ module _ {s w moves : List ℕ} {trace : ℕ} {t : Task} {q : Visit} {k : Cursor
           record {
             visited =
                 record {
-                  of = r.visited.of;
+                  accepted = r.visited.accepted;
                   frame = rw (Y.left_is, Y.depth_is) F.made.frame;
                   used_up = Y.used_up;
                 };

@@ -8,8 +8,7 @@ use Rattle.runs.specs.Bounded.{verdict_within, join, flagged}
 use Rattle.demands.specs.Decoded.{world_of, first_of, bound_of}
 use Rattle.demands.specs.Planning.{transitions_in, is_final_in}
 use Rattle.engine.specs.Tables.{Prepared, Surveyed, Filled}
-use Rattle.sheet.specs.Inspection.{Of}
-use Rattle.sheet.specs.declared.Inspection.{Inspection}
+use Rattle.sheet.specs.Check.{Accepts}
 use Rattle.engine.specs.Frames.{Frame, KeptFrames}
 use Rattle.engine.specs.Going.{transitions_of, Ahead, move_of}
 use Rattle.explored.specs.Known.{Known}
@@ -35,14 +34,14 @@ abbrev pub verdict_on : List ℕ → (moves : List ℕ) → Question → Verdict
 verdict_on s moves a = join (flagged a.cut) (verdict_from s a.left (first_of s, guide_as moves a.window))
 
 -- a search stands at the first configuration: its program in frame 0, and in the tables what is told once of the sheet
-pub record Standing (s w : List ℕ) (found : Inspection) (flags : List Bool) (numbers : List ℕ) : Type 0 where
-  pub of : Of s found
+pub record Standing (s w : List ℕ) (flags : List Bool) (numbers : List ℕ) : Type 0 where
+  pub accepted : Accepts s
   pub frame : Frame s (bound_of s) w 0 (first_of s).0
   pub prepared : Prepared s flags numbers
 
 -- a visit to the configuration of the remaining program p: it stands in the frame of its depth, and given moves are made up to there
 pub record Visited (s w moves : List ℕ) (t : Task) (q : Visit) (p : Prog) : Type 0 where
-  pub of : Of s t.found
+  pub accepted : Accepts s
   pub frame : Frame s q.left w q.depth p
   pub used_up : IfSome q.given (λ used. used ≤ length moves)
 

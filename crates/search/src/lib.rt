@@ -6,7 +6,7 @@ ghost use Rattle.golog.specs.Prog.{Prog};
 ghost use Rattle.demands.specs.Decoded.{bound_of};
 ghost use Rattle.demands.specs.Planning.{accepts_of};
 ghost use Rattle.engine.specs.Tables.{flag_places, number_places, Prepared, Surveyed, Filled};
-ghost use Rattle.sheet.specs.Inspection.{Of};
+ghost use Rattle.sheet.specs.Inspection.{words_required};
 ghost use Rattle.engine.specs.Frames.{Frame};
 ghost use Rattle.explored.specs.Known.{Lasting};
 ghost use Rattle.search.specs.Outcome.{Reported, is_found, is_more, told};
@@ -16,7 +16,7 @@ ghost use Rattle.search.specs.Searching.{verdict_on, Standing, Visited, Told, Re
 use engine::{Cursor, Taken};
 use explored::Subject;
 use golog::State;
-use sheet::Inspection;
+use sheet::Sheet;
 
 mod guide;
 mod pruning;
@@ -59,10 +59,9 @@ pub struct Question {
     pub cut: bool,
 }
 
-// What stays the same throughout a search: what was found of the sheet, the window, and the round in which the index is told.
+// What stays the same throughout a search: the window, and the round in which the index is told.
 #[derive(Clone, Copy)]
 struct Task {
-    found: Inspection,
     window: Window,
     round: u32,
 }
@@ -105,7 +104,7 @@ fn look(
     flags: &mut [bool],
     numbers: &mut [u32],
     work: &[u32],
-    s: &[u8],
+    s: &Sheet,
     moves: &[u16],
     t: Task,
     q: Visit,
@@ -115,13 +114,13 @@ fn look(
     ensures { LookedAt s.now work.now moves.now t q cut flags.old flags.new numbers.old numbers.new result }
 {
     if pruning::only_final(cut, q.left) {
-        let end = engine::is_final(flags, numbers, work, s, t.found, q.state, q.depth);
+        let end = engine::is_final(flags, numbers, work, s, q.state, q.depth);
         if guide::is_over(moves, t.window, q.given, end) {
             return Err(Outcome::Found { n: q.n, t: q.depth });
         }
         return Err(Outcome::More);
     }
-    let x = engine::survey(flags, numbers, work, s, t.found, q.state, q.depth);
+    let x = engine::survey(flags, numbers, work, s, q.state, q.depth);
     let first = x.first;
     if guide::is_over(moves, t.window, q.given, x.done) {
         return Err(Outcome::Found { n: q.n, t: q.depth });
@@ -154,7 +153,7 @@ fn see(
     numbers: &mut [u32],
     work: &[u32],
     index: &[u32],
-    s: &[u8],
+    s: &Sheet,
     moves: &[u16],
     t: Task,
     q: Visit,
@@ -165,9 +164,8 @@ fn see(
 {
     if explored::has_room(index) {
         let c = subject_of(q);
-        let x = explored::recall(index, work, s, t.found, c, q.left, t.round, cut);
-        if x.served {
-            return Err(unfound(x.more));
+        if let Some(more) = explored::recall(index, work, s, c, q.left, t.round, cut) {
+            return Err(unfound(more));
         }
     }
     look(flags, numbers, work, s, moves, t, q, cut)
@@ -193,7 +191,7 @@ fn follow(moves: &[u16], q: Visit, x: Taken) -> Visit
 fn remember(
     index: &mut [u32],
     work: &[u32],
-    s: &[u8],
+    s: &Sheet,
     moves: &[u16],
     t: Task,
     q: Visit,
@@ -206,7 +204,7 @@ fn remember(
     if explored::has_room(index) && !o.is_found() {
         let c = subject_of(q);
         let flag = explored::flag_of(cut, o.is_more());
-        explored::note(index, work, s, t.found, c, q.left, t.round, flag);
+        explored::note(index, work, s, c, q.left, t.round, flag);
     }
 }
 
@@ -215,18 +213,17 @@ fn refresh(
     flags: &mut [bool],
     numbers: &mut [u32],
     work: &[u32],
-    s: &[u8],
-    m: Inspection,
+    s: &Sheet,
     q: Visit,
     stale: bool,
 )
-    requires of { Of s.now m × Prepared s.now flags.old numbers.old × (stale ≡ false → Surveyed s.now q.state q.depth flags.old numbers.old) }
+    requires prepared { Prepared s.now flags.old numbers.old × (stale ≡ false → Surveyed s.now q.state q.depth flags.old numbers.old) }
     requires by_index { (left : ℕ) × (p : Prog) × Frame s.now left work.now q.depth p }
     ensures tables { Surveyed s.now q.state q.depth flags.new numbers.new }
     ensures written { Filled q.depth q.depth flags.old flags.new numbers.old numbers.new }
 {
     if stale {
-        let x = engine::survey(flags, numbers, work, s, m, q.state, q.depth);
+        let x = engine::survey(flags, numbers, work, s, q.state, q.depth);
     }
 }
 
@@ -239,7 +236,7 @@ fn expand(
     flags: &mut [bool],
     numbers: &mut [u32],
     index: &mut [u32],
-    s: &[u8],
+    s: &Sheet,
     moves: &[u16],
     t: Task,
     q: Visit,
@@ -255,8 +252,10 @@ fn expand(
     let mut k = start.cursor;
     let mut stale = false;
     while !engine::is_spent(k) {
-        refresh(flags, numbers, work, s, t.found, q, stale);
-        let x = engine::next(work, flags, numbers, s, t.found, q.state, q.depth, k);
+        refresh(flags, numbers, work, s, q, stale);
+        let Some(x) = engine::next(work, flags, numbers, s, q.state, q.depth, k) else {
+            return unfound(cut);
+        };
         k = x.cursor;
         stale = false;
         if guide::lets_pass(moves, t.window, q.given, x.entry) {
@@ -280,7 +279,7 @@ fn search_from(
     flags: &mut [bool],
     numbers: &mut [u32],
     index: &mut [u32],
-    s: &[u8],
+    s: &Sheet,
     moves: &[u16],
     t: Task,
     q: Visit,
@@ -304,13 +303,15 @@ fn search_from(
 }
 
 // Makes a search stand at the sheet's first configuration: its program in frame 0, and in the tables what is told once of the sheet.
-pub fn stand(work: &mut [u32], flags: &mut [bool], numbers: &mut [u32], s: &[u8], found: Inspection)
-    requires of { Of s.now found × (length work.old ≡ found.words) }
+pub fn stand(work: &mut [u32], flags: &mut [bool], numbers: &mut [u32], s: &Sheet)
+    requires work_len { length work.old ≡ words_required s.now }
     requires flags_len { (length flags.old ≡ flag_places) × (length numbers.old ≡ number_places) × ((i : ℕ) → get_or numbers.old i 0 ≡ 0) }
-    ensures stands { Standing s.now work.new found flags.new numbers.new }
+    ensures stands { Standing s.now work.new flags.new numbers.new }
 {
-    engine::put_first(work, s, found);
-    engine::prepare(flags, numbers, s, found);
+    // found for its clause: the sheet is accepted
+    let _found = s.found();
+    engine::put_first(work, s);
+    engine::prepare(flags, numbers, s);
 }
 
 // Searches from the first configuration, in a round of the index of its own.
@@ -320,26 +321,21 @@ pub fn explore(
     flags: &mut [bool],
     numbers: &mut [u32],
     index: &mut [u32],
-    s: &[u8],
-    found: Inspection,
+    s: &Sheet,
     moves: &[u16],
     a: Question,
 ) -> Outcome
-    requires { Standing s.now work.old found flags.old numbers.old × (a.left ≤ bound_of s.now) × (a.left ≤ length trace.old) × (length moves.now ≤ 64)
+    requires { Standing s.now work.old flags.old numbers.old × (a.left ≤ bound_of s.now) × (a.left ≤ length trace.old) × (length moves.now ≤ 64)
         × Lasting s.now index.old }
     ensures answer { Reported 0 0 trace.old trace.new result (verdict_on s.now moves.now a) }
-    ensures stands { Standing s.now work.new found flags.new numbers.new }
+    ensures stands { Standing s.now work.new flags.new numbers.new }
     ensures index { Lasting s.now index.new }
 {
-    let state = engine::initial_of(s, found);
+    let state = engine::initial_of(s);
     let round = index::next_round(index);
     let window = a.window.unwrap_or(Window { low: 0, high: 0 });
     let given = a.window.and(Some(0));
-    let t = Task {
-        found,
-        window,
-        round,
-    };
+    let t = Task { window, round };
     let q = Visit {
         depth: 0,
         left: a.left,
@@ -355,18 +351,17 @@ pub fn explore(
 const OWN_INDEX: usize = 2048;
 
 // Whether some run of at most D transitions makes exactly these moves and ends final; the work area is as long as required.
-pub fn accepts(s: &[u8], found: Inspection, history: &[u16], work: &mut [u32]) -> bool
-    requires { Of s.now found × (length work.old ≡ found.words) × (length history.now ≤ 64) }
+pub fn accepts(s: &Sheet, history: &[u16], work: &mut [u32]) -> bool
+    requires { (length work.old ≡ words_required s.now) × (length history.now ≤ 64) }
     ensures answer { result ≡ accepts_of s.now history.now }
     ensures work { work.new ≡ replicate (length work.old) 0 }
 {
     let mut flags = [false; engine::FLAGS];
     let mut numbers = [0u32; engine::NUMBERS];
-    stand(work, &mut flags, &mut numbers, s, found);
-    let l = found.layout;
+    stand(work, &mut flags, &mut numbers, s);
     let a = Question {
         window: Some(Window { low: 0, high: 1 }),
-        left: l.d,
+        left: s.found().layout.d,
         cut: true,
     };
     let mut trace = [0u16; sheet::MOST_TRANSITIONS];
@@ -379,7 +374,6 @@ pub fn accepts(s: &[u8], found: Inspection, history: &[u16], work: &mut [u32]) -
         &mut numbers,
         &mut index,
         s,
-        found,
         history,
         a,
     );

@@ -14,12 +14,12 @@ stand-requires-clause-flags_len c = (refl, refl, blank)
 
 pub explore-o-requires : goal.explore-o-requires
 explore-o-requires c =
-    let O = c.requires.0 in
+    let O = c.found.ensures.of in
     let e = ap (λ (l : Layout). l.d) O.layout_is in
     let f = laid _ O.accepted in
-    (c.stand.ensures.stands, omega (arith, e), omega (arith, e, f.d), c.requires.2, nothing_noted c.args.s.now _ c.begin.ensures)
+    (c.stand.ensures.stands, omega (arith, e), omega (arith, e, f.d), c.requires.1, nothing_noted c.args.s.now _ c.begin.ensures)
 
 pub returns-clause-answer : goal.returns-clause-answer
 returns-clause-answer c =
-    let O = c.requires.0 in c.is_found.ensures ∙ exactly_found c.args.s.now c.args.history.now _ _ c.explore-o.result _ (ap (λ (l : Layout). l.d) O.layout_is)
+    let O = c.found.ensures.of in c.is_found.ensures ∙ exactly_found c.args.s.now c.args.history.now _ _ c.explore-o.result _ (ap (λ (l : Layout). l.d) O.layout_is)
     c.explore-o.ensures.answer
