@@ -9,6 +9,7 @@ ghost use Rattle.sheet.specs.Check.{Checked, names_in, cause_number, refusal_of,
 ghost use Rattle.sheet.specs.Inspection.{unless, inspection_in, inspected_in, inspect_of, Of};
 ghost use Rattle.sheet.specs.Notes.{notes_of};
 
+use std::fmt;
 use std::marker::Model;
 
 // The bytes of the trailer, and what its last two say.
@@ -106,6 +107,13 @@ impl Refusal {
             number: cause.number(),
             place,
         }
+    }
+}
+
+impl fmt::Display for Refusal {
+    fn fmt<W: fmt::Write>(&self, f: &mut fmt::Formatter<W>) -> fmt::Result {
+        let Refusal { number, place } = *self;
+        write!(f, "{number} {place}")
     }
 }
 
