@@ -1,5 +1,5 @@
 -- Truths first, then the records that may be final, then those in doubt: the tables are those of the state. Assumes nothing.
-use Rattle.std.proofs.Common.{◌≡◌, ℕ, ◌+◌, ◌-◌, ◌≤◌, Bool, true, List, length, get_or, sym, refl, ap, ◌∙◌, subst, subst₂, arith, length-take-le}
+use Rattle.std.proofs.Common.{◌≡◌, ℕ, ◌+◌, ◌-◌, ◌≤◌, Bool, true, List, length, get_or, sym, ap, ◌∙◌, subst, subst₂, arith, length-take-le}
 use borrow.Rule.Slice.PartMut.{put_mid, same_len_mid}
 use Rattle.sheet.specs.Layout.{formulas_in, programs_in}
 use Rattle.sheet.specs.declared.Layout.{Layout}
