@@ -14,6 +14,7 @@ use Rattle.words.specs.Words.{At, Kept, Room}
 use Rattle.ends.specs.Ends.{most_levels}
 use Rattle.leaves.specs.Tallies.{extended_size, counts_of, Sees}
 use Rattle.steps.specs.declared.Setting.{Setting}
+use Rattle.steps.specs.declared.tables.Tables.{Tables}
 
 -- the code of a transition that is no move (document 01: "A test is a transition but no move"), above every entry of a history
 abbrev pub test_code : ℕ
@@ -40,6 +41,9 @@ sources_of programs v truths counts = record {
   running = v.running;
   counts = counts;
 }
+
+abbrev pub seen_in : Tables → Sources
+seen_in t = sources_of t.programs.now t.setting t.truths.now t.counts.now
 
 -- it is that of a state
 pub record Counted (W : World) (s : State) (v : Sources) : Type 0 where

@@ -3,16 +3,18 @@
 #![tactic(auto)]
 
 ghost use Rattle.std.specs.Prelude.{◌≡◌, ◌&&◌, ◌+◌, ◌^◌, ◌≤◌, ◌<◌, eqb};
-ghost use Rattle.records.specs.Records.{ProgramTable};
 ghost use Rattle.kinds.specs.Programs.{tag_a, tag_b};
 ghost use Rattle.remaining.specs.Rest.{Rest};
 ghost use Rattle.remaining.specs.Leaves.{own_move, sibling_a, wrap_a, wrap_b};
 ghost use Rattle.words.specs.Words.{At, Stands, Room};
 ghost use Rattle.ends.specs.Ends.{final_by_table};
-ghost use Rattle.steps.specs.Laid.{code_of, sources_of, CanLay, LaysRecord, InWords, past, Wrapped};
+ghost use Rattle.steps.specs.Laid.{code_of, seen_in, CanLay, LaysRecord, InWords, past, Wrapped};
 ghost use Rattle.steps.specs.Stepped.{CanStepRecord, StepsRecord, CanStep, StepsRest, CanEndLeft, EndsLeft, CanEndRight, EndsRight};
 
+pub mod tables;
+
 use records::Program;
+use tables::Tables;
 
 // The code of a transition that is no move, above every entry of a history.
 pub const TEST: u32 = 65536;
@@ -93,21 +95,11 @@ pub struct Laid {
 }
 
 // Lays out the k-th transition of record i at `to`: its own, or one of part a, or of part b, by how many part a has.
-fn lay_record(
-    programs: &[u8],
-    v: Setting,
-    truths: &[bool],
-    counts: &[u32],
-    work: &mut [u32],
-    i: usize,
-    to: usize,
-    k: usize,
-) -> Laid
-    requires program_table { ProgramTable programs.now v.n }
-    requires can_lay { CanLay (sources_of programs.now v truths.now counts.now) work.old i to k }
-    ensures { LaysRecord (sources_of programs.now v truths.now counts.now) i k to work.old work.new result.entry result.size }
+fn lay_record(t: &Tables, work: &mut [u32], i: usize, to: usize, k: usize) -> Laid
+    requires can_lay { CanLay (seen_in t.now) work.old i to k }
+    ensures { LaysRecord (seen_in t.now) i k to work.old work.new result.entry result.size }
 {
-    let r = leaves::record_at(programs, v.n, v.interrupts, i);
+    let r = leaves::record_at(t.programs, t.setting.n, t.setting.interrupts, i);
     if kinds::programs::has_own(r.kind) {
         words::put_node(work, to, words::GONE, 0, 1);
         return Laid {
@@ -115,10 +107,10 @@ fn lay_record(
             size: 1,
         };
     }
-    let first = kinds::programs::first_by(r, truths, v.running, counts);
+    let first = kinds::programs::first_by(r, t.truths, t.setting.running, t.counts);
     if k < first {
         let at = to + past_words(kinds::programs::tag_a(r.kind) == 0, 3);
-        let x = lay_record(programs, v, truths, counts, work, r.a, at, k);
+        let x = lay_record(t, work, r.a, at, k);
         let size = wrap_a(work, to, r, i, x.size);
         return Laid {
             entry: x.entry,
@@ -126,7 +118,7 @@ fn lay_record(
         };
     }
     let at = to + past_words(kinds::programs::tag_b(r.kind) == 0, 6);
-    let x = lay_record(programs, v, truths, counts, work, r.b, at, k - first);
+    let x = lay_record(t, work, r.b, at, k - first);
     let size = wrap_b(work, to, r, x.size);
     Laid {
         entry: x.entry,
@@ -143,24 +135,13 @@ pub enum Turn {
 }
 
 // The k-th transition of record i.
-fn step_record(
-    programs: &[u8],
-    v: Setting,
-    truths: &[bool],
-    finals: &[bool],
-    counts: &[u32],
-    work: &mut [u32],
-    i: usize,
-    to: usize,
-    k: usize,
-) -> Turn
-    requires program_table { ProgramTable programs.now v.n }
-    requires can_step_record { CanStepRecord (sources_of programs.now v truths.now counts.now) finals.now work.old i to }
-    ensures { StepsRecord (sources_of programs.now v truths.now counts.now) finals.now i k to work.old work.new result }
+fn step_record(t: &Tables, work: &mut [u32], i: usize, to: usize, k: usize) -> Turn
+    requires can_step_record { CanStepRecord (seen_in t.now) t.now.finals.now work.old i to }
+    ensures { StepsRecord (seen_in t.now) t.now.finals.now i k to work.old work.new result }
 {
-    let count = records::value_in(counts, i, 0) as usize;
+    let count = records::value_in(t.counts, i, 0) as usize;
     if k < count {
-        let x = lay_record(programs, v, truths, counts, work, i, to, k);
+        let x = lay_record(t, work, i, to, k);
         return Turn::Made {
             entry: x.entry,
             size: x.size,
@@ -168,7 +149,7 @@ fn step_record(
     }
     Turn::Passed {
         k: k - count,
-        done: records::value_in(finals, i, true),
+        done: records::value_in(t.finals, i, true),
     }
 }
 
@@ -228,20 +209,9 @@ fn end_right(
 
 // The k-th transition of the remaining program at `from`, laid out at `to`: one pass, which also tells how many there are and whether
 // it is final where there is none. A part is copied only once the transition is made.
-pub fn step_rest(
-    programs: &[u8],
-    v: Setting,
-    truths: &[bool],
-    finals: &[bool],
-    counts: &[u32],
-    work: &mut [u32],
-    from: usize,
-    to: usize,
-    k: usize,
-) -> Turn
-    requires program_table { ProgramTable programs.now v.n }
-    requires can_step { CanStep (sources_of programs.now v truths.now counts.now) finals.now work.old from to }
-    ensures { StepsRest (sources_of programs.now v truths.now counts.now) finals.now from k to work.old work.new result }
+pub fn step_rest(t: &Tables, work: &mut [u32], from: usize, to: usize, k: usize) -> Turn
+    requires can_step { CanStep (seen_in t.now) t.now.finals.now work.old from to }
+    ensures { StepsRest (seen_in t.now) t.now.finals.now from k to work.old work.new result }
 {
     let tag = words::tag_at(work, from);
     if tag == words::GONE {
@@ -249,21 +219,21 @@ pub fn step_rest(
     }
     if tag == words::LEAF {
         let i = words::record_at(work, from);
-        return step_record(programs, v, truths, finals, counts, work, i, to, k);
+        return step_record(t, work, i, to, k);
     }
     let left = from + 3;
     let n = words::size_at(work, left);
     let right = left + 3 * n;
-    let t = step_rest(programs, v, truths, finals, counts, work, left, to + 3, k);
-    match t {
+    let made = step_rest(t, work, left, to + 3, k);
+    match made {
         Turn::Made { entry, size } => end_left(work, right, to, tag, entry, size),
         Turn::Passed { k: j, done } => {
             if !ends::goes_right(tag, done, j == k) {
-                let d = final_after(done, finals, work, right);
+                let d = final_after(done, t.finals, work, right);
                 return Turn::Passed { k: j, done: d };
             }
             let at = to + past_words(tag == words::SEQUENCE, 3 + 3 * n);
-            let u = step_rest(programs, v, truths, finals, counts, work, right, at, j);
+            let u = step_rest(t, work, right, at, j);
             end_right(work, left, to, tag, n, done, u)
         }
     }

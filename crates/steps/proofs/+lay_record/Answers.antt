@@ -1,12 +1,12 @@
 -- Down by counts, and on the way back up a construct around what was laid out; the record number falls (Laying.antt). Assumes nothing.
 use mathlib.Core.Path.{sym, ◌∙◌}
 use native.Mathlib.Omega.{arith}
-use Rattle.steps.specs.Laid.{Sources, sources_of}
+use Rattle.steps.specs.Laid.{Sources, seen_in}
 use Rattle.steps.proofs.Laying.{IsRecord, OfParts, is_record, of_parts, own_lays, a_falls, a_can, a_room, a_lays, b_falls, b_can, b_room, b_lays, in_words, many_few}
 use Rattle.steps.proofs.+lay_record.Goals as goal
 
 pub record_at-r-requires : goal.record_at-r-requires
-record_at-r-requires t c = c.requires.program_table
+record_at-r-requires t c = c.args.t.now.long
 
 pub put_node-requires : goal.put_node-requires
 put_node-requires t c = omega (arith, c.requires.can_lay.room.inside)
@@ -16,8 +16,7 @@ entry_of-requires t c = in_words c.record_at-r.ensures.fields
 
 pub returns-then-has_own : goal.returns-then-has_own
 returns-then-has_own t c W s C =
-    let sources : Sources =
-    sources_of c.args.programs.now c.args.v c.args.truths.now c.args.counts.now in
+    let sources : Sources = seen_in c.args.t.now in
     let record_known : IsRecord sources c.args.i c.record_at-r.result =
     is_record c.requires.can_lay c.record_at-r.ensures.record in
     let can = c.requires.can_lay in
@@ -30,8 +29,7 @@ overflow_add-at t c =
 
 pub lay_record-x-requires : goal.lay_record-x-requires
 lay_record-x-requires t c =
-    let sources : Sources =
-    sources_of c.args.programs.now c.args.v c.args.truths.now c.args.counts.now in
+    let sources : Sources = seen_in c.args.t.now in
     let record_known : IsRecord sources c.args.i c.record_at-r.result =
     is_record c.requires.can_lay c.record_at-r.ensures.record in
     let parts_known : OfParts sources c.args.i c.record_at-r.result c.first_by-first.result =
@@ -40,13 +38,12 @@ lay_record-x-requires t c =
     let can = c.requires.can_lay in
     let below = c.if-k-first.true in (
       omega (arith, a_falls can.counted P.of P below, c.decreases),
-      (c.requires.program_table, a_can can.counted P.of P below can.room c.past_words.ensures.1),
+      a_can can.counted P.of P below can.room c.past_words.ensures.1,
     )
 
 pub wrap_a-size-requires : goal.wrap_a-size-requires
 wrap_a-size-requires t c =
-    let sources : Sources =
-    sources_of c.args.programs.now c.args.v c.args.truths.now c.args.counts.now in
+    let sources : Sources = seen_in c.args.t.now in
     let record_known : IsRecord sources c.args.i c.record_at-r.result =
     is_record c.requires.can_lay c.record_at-r.ensures.record in
     let parts_known : OfParts sources c.args.i c.record_at-r.result c.first_by-first.result =
@@ -55,14 +52,13 @@ wrap_a-size-requires t c =
     let can = c.requires.can_lay in
     record {
       room = a_room can.counted P.of P c.if-k-first.true can.room (c.lay_record-x.ensures _ _ can.counted);
-      i_bound = many_few c.args.v.interrupts c.args.v.n _ c.requires.program_table.few can.inside;
+      i_bound = many_few c.args.t.now.setting.interrupts c.args.t.now.setting.n _ c.args.t.now.long.few can.inside;
       in_words = in_words c.record_at-r.ensures.fields;
     }
 
 pub returns-then-k-first : goal.returns-then-k-first
 returns-then-k-first t c W s C =
-    let sources : Sources =
-    sources_of c.args.programs.now c.args.v c.args.truths.now c.args.counts.now in
+    let sources : Sources = seen_in c.args.t.now in
     let record_known : IsRecord sources c.args.i c.record_at-r.result =
     is_record c.requires.can_lay c.record_at-r.ensures.record in
     let parts_known : OfParts sources c.args.i c.record_at-r.result c.first_by-first.result =
@@ -77,8 +73,7 @@ overflow_add-at-2 t c =
 
 pub lay_record-x-requires-2 : goal.lay_record-x-requires-2
 lay_record-x-requires-2 t c =
-    let sources : Sources =
-    sources_of c.args.programs.now c.args.v c.args.truths.now c.args.counts.now in
+    let sources : Sources = seen_in c.args.t.now in
     let record_known : IsRecord sources c.args.i c.record_at-r.result =
     is_record c.requires.can_lay c.record_at-r.ensures.record in
     let parts_known : OfParts sources c.args.i c.record_at-r.result c.first_by-first.result =
@@ -87,13 +82,12 @@ lay_record-x-requires-2 t c =
     let can = c.requires.can_lay in
     let above = c.if-k-first.false in (
       omega (arith, b_falls can.counted P.of P can.least above, c.decreases),
-      (c.requires.program_table, b_can can.counted P.of P can.least above can.room c.past_words-2.ensures.1),
+      b_can can.counted P.of P can.least above can.room c.past_words-2.ensures.1,
     )
 
 pub wrap_b-size-requires : goal.wrap_b-size-requires
 wrap_b-size-requires t c =
-    let sources : Sources =
-    sources_of c.args.programs.now c.args.v c.args.truths.now c.args.counts.now in
+    let sources : Sources = seen_in c.args.t.now in
     let record_known : IsRecord sources c.args.i c.record_at-r.result =
     is_record c.requires.can_lay c.record_at-r.ensures.record in
     let parts_known : OfParts sources c.args.i c.record_at-r.result c.first_by-first.result =
@@ -107,8 +101,7 @@ wrap_b-size-requires t c =
 
 pub returns : goal.returns
 returns t c W s C =
-    let sources : Sources =
-    sources_of c.args.programs.now c.args.v c.args.truths.now c.args.counts.now in
+    let sources : Sources = seen_in c.args.t.now in
     let record_known : IsRecord sources c.args.i c.record_at-r.result =
     is_record c.requires.can_lay c.record_at-r.ensures.record in
     let parts_known : OfParts sources c.args.i c.record_at-r.result c.first_by-first.result =

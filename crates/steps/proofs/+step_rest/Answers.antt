@@ -1,5 +1,5 @@
 -- Down to the left part, and after it, where it goes, to the right one; the number of nodes falls (Stepping.antt). Assumes nothing.
-use Rattle.steps.specs.Laid.{Sources, sources_of}
+use Rattle.steps.specs.Laid.{Sources, seen_in}
 use native.Mathlib.Omega.{arith}
 use Rattle.words.proofs.Standing.{gone_at, leaf_at}
 use Rattle.words.proofs.Reading.{holds_room, construct}
@@ -33,7 +33,6 @@ step_record-requires t c =
     let can = c.requires.can_step in
     leaf_at _ _ _ c.tag_at-tag.ensures can.rest can.at c.if-tag-eq-LEAF.true in
     record {
-      program_table = c.requires.program_table;
       can_step_record = leaf_can c.requires.can_step leaf_known c.record_at-i.ensures;
     }
 
@@ -58,135 +57,123 @@ size_at-n-requires t c =
 
 pub overflow_mul-right : goal.overflow_mul-right
 overflow_mul-right t c =
-    let sources : Sources =
-    sources_of c.args.programs.now c.args.v c.args.truths.now c.args.counts.now in
-    let parts_known : Split sources c.args.finals.now c.args.work.now c.args.from c.args.to c.tag_at-tag.result c.size_at-n.result c.requires.can_step.rest =
+    let sources : Sources = seen_in c.args.t.now in
+    let parts_known : Split sources c.args.t.now.finals.now c.args.work.now c.args.from c.args.to c.tag_at-tag.result c.size_at-n.result c.requires.can_step.rest =
     split c.requires.can_step c.tag_at-tag.ensures c.if-tag-eq-GONE.false c.if-tag-eq-LEAF.false c.size_at-n.ensures in
     let X = parts_known in omega (arith, parts_inside X, X.inside, X.small)
 
 pub overflow_add-right : goal.overflow_add-right
 overflow_add-right t c =
-    let sources : Sources =
-    sources_of c.args.programs.now c.args.v c.args.truths.now c.args.counts.now in
-    let parts_known : Split sources c.args.finals.now c.args.work.now c.args.from c.args.to c.tag_at-tag.result c.size_at-n.result c.requires.can_step.rest =
+    let sources : Sources = seen_in c.args.t.now in
+    let parts_known : Split sources c.args.t.now.finals.now c.args.work.now c.args.from c.args.to c.tag_at-tag.result c.size_at-n.result c.requires.can_step.rest =
     split c.requires.can_step c.tag_at-tag.ensures c.if-tag-eq-GONE.false c.if-tag-eq-LEAF.false c.size_at-n.ensures in
     let X = parts_known in omega (arith, parts_inside X, X.inside, X.small)
 
 pub overflow_add-to : goal.overflow_add-to
 overflow_add-to t c =
-    let sources : Sources =
-    sources_of c.args.programs.now c.args.v c.args.truths.now c.args.counts.now in
-    let parts_known : Split sources c.args.finals.now c.args.work.now c.args.from c.args.to c.tag_at-tag.result c.size_at-n.result c.requires.can_step.rest =
+    let sources : Sources = seen_in c.args.t.now in
+    let parts_known : Split sources c.args.t.now.finals.now c.args.work.now c.args.from c.args.to c.tag_at-tag.result c.size_at-n.result c.requires.can_step.rest =
     split c.requires.can_step c.tag_at-tag.ensures c.if-tag-eq-GONE.false c.if-tag-eq-LEAF.false c.size_at-n.ensures in
     let X = parts_known in omega (arith, X.inside, X.small)
 
-pub step_rest-t-requires : goal.step_rest-t-requires
-step_rest-t-requires t c =
-    let sources : Sources =
-    sources_of c.args.programs.now c.args.v c.args.truths.now c.args.counts.now in
-    let parts_known : Split sources c.args.finals.now c.args.work.now c.args.from c.args.to c.tag_at-tag.result c.size_at-n.result c.requires.can_step.rest =
+pub step_rest-made-requires : goal.step_rest-made-requires
+step_rest-made-requires t c =
+    let sources : Sources = seen_in c.args.t.now in
+    let parts_known : Split sources c.args.t.now.finals.now c.args.work.now c.args.from c.args.to c.tag_at-tag.result c.size_at-n.result c.requires.can_step.rest =
     split c.requires.can_step c.tag_at-tag.ensures c.if-tag-eq-GONE.false c.if-tag-eq-LEAF.false c.size_at-n.ensures in
     let X = parts_known in
-    (left_falls X c.decreases, (c.requires.program_table, left_can X))
+    (left_falls X c.decreases, left_can X)
 
 pub end_left-requires : goal.end_left-requires
 end_left-requires t c =
-    let sources : Sources =
-    sources_of c.args.programs.now c.args.v c.args.truths.now c.args.counts.now in
-    let parts_known : Split sources c.args.finals.now c.args.work.now c.args.from c.args.to c.tag_at-tag.result c.size_at-n.result c.requires.can_step.rest =
+    let sources : Sources = seen_in c.args.t.now in
+    let parts_known : Split sources c.args.t.now.finals.now c.args.work.now c.args.from c.args.to c.tag_at-tag.result c.size_at-n.result c.requires.can_step.rest =
     split c.requires.can_step c.tag_at-tag.ensures c.if-tag-eq-GONE.false c.if-tag-eq-LEAF.false c.size_at-n.ensures in
     let words_left : List ℕ =
-    c.step_rest-t.new.work in
-    let left_known : (W : World) (s : State) → Tabled W s sources c.args.finals.now
-    → Stepped W s sources.records parts_known.parts.l c.args.k (c.args.to + 3) c.args.work.now words_left c.step_rest-t.result =
-    λ W s T. let X = parts_known in c.step_rest-t.ensures W s T X.parts.l X.parts.l_at in
+    c.step_rest-made.new.work in
+    let left_known : (W : World) (s : State) → Tabled W s sources c.args.t.now.finals.now
+    → Stepped W s sources.records parts_known.parts.l c.args.k (c.args.to + 3) c.args.work.now words_left c.step_rest-made.result =
+    λ W s T. let X = parts_known in c.step_rest-made.ensures W s T X.parts.l X.parts.l_at in
     let X = parts_known in
     made_can X X.tabled (left_known _ _ X.tabled) c.in-Made.is
 
 pub final_after-d-requires : goal.final_after-d-requires
 final_after-d-requires t c =
-    let sources : Sources =
-    sources_of c.args.programs.now c.args.v c.args.truths.now c.args.counts.now in
-    let parts_known : Split sources c.args.finals.now c.args.work.now c.args.from c.args.to c.tag_at-tag.result c.size_at-n.result c.requires.can_step.rest =
+    let sources : Sources = seen_in c.args.t.now in
+    let parts_known : Split sources c.args.t.now.finals.now c.args.work.now c.args.from c.args.to c.tag_at-tag.result c.size_at-n.result c.requires.can_step.rest =
     split c.requires.can_step c.tag_at-tag.ensures c.if-tag-eq-GONE.false c.if-tag-eq-LEAF.false c.size_at-n.ensures in
     let words_left : List ℕ =
-    c.step_rest-t.new.work in
-    let left_known : (W : World) (s : State) → Tabled W s sources c.args.finals.now
-    → Stepped W s sources.records parts_known.parts.l c.args.k (c.args.to + 3) c.args.work.now words_left c.step_rest-t.result =
-    λ W s T. let X = parts_known in c.step_rest-t.ensures W s T X.parts.l X.parts.l_at in
+    c.step_rest-made.new.work in
+    let left_known : (W : World) (s : State) → Tabled W s sources c.args.t.now.finals.now
+    → Stepped W s sources.records parts_known.parts.l c.args.k (c.args.to + 3) c.args.work.now words_left c.step_rest-made.result =
+    λ W s T. let X = parts_known in c.step_rest-made.ensures W s T X.parts.l X.parts.l_at in
     let left_kept : Kept (c.args.to + 3) c.args.work.now words_left =
     (left_known _ _ parts_known.tabled).kept in
     right_holds parts_known left_kept
 
 pub returns-then-not-goes_right : goal.returns-then-not-goes_right
 returns-then-not-goes_right t c =
-    let sources : Sources =
-    sources_of c.args.programs.now c.args.v c.args.truths.now c.args.counts.now in
-    let parts_known : Split sources c.args.finals.now c.args.work.now c.args.from c.args.to c.tag_at-tag.result c.size_at-n.result c.requires.can_step.rest =
+    let sources : Sources = seen_in c.args.t.now in
+    let parts_known : Split sources c.args.t.now.finals.now c.args.work.now c.args.from c.args.to c.tag_at-tag.result c.size_at-n.result c.requires.can_step.rest =
     split c.requires.can_step c.tag_at-tag.ensures c.if-tag-eq-GONE.false c.if-tag-eq-LEAF.false c.size_at-n.ensures in
     let words_left : List ℕ =
-    c.step_rest-t.new.work in
-    let left_known : (W : World) (s : State) → Tabled W s sources c.args.finals.now
-    → Stepped W s sources.records parts_known.parts.l c.args.k (c.args.to + 3) c.args.work.now words_left c.step_rest-t.result =
-    λ W s T. let X = parts_known in c.step_rest-t.ensures W s T X.parts.l X.parts.l_at in
+    c.step_rest-made.new.work in
+    let left_known : (W : World) (s : State) → Tabled W s sources c.args.t.now.finals.now
+    → Stepped W s sources.records parts_known.parts.l c.args.k (c.args.to + 3) c.args.work.now words_left c.step_rest-made.result =
+    λ W s T. let X = parts_known in c.step_rest-made.ensures W s T X.parts.l X.parts.l_at in
     whatever c.requires.can_step (λ W s T. stays_stepped parts_known T (left_known W s T) c.in-Passed.is
     c.goes_right.ensures c.if-not-goes_right.true c.final_after-d.ensures)
 
 pub overflow_mul-n : goal.overflow_mul-n
 overflow_mul-n t c =
-    let sources : Sources =
-    sources_of c.args.programs.now c.args.v c.args.truths.now c.args.counts.now in
-    let parts_known : Split sources c.args.finals.now c.args.work.now c.args.from c.args.to c.tag_at-tag.result c.size_at-n.result c.requires.can_step.rest =
+    let sources : Sources = seen_in c.args.t.now in
+    let parts_known : Split sources c.args.t.now.finals.now c.args.work.now c.args.from c.args.to c.tag_at-tag.result c.size_at-n.result c.requires.can_step.rest =
     split c.requires.can_step c.tag_at-tag.ensures c.if-tag-eq-GONE.false c.if-tag-eq-LEAF.false c.size_at-n.ensures in
     let X = parts_known in omega (arith, parts_inside X, X.inside, X.small)
 
 pub overflow_add-n : goal.overflow_add-n
 overflow_add-n t c =
-    let sources : Sources =
-    sources_of c.args.programs.now c.args.v c.args.truths.now c.args.counts.now in
-    let parts_known : Split sources c.args.finals.now c.args.work.now c.args.from c.args.to c.tag_at-tag.result c.size_at-n.result c.requires.can_step.rest =
+    let sources : Sources = seen_in c.args.t.now in
+    let parts_known : Split sources c.args.t.now.finals.now c.args.work.now c.args.from c.args.to c.tag_at-tag.result c.size_at-n.result c.requires.can_step.rest =
     split c.requires.can_step c.tag_at-tag.ensures c.if-tag-eq-GONE.false c.if-tag-eq-LEAF.false c.size_at-n.ensures in
     let X = parts_known in omega (arith, parts_inside X, X.inside, X.small)
 
 pub overflow_add-at : goal.overflow_add-at
 overflow_add-at t c =
-    let sources : Sources =
-    sources_of c.args.programs.now c.args.v c.args.truths.now c.args.counts.now in
-    let parts_known : Split sources c.args.finals.now c.args.work.now c.args.from c.args.to c.tag_at-tag.result c.size_at-n.result c.requires.can_step.rest =
+    let sources : Sources = seen_in c.args.t.now in
+    let parts_known : Split sources c.args.t.now.finals.now c.args.work.now c.args.from c.args.to c.tag_at-tag.result c.size_at-n.result c.requires.can_step.rest =
     split c.requires.can_step c.tag_at-tag.ensures c.if-tag-eq-GONE.false c.if-tag-eq-LEAF.false c.size_at-n.ensures in
     let X = parts_known in omega (arith, X.inside, X.small, X.parts.left_is, c.past_words.ensures.1)
 
 pub step_rest-u-requires : goal.step_rest-u-requires
 step_rest-u-requires t c =
-    let sources : Sources =
-    sources_of c.args.programs.now c.args.v c.args.truths.now c.args.counts.now in
-    let parts_known : Split sources c.args.finals.now c.args.work.now c.args.from c.args.to c.tag_at-tag.result c.size_at-n.result c.requires.can_step.rest =
+    let sources : Sources = seen_in c.args.t.now in
+    let parts_known : Split sources c.args.t.now.finals.now c.args.work.now c.args.from c.args.to c.tag_at-tag.result c.size_at-n.result c.requires.can_step.rest =
     split c.requires.can_step c.tag_at-tag.ensures c.if-tag-eq-GONE.false c.if-tag-eq-LEAF.false c.size_at-n.ensures in
     let words_left : List ℕ =
-    c.step_rest-t.new.work in
-    let left_known : (W : World) (s : State) → Tabled W s sources c.args.finals.now
-    → Stepped W s sources.records parts_known.parts.l c.args.k (c.args.to + 3) c.args.work.now words_left c.step_rest-t.result =
-    λ W s T. let X = parts_known in c.step_rest-t.ensures W s T X.parts.l X.parts.l_at in
+    c.step_rest-made.new.work in
+    let left_known : (W : World) (s : State) → Tabled W s sources c.args.t.now.finals.now
+    → Stepped W s sources.records parts_known.parts.l c.args.k (c.args.to + 3) c.args.work.now words_left c.step_rest-made.result =
+    λ W s T. let X = parts_known in c.step_rest-made.ensures W s T X.parts.l X.parts.l_at in
     let left_kept : Kept (c.args.to + 3) c.args.work.now words_left =
     (left_known _ _ parts_known.tabled).kept in
     let X = parts_known in
     let E = left_kept in
-    (right_falls X E c.decreases, (c.requires.program_table, right_can X E c.past_words.ensures.1))
+    (right_falls X E c.decreases, right_can X E c.past_words.ensures.1)
 
 pub end_right-requires : goal.end_right-requires
 end_right-requires t c =
-    let sources : Sources =
-    sources_of c.args.programs.now c.args.v c.args.truths.now c.args.counts.now in
-    let parts_known : Split sources c.args.finals.now c.args.work.now c.args.from c.args.to c.tag_at-tag.result c.size_at-n.result c.requires.can_step.rest =
+    let sources : Sources = seen_in c.args.t.now in
+    let parts_known : Split sources c.args.t.now.finals.now c.args.work.now c.args.from c.args.to c.tag_at-tag.result c.size_at-n.result c.requires.can_step.rest =
     split c.requires.can_step c.tag_at-tag.ensures c.if-tag-eq-GONE.false c.if-tag-eq-LEAF.false c.size_at-n.ensures in
     let words_left : List ℕ =
-    c.step_rest-t.new.work in
-    let left_known : (W : World) (s : State) → Tabled W s sources c.args.finals.now
-    → Stepped W s sources.records parts_known.parts.l c.args.k (c.args.to + 3) c.args.work.now words_left c.step_rest-t.result =
-    λ W s T. let X = parts_known in c.step_rest-t.ensures W s T X.parts.l X.parts.l_at in
+    c.step_rest-made.new.work in
+    let left_known : (W : World) (s : State) → Tabled W s sources c.args.t.now.finals.now
+    → Stepped W s sources.records parts_known.parts.l c.args.k (c.args.to + 3) c.args.work.now words_left c.step_rest-made.result =
+    λ W s T. let X = parts_known in c.step_rest-made.ensures W s T X.parts.l X.parts.l_at in
     let left_kept : Kept (c.args.to + 3) c.args.work.now words_left =
     (left_known _ _ parts_known.tabled).kept in
-    let right_known : (W : World) (s : State) → Tabled W s sources c.args.finals.now
+    let right_known : (W : World) (s : State) → Tabled W s sources c.args.t.now.finals.now
     → RightTried W s sources.records c.requires.can_step.rest c.tag_at-tag.result c.args.from c.args.to
     c.size_at-n.result c.in-Passed.done c.args.k c.args.work.now c.step_rest-u.new.work c.step_rest-u.result =
     λ W s T. let X = parts_known in
@@ -197,32 +184,30 @@ end_right-requires t c =
 
 pub returns-in-Made : goal.returns-in-Made
 returns-in-Made t c =
-    let sources : Sources =
-    sources_of c.args.programs.now c.args.v c.args.truths.now c.args.counts.now in
-    let parts_known : Split sources c.args.finals.now c.args.work.now c.args.from c.args.to c.tag_at-tag.result c.size_at-n.result c.requires.can_step.rest =
+    let sources : Sources = seen_in c.args.t.now in
+    let parts_known : Split sources c.args.t.now.finals.now c.args.work.now c.args.from c.args.to c.tag_at-tag.result c.size_at-n.result c.requires.can_step.rest =
     split c.requires.can_step c.tag_at-tag.ensures c.if-tag-eq-GONE.false c.if-tag-eq-LEAF.false c.size_at-n.ensures in
     let words_left : List ℕ =
-    c.step_rest-t.new.work in
-    let left_known : (W : World) (s : State) → Tabled W s sources c.args.finals.now
-    → Stepped W s sources.records parts_known.parts.l c.args.k (c.args.to + 3) c.args.work.now words_left c.step_rest-t.result =
-    λ W s T. let X = parts_known in c.step_rest-t.ensures W s T X.parts.l X.parts.l_at in
+    c.step_rest-made.new.work in
+    let left_known : (W : World) (s : State) → Tabled W s sources c.args.t.now.finals.now
+    → Stepped W s sources.records parts_known.parts.l c.args.k (c.args.to + 3) c.args.work.now words_left c.step_rest-made.result =
+    λ W s T. let X = parts_known in c.step_rest-made.ensures W s T X.parts.l X.parts.l_at in
     whatever c.requires.can_step
     (λ W s T. made_stepped parts_known T (left_known W s T) c.in-Made.is c.end_left.ensures)
 
 pub returns-else-not-goes_right : goal.returns-else-not-goes_right
 returns-else-not-goes_right t c =
-    let sources : Sources =
-    sources_of c.args.programs.now c.args.v c.args.truths.now c.args.counts.now in
-    let parts_known : Split sources c.args.finals.now c.args.work.now c.args.from c.args.to c.tag_at-tag.result c.size_at-n.result c.requires.can_step.rest =
+    let sources : Sources = seen_in c.args.t.now in
+    let parts_known : Split sources c.args.t.now.finals.now c.args.work.now c.args.from c.args.to c.tag_at-tag.result c.size_at-n.result c.requires.can_step.rest =
     split c.requires.can_step c.tag_at-tag.ensures c.if-tag-eq-GONE.false c.if-tag-eq-LEAF.false c.size_at-n.ensures in
     let words_left : List ℕ =
-    c.step_rest-t.new.work in
-    let left_known : (W : World) (s : State) → Tabled W s sources c.args.finals.now
-    → Stepped W s sources.records parts_known.parts.l c.args.k (c.args.to + 3) c.args.work.now words_left c.step_rest-t.result =
-    λ W s T. let X = parts_known in c.step_rest-t.ensures W s T X.parts.l X.parts.l_at in
+    c.step_rest-made.new.work in
+    let left_known : (W : World) (s : State) → Tabled W s sources c.args.t.now.finals.now
+    → Stepped W s sources.records parts_known.parts.l c.args.k (c.args.to + 3) c.args.work.now words_left c.step_rest-made.result =
+    λ W s T. let X = parts_known in c.step_rest-made.ensures W s T X.parts.l X.parts.l_at in
     let left_kept : Kept (c.args.to + 3) c.args.work.now words_left =
     (left_known _ _ parts_known.tabled).kept in
-    let right_known : (W : World) (s : State) → Tabled W s sources c.args.finals.now
+    let right_known : (W : World) (s : State) → Tabled W s sources c.args.t.now.finals.now
     → RightTried W s sources.records c.requires.can_step.rest c.tag_at-tag.result c.args.from c.args.to
     c.size_at-n.result c.in-Passed.done c.args.k c.args.work.now c.step_rest-u.new.work c.step_rest-u.result =
     λ W s T. let X = parts_known in

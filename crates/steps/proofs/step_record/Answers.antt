@@ -4,7 +4,6 @@ use Rattle.steps.proofs.step_record.Goals as goal
 
 pub lay_record-x-requires : goal.lay_record-x-requires
 lay_record-x-requires c = record {
-  program_table = c.requires.program_table;
   can_lay = record_can c.requires.can_step_record c.value_in-count.ensures c.if-k-count.true;
 }
 
