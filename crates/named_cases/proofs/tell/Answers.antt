@@ -4,4 +4,4 @@ use Rattle.engine.proofs.Tables.{blank}
 use Rattle.named_cases.proofs.tell.Goals as goal
 
 pub prepare-requires : goal.prepare-requires
-prepare-requires g c = (c.requires, refl, refl, blank)
+prepare-requires g c = (refl, refl, blank)
