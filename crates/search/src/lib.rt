@@ -209,14 +209,7 @@ fn remember(
 }
 
 // Fills the tables for the configuration visited again, where they may have been filled for another in between.
-fn refresh(
-    flags: &mut [bool],
-    numbers: &mut [u32],
-    work: &[u32],
-    s: &Sheet,
-    q: Visit,
-    stale: bool,
-)
+fn refresh(flags: &mut [bool], numbers: &mut [u32], work: &[u32], s: &Sheet, q: Visit, stale: bool)
     requires prepared { Prepared s.now flags.old numbers.old × (stale ≡ false → Surveyed s.now q.state q.depth flags.old numbers.old) }
     requires by_index { (left : ℕ) × (p : Prog) × Frame s.now left work.now q.depth p }
     ensures tables { Surveyed s.now q.state q.depth flags.new numbers.new }
