@@ -137,7 +137,7 @@ fn deepen(
         if !o.is_more() {
             return lower(work, best, flags, numbers, index, s, low, o);
         }
-        let cost = std::num::wrapping_sub_u32(engine::surveys(numbers), begun);
+        let cost = engine::surveys(numbers).wrapping_sub(begun);
         at_once = doubles(before, cost);
         ahead = leap(before, cost);
         before = cost;

@@ -236,8 +236,7 @@ fn expand(
     start: Start,
 ) -> Outcome
     requires { Going s.now work.old moves.now (length trace.old) t q start.cursor flags.old numbers.old × Told s.now moves.now t index.old }
-    ensures answer { Expanded s.now work.old moves.now trace.old trace.new t q start.ran start.cursor flags.old
-        numbers.old result }
+    ensures answer { Expanded s.now work.old moves.now trace.old trace.new t q start.ran start.cursor flags.old numbers.old result }
     ensures tables { Preserves s.now work.old work.new q flags.old flags.new numbers.old numbers.new }
     ensures index { Told s.now moves.now t index.new }
 {
