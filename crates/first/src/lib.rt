@@ -4,7 +4,7 @@
 
 ghost use Rattle.std.specs.Prelude.{◌≡◌, ◌+◌, ◌<◌, ◌≤◌, ◌++◌, length, drop, replicate};
 ghost use Rattle.runs.specs.Guide.{rank};
-ghost use Rattle.sheet.specs.Inspection.{Of};
+ghost use Rattle.sheet.specs.Inspection.{words_required};
 ghost use Rattle.demands.specs.Decoded.{bound_of};
 ghost use Rattle.demands.specs.Planning.{FirstPlan, verdict_of};
 ghost use Rattle.search.specs.Outcome.{Reported};
@@ -13,7 +13,7 @@ ghost use Rattle.explored.specs.Known.{Lasting};
 ghost use Rattle.first.specs.Settling.{history_of, Within, transition_count, FoundSoFar, FewestFound, CanSettle, Settled, Answers};
 
 use search::{Outcome, Question, Window};
-use sheet::Inspection;
+use sheet::Sheet;
 
 // A history: the first n of the entries.
 // Kept: the array with its length beside it: a plan's history outlives the search that found it, and there is no heap and no slice lent for it.
@@ -49,14 +49,13 @@ fn lower(
     flags: &mut [bool],
     numbers: &mut [u32],
     index: &mut [u32],
-    s: &[u8],
-    found: Inspection,
+    s: &Sheet,
     low: usize,
     o: Outcome,
 ) -> Outcome
-    requires { Standing s.now work.old found flags.old numbers.old × (bound_of s.now ≤ length best.old) × FoundSoFar s.now low best.old o × Lasting s.now index.old }
+    requires { Standing s.now work.old flags.old numbers.old × (bound_of s.now ≤ length best.old) × FoundSoFar s.now low best.old o × Lasting s.now index.old }
     ensures answer { FewestFound s.now best.new result }
-    ensures stands { Standing s.now work.new found flags.new numbers.new }
+    ensures stands { Standing s.now work.new flags.new numbers.new }
     ensures index { Lasting s.now index.new }
 {
     let mut fewest = o;
@@ -68,7 +67,7 @@ fn lower(
             left,
             cut: true,
         };
-        let x = search::explore(work, best, flags, numbers, index, s, found, &[], a);
+        let x = search::explore(work, best, flags, numbers, index, s, &[], a);
         if x.is_found() {
             fewest = x;
         } else {
@@ -114,16 +113,14 @@ fn deepen(
     flags: &mut [bool],
     numbers: &mut [u32],
     index: &mut [u32],
-    s: &[u8],
-    found: Inspection,
+    s: &Sheet,
 ) -> Outcome
-    requires { Standing s.now work.old found flags.old numbers.old × (bound_of s.now ≤ length best.old) × Lasting s.now index.old }
+    requires { Standing s.now work.old flags.old numbers.old × (bound_of s.now ≤ length best.old) × Lasting s.now index.old }
     ensures answer { FewestFound s.now best.new result }
-    ensures stands { Standing s.now work.new found flags.new numbers.new }
+    ensures stands { Standing s.now work.new flags.new numbers.new }
     ensures index { Lasting s.now index.new }
 {
-    let l = found.layout;
-    let d = l.d;
+    let d = s.found().layout.d;
     let mut low = 0;
     let mut at_once = false;
     let mut ahead = 0;
@@ -136,11 +133,11 @@ fn deepen(
             left: t,
             cut: false,
         };
-        let o = search::explore(work, best, flags, numbers, index, s, found, &[], a);
+        let o = search::explore(work, best, flags, numbers, index, s, &[], a);
         if !o.is_more() {
-            return lower(work, best, flags, numbers, index, s, found, low, o);
+            return lower(work, best, flags, numbers, index, s, low, o);
         }
-        let cost = std::num::wrapping_sub_u32(engine::surveys(numbers), begun);
+        let cost = engine::surveys(numbers).wrapping_sub(begun);
         at_once = doubles(before, cost);
         ahead = leap(before, cost);
         before = cost;
@@ -167,16 +164,15 @@ fn ask(
     flags: &mut [bool],
     numbers: &mut [u32],
     index: &mut [u32],
-    s: &[u8],
-    found: Inspection,
+    s: &Sheet,
     t: usize,
     h: History,
     i: usize,
     window: Window,
 ) -> Option<History>
-    requires { Standing s.now work.old found flags.old numbers.old × (t ≤ bound_of s.now) × Within h × (i ≤ h.n) × Lasting s.now index.old }
+    requires { Standing s.now work.old flags.old numbers.old × (t ≤ bound_of s.now) × Within h × (i ≤ h.n) × Lasting s.now index.old }
     ensures answer { Answers s.now t h i window result }
-    ensures stands { Standing s.now work.new found flags.new numbers.new }
+    ensures stands { Standing s.now work.new flags.new numbers.new }
     ensures index { Lasting s.now index.new }
 {
     let given = h.entries;
@@ -186,17 +182,7 @@ fn ask(
         left: t,
         cut: true,
     };
-    let o = search::explore(
-        work,
-        &mut entries,
-        flags,
-        numbers,
-        index,
-        s,
-        found,
-        &given[..i],
-        a,
-    );
+    let o = search::explore(work, &mut entries, flags, numbers, index, s, &given[..i], a);
     let Outcome::Found { n, .. } = o else {
         return None;
     };
@@ -218,15 +204,14 @@ fn narrow(
     flags: &mut [bool],
     numbers: &mut [u32],
     index: &mut [u32],
-    s: &[u8],
-    found: Inspection,
+    s: &Sheet,
     t: usize,
     h: History,
     i: usize,
 ) -> History
-    requires { Standing s.now work.old found flags.old numbers.old × CanSettle s.now t × Settled s.now t i h × (i ≤ h.n) × Lasting s.now index.old }
+    requires { Standing s.now work.old flags.old numbers.old × CanSettle s.now t × Settled s.now t i h × (i ≤ h.n) × Lasting s.now index.old }
     ensures answer { Settled s.now t (i + 1) result }
-    ensures stands { Standing s.now work.new found flags.new numbers.new }
+    ensures stands { Standing s.now work.new flags.new numbers.new }
     ensures index { Lasting s.now index.new }
 {
     let mut best = h;
@@ -234,7 +219,7 @@ fn narrow(
     let mut high = rank_at(h, i);
     while low < rank_at(best, i) {
         let window = Window { low, high };
-        match ask(work, flags, numbers, index, s, found, t, best, i, window) {
+        match ask(work, flags, numbers, index, s, t, best, i, window) {
             Some(nearer) => best = nearer,
             None => low = high,
         }
@@ -249,21 +234,20 @@ fn grow(
     flags: &mut [bool],
     numbers: &mut [u32],
     index: &mut [u32],
-    s: &[u8],
-    found: Inspection,
+    s: &Sheet,
     t: usize,
     h: History,
 ) -> History
-    requires { Standing s.now work.old found flags.old numbers.old × CanSettle s.now t × Settled s.now t 0 h × Lasting s.now index.old }
+    requires { Standing s.now work.old flags.old numbers.old × CanSettle s.now t × Settled s.now t 0 h × Lasting s.now index.old }
     ensures answer { Within result × FirstPlan s.now (history_of result) t }
-    ensures stands { Standing s.now work.new found flags.new numbers.new }
+    ensures stands { Standing s.now work.new flags.new numbers.new }
     ensures index { Lasting s.now index.new }
 {
     let mut best = h;
     let mut settled = 0;
     // Kept: a `while`, since each turn changes best.n, where it ends.
     while settled < best.n {
-        best = narrow(work, flags, numbers, index, s, found, t, best, settled);
+        best = narrow(work, flags, numbers, index, s, t, best, settled);
         settled += 1;
     }
     best
@@ -284,12 +268,11 @@ fn settle(
     flags: &mut [bool],
     numbers: &mut [u32],
     index: &mut [u32],
-    s: &[u8],
-    found: Inspection,
+    s: &Sheet,
     entries: [u16; sheet::MOST_TRANSITIONS],
     o: Outcome,
 ) -> Outcome
-    requires standing { Standing s.now work.old found flags.old numbers.old × (bound_of s.now ≤ length trace.old) × Lasting s.now index.old }
+    requires standing { Standing s.now work.old flags.old numbers.old × (bound_of s.now ≤ length trace.old) × Lasting s.now index.old }
     requires fewest_found { FewestFound s.now entries o × (length entries ≡ 64) }
     ensures answer { Reported 0 0 trace.old trace.new result (verdict_of s.now) }
 {
@@ -297,49 +280,25 @@ fn settle(
         return o;
     };
     let start = History { entries, n };
-    let h = grow(work, flags, numbers, index, s, found, t, start);
+    let h = grow(work, flags, numbers, index, s, t, start);
     hand_out(trace, h);
     Outcome::Found { n: h.n, t }
 }
 
 // The first plan of an accepted sheet; the work area is as long as required, the index of any length.
-pub fn plan(
-    s: &[u8],
-    found: Inspection,
-    work: &mut [u32],
-    trace: &mut [u16],
-    index: &mut [u32],
-) -> Outcome
-    requires { Of s.now found × (length work.old ≡ found.words) × (bound_of s.now ≤ length trace.old) }
+pub fn plan(s: &Sheet, work: &mut [u32], trace: &mut [u16], index: &mut [u32]) -> Outcome
+    requires { (length work.old ≡ words_required s.now) × (bound_of s.now ≤ length trace.old) }
     ensures answer { Reported 0 0 trace.old trace.new result (verdict_of s.now) }
     ensures work { work.new ≡ replicate (length work.old) 0 }
     ensures index { index.new ≡ replicate (length index.old) 0 }
 {
     let mut flags = [false; engine::FLAGS];
     let mut numbers = [0u32; engine::NUMBERS];
-    search::stand(work, &mut flags, &mut numbers, s, found);
+    search::stand(work, &mut flags, &mut numbers, s);
     index::begin(index);
     let mut entries = [0u16; sheet::MOST_TRANSITIONS];
-    let o = deepen(
-        work,
-        &mut entries,
-        &mut flags,
-        &mut numbers,
-        index,
-        s,
-        found,
-    );
-    let r = settle(
-        work,
-        trace,
-        &mut flags,
-        &mut numbers,
-        index,
-        s,
-        found,
-        entries,
-        o,
-    );
+    let o = deepen(work, &mut entries, &mut flags, &mut numbers, index, s);
+    let r = settle(work, trace, &mut flags, &mut numbers, index, s, entries, o);
     search::clear(work);
     search::clear(index);
     r

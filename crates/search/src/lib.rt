@@ -209,14 +209,7 @@ fn remember(
 }
 
 // Fills the tables for the configuration visited again, where they may have been filled for another in between.
-fn refresh(
-    flags: &mut [bool],
-    numbers: &mut [u32],
-    work: &[u32],
-    s: &Sheet,
-    q: Visit,
-    stale: bool,
-)
+fn refresh(flags: &mut [bool], numbers: &mut [u32], work: &[u32], s: &Sheet, q: Visit, stale: bool)
     requires prepared { Prepared s.now flags.old numbers.old × (stale ≡ false → Surveyed s.now q.state q.depth flags.old numbers.old) }
     requires by_index { (left : ℕ) × (p : Prog) × Frame s.now left work.now q.depth p }
     ensures tables { Surveyed s.now q.state q.depth flags.new numbers.new }
@@ -243,8 +236,7 @@ fn expand(
     start: Start,
 ) -> Outcome
     requires { Going s.now work.old moves.now (length trace.old) t q start.cursor flags.old numbers.old × Told s.now moves.now t index.old }
-    ensures answer { Expanded s.now work.old moves.now trace.old trace.new t q start.ran start.cursor flags.old
-        numbers.old result }
+    ensures answer { Expanded s.now work.old moves.now trace.old trace.new t q start.ran start.cursor flags.old numbers.old result }
     ensures tables { Preserves s.now work.old work.new q flags.old flags.new numbers.old numbers.new }
     ensures index { Told s.now moves.now t index.new }
 {

@@ -9,7 +9,7 @@ use Rattle.first.proofs.deepen.Goals as goal
 pub loop-low-init : goal.loop-low-init
 loop-low-init c =
     let p = c.requires in
-    let e = ap (λ (l : Layout). l.d) p.0.of.layout_is in
+    let e = ap (λ (l : Layout). l.d) c.found-d.ensures.of.layout_is in
     (p.0, p.2, record { bound = e; room = omega (arith, e, p.1); tried = tried_none c.args.s.now; inside = omega arith })
 
 pub surveys-begun-requires : goal.surveys-begun-requires
@@ -34,7 +34,7 @@ surveys-requires c = c.explore-o.ensures.stands.prepared.numbers_long
 
 pub overflow_add-low : goal.overflow_add-low
 overflow_add-low c =
-    let v = c.loop-low.invariant in omega (arith, v.2.bound, (laid _ v.0.of.accepted).d, c.next_bound-t.ensures.1)
+    let v = c.loop-low.invariant in omega (arith, v.2.bound, (laid _ v.0.accepted).d, c.next_bound-t.ensures.1)
 
 pub loop-low-preserved : goal.loop-low-preserved
 loop-low-preserved c =

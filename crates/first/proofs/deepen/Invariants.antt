@@ -6,7 +6,7 @@ use Rattle.first.proofs.deepen.Given as goal
 
 abbrev pub invariant-loop-low : goal.invariant-loop-low
 invariant-loop-low l =
-    Standing l.s l.work l.found l.flags l.numbers × Lasting l.s l.index × Raising l.s l.best l.d l.low
+    Standing l.s l.work l.flags l.numbers × Lasting l.s l.index × Raising l.s l.best l.d l.low
 
 abbrev pub decreases-loop-low : goal.decreases-loop-low
 decreases-loop-low l = l.d + 1 - l.low

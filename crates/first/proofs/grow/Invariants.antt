@@ -6,7 +6,7 @@ use Rattle.first.proofs.grow.Given as goal
 
 abbrev pub invariant-loop-settled : goal.invariant-loop-settled
 invariant-loop-settled l =
-    Standing l.s l.work l.found l.flags l.numbers × Lasting l.s l.index × CanSettle l.s l.t × Settled l.s l.t l.settled l.best × (l.settled ≤ 64)
+    Standing l.s l.work l.flags l.numbers × Lasting l.s l.index × CanSettle l.s l.t × Settled l.s l.t l.settled l.best × (l.settled ≤ 64)
 
 abbrev pub decreases-loop-settled : goal.decreases-loop-settled
 decreases-loop-settled l = 64 - l.settled

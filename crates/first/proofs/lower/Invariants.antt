@@ -7,7 +7,7 @@ use Rattle.first.proofs.lower.Given as goal
 
 abbrev pub invariant-loop-tried : goal.invariant-loop-tried
 invariant-loop-tried l =
-    Standing l.s l.work l.found l.flags l.numbers × Lasting l.s l.index × Lowering l.s l.best l.tried l.fewest
+    Standing l.s l.work l.flags l.numbers × Lasting l.s l.index × Lowering l.s l.best l.tried l.fewest
 
 abbrev pub decreases-loop-tried : goal.decreases-loop-tried
 decreases-loop-tried l = transition_count l.fewest - l.tried

@@ -7,7 +7,7 @@ use Rattle.first.proofs.narrow.Given as goal
 
 abbrev pub invariant-loop-low : goal.invariant-loop-low
 invariant-loop-low l =
-    Standing l.s l.work l.found l.flags l.numbers × Lasting l.s l.index × CanSettle l.s l.t × Halving l.s l.t l.i l.low l.high l.best
+    Standing l.s l.work l.flags l.numbers × Lasting l.s l.index × CanSettle l.s l.t × Halving l.s l.t l.i l.low l.high l.best
 
 abbrev pub decreases-loop-low : goal.decreases-loop-low
 decreases-loop-low l = rank_of l.best l.i - l.low

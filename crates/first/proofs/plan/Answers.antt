@@ -11,4 +11,4 @@ stand-requires-clause-flags_len c = (refl, refl, blank)
 
 pub deepen-o-requires : goal.deepen-o-requires
 deepen-o-requires c =
-    (c.stand.ensures.stands, (laid _ c.requires.0.accepted).d, nothing_noted c.args.s.now _ c.begin.ensures)
+    (c.stand.ensures.stands, (laid _ c.stand.ensures.stands.accepted).d, nothing_noted c.args.s.now _ c.begin.ensures)

@@ -11,7 +11,7 @@ returns-in_default c = record { answer = none_told c.requires.fewest_found.0 c.a
 pub grow-h-requires : goal.grow-h-requires
 grow-h-requires c =
     let p = c.requires in
-    let start = fewest_first p.fewest_found.0 _ _ c.in-Found.is p.fewest_found.1 (laid _ p.standing.0.of.accepted).d in
+    let start = fewest_first p.fewest_found.0 _ _ c.in-Found.is p.fewest_found.1 (laid _ p.standing.0.accepted).d in
     (p.standing.0, start.0, start.1, p.standing.2)
 
 pub hand_out-requires : goal.hand_out-requires
