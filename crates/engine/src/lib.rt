@@ -115,6 +115,7 @@ pub fn put_first(work: &mut [u32], s: &Sheet)
     requires { (length work.old ≡ words_required s.now) }
     ensures frame { Frame s.now (bound_of s.now) work.new 0 (first_of s.now).0 }
     ensures places { length work.new ≡ length work.old }
+    ensures accepted { Accepts s.now }
 {
     let found = s.found();
     let top = top_of(found.layout.p, found.interrupts);

@@ -92,12 +92,17 @@ fn plan_on(
     if work.len() < words {
         return Err(Refusal::from(Cause::ShortWork));
     }
-    answer_of(first::plan(s.bytes(), found, &mut work[..words], trace, index))
+    answer_of(first::plan(s, &mut work[..words], trace, index))
 }
 
 // Plans: the first plan, or why there is none: of the runs of at most D transitions that end final those of fewest transitions, and of their
 // histories the smallest.
-pub fn plan(s: &[u8], work: &mut [u32], trace: &mut [u16], index: &mut [u32]) -> Result<Planned, Refusal>
+pub fn plan(
+    s: &[u8],
+    work: &mut [u32],
+    trace: &mut [u16],
+    index: &mut [u32],
+) -> Result<Planned, Refusal>
     ensures answer { result ≡ answer_of s.now (length work.old) (length trace.old) }
     ensures trace { trace.new ≡ trace_of s.now (length work.old) trace.old }
     ensures work { work.new ≡ plan_work s.now work.old (length trace.old) }
@@ -121,7 +126,7 @@ fn replay_on(s: &Sheet, history: &[u16], work: &mut [u32]) -> Result<bool, Refus
         search::clear(&mut work[..required]);
         return Ok(false);
     }
-    Ok(search::accepts(s.bytes(), found, history, &mut work[..required]))
+    Ok(search::accepts(s, history, &mut work[..required]))
 }
 
 // Replays a history: whether some run of at most D transitions makes exactly these moves and ends final.

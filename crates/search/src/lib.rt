@@ -300,8 +300,6 @@ pub fn stand(work: &mut [u32], flags: &mut [bool], numbers: &mut [u32], s: &Shee
     requires flags_len { (length flags.old ≡ flag_places) × (length numbers.old ≡ number_places) × ((i : ℕ) → get_or numbers.old i 0 ≡ 0) }
     ensures stands { Standing s.now work.new flags.new numbers.new }
 {
-    // found for its clause: the sheet is accepted
-    let _found = s.found();
     engine::put_first(work, s);
     engine::prepare(flags, numbers, s);
 }

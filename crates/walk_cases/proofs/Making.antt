@@ -2,6 +2,7 @@
 -- with the same room. Assumes nothing.
 use Prim.Native.Nat.{ℕ, suc, ◌+◌, ◌-◌, ◌≤◌}
 use native.Mathlib.Omega.{arith}
+use mathlib.Core.Bool.{true≢false}
 use mathlib.Core.List.{List, [], ◌∷◌}
 use mathlib.Core.Path.{◌≡◌, subst}
 use Rattle.std.specs.Prelude.{Option, None, Some, IfSome}
@@ -24,7 +25,7 @@ made_one :
     {s : List ℕ} {c : Configuration} {left : ℕ} {w : List ℕ} {d : ℕ} {t : Taken} (xs : List Transition)
     → MakesNext s c left w d (Some t) xs
     → MadeOne s c left w d t
-made_one [] none = absurd none
+made_one [] none = absurd (true≢false none)
 made_one (x ∷ ys) M = record { step = x; others = ys; made = M }
 
 module _

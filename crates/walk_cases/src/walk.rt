@@ -4,6 +4,7 @@ ghost use Rattle.golog.specs.Prog.{Prog};
 ghost use Rattle.demands.specs.Decoded.{bound_of};
 ghost use Rattle.engine.specs.Tables.{Prepared, Surveyed};
 ghost use Rattle.engine.specs.Frames.{Frame};
+ghost use Rattle.sheet.specs.Inspection.{words_required};
 ghost use Rattle.engine.specs.Going.{Ahead, transitions_of, CanGoOn};
 
 use crate::report;

@@ -28,4 +28,5 @@ returns c =
     record {
       frame = first_frame O.accepted (N.len ∙ c.requires) (subst (λ (k : ℕ). At (leaf k) w 64) i a);
       places = N.len;
+      accepted = O.accepted;
     }

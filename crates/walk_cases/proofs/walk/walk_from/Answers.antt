@@ -4,4 +4,4 @@ use Rattle.engine.proofs.Tables.{blank}
 use Rattle.walk_cases.proofs.walk.walk_from.Goals as goal
 
 pub prepare-requires : goal.prepare-requires
-prepare-requires g c = (c.requires.0, refl, refl, blank)
+prepare-requires g c = (refl, refl, blank)

@@ -10,51 +10,50 @@ use Rattle.sheet.proofs.Accepted.{laid}
 use Rattle.sheet.proofs.Found.{answered}
 use Rattle.planner.proofs.Demands.{eleven_reply, replay_cleared}
 use Rattle.planner.proofs.Reported.{replaying, longer, cleared}
-use Rattle.planner.proofs.replay_found.Goals as goal
+use Rattle.planner.proofs.replay_on.Goals as goal
 
 pub returns-then-work-required : goal.returns-then-work-required
 returns-then-work-required c =
-    let r = eleven_reply _ _ _ (answered c.requires) c.args.work.now c.if-work-required.true c.args.history.now in
+    let r = eleven_reply _ _ _ (answered c.found-found.ensures.of) c.args.work.now c.if-work-required.true c.args.history.now in
     record {
-      answer = sym r.0;
+      answer = ap Err c.from.ensures ∙ sym r.0;
       work = sym r.1;
     }
 
-pub slice_bounds-clear-end-then-d-history : goal.slice_bounds-clear-end-then-d-history
-slice_bounds-clear-end-then-d-history c =
-    sym (length-take-le c.args.found.words c.args.work.now c.if-work-required.false)
+pub slice_bounds-clear-end : goal.slice_bounds-clear-end
+slice_bounds-clear-end c =
+    sym (length-take-le c.found-found.result.words c.args.work.now c.if-work-required.false)
 
-pub returns-then-d-history : goal.returns-then-d-history
-returns-then-d-history c =
+pub returns-then-found-history : goal.returns-then-found-history
+returns-then-found-history c =
     let s = c.args.s.now in
-    let w = c.args.found.words in
+    let w = c.found-found.result.words in
     let work = c.args.work.now in
-    let O = c.requires in
+    let O = c.found-found.ensures.of in
     let e = ap (λ (l : Layout). l.d) O.layout_is in
     record {
-      answer = longer s w _ (answered O) work c.if-work-required.false c.args.history.now (omega (arith, e, c.if-d-history.true));
+      answer = longer s w _ (answered O) work c.if-work-required.false c.args.history.now (omega (arith, e, c.if-found-history.true));
       work = cleared w work _ c.clear.ensures.work c.if-work-required.false ∙ sym (replay_cleared s w _ (answered O) work c.if-work-required.false);
     }
 
-pub slice_bounds-accepts-end-2 : goal.slice_bounds-accepts-end-2
-slice_bounds-accepts-end-2 c =
-    sym (length-take-le c.args.found.words c.args.work.now c.if-work-required.false)
+pub slice_bounds-accepts-end : goal.slice_bounds-accepts-end
+slice_bounds-accepts-end c =
+    sym (length-take-le c.found-found.result.words c.args.work.now c.if-work-required.false)
 
 pub accepts-requires : goal.accepts-requires
 accepts-requires c =
-    let O = c.requires in
+    let O = c.found-found.ensures.of in
     let e = ap (λ (l : Layout). l.d) O.layout_is in
-    let few : length c.args.history.now ≤ 64 = omega (arith, e, (laid _ O.accepted).d, c.if-d-history.false) in
-    (O, length-take-le c.args.found.words c.args.work.now c.if-work-required.false, few)
+    (length-take-le c.found-found.result.words c.args.work.now c.if-work-required.false ∙ O.words_are, omega (arith, e, (laid _ O.accepted).d, c.if-found-history.false))
 
 pub returns : goal.returns
 returns c =
     let s = c.args.s.now in
-    let w = c.args.found.words in
+    let w = c.found-found.result.words in
     let work = c.args.work.now in
-    let p = answered c.requires in
+    let p = answered c.found-found.ensures.of in
     let r = replaying s w _ p work c.if-work-required.false c.args.history.now c.accepts.result c.accepts.ensures.answer in
     record {
-      answer = c.reply_of.ensures ∙ r;
+      answer = r;
       work = cleared w work _ c.accepts.ensures.work c.if-work-required.false ∙ sym (replay_cleared s w _ p work c.if-work-required.false);
     }

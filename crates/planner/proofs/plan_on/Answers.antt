@@ -9,15 +9,15 @@ use Rattle.sheet.proofs.Found.{answered}
 use Rattle.demands.specs.Decoded.{bound_of}
 use Rattle.planner.proofs.Demands.{ten, eleven, plan_cleared}
 use Rattle.planner.proofs.Reported.{planning, cleared}
-use Rattle.planner.proofs.plan_found.Goals as goal
+use Rattle.planner.proofs.plan_on.Goals as goal
 
-pub returns-then-trace-d : goal.returns-then-trace-d
-returns-then-trace-d c =
-    let O = c.requires in
+pub returns-then-trace-found : goal.returns-then-trace-found
+returns-then-trace-found c =
+    let O = c.found-found.ensures.of in
     let e = ap (λ (l : Layout). l.d) O.layout_is in
-    let r = ten _ _ _ (answered O) c.args.work.now c.args.trace.now (omega (arith, e, c.if-trace-d.true)) c.args.index.now in
+    let r = ten _ _ _ (answered O) c.args.work.now c.args.trace.now (omega (arith, e, c.if-trace-found.true)) c.args.index.now in
     record {
-      answer = c.refused.ensures ∙ sym r.0;
+      answer = ap Err c.from.ensures ∙ sym r.0;
       trace = sym r.1;
       work = sym r.2;
       index = sym r.3;
@@ -25,37 +25,37 @@ returns-then-trace-d c =
 
 pub returns-then-work-words : goal.returns-then-work-words
 returns-then-work-words c =
-    let O = c.requires in
+    let O = c.found-found.ensures.of in
     let e = ap (λ (l : Layout). l.d) O.layout_is in
     let r = eleven _ _ _ (answered O) c.args.work.now c.if-work-words.true c.args.trace.now c.args.index.now
-    (omega (arith, e, c.if-trace-d.false)) in
+    (omega (arith, e, c.if-trace-found.false)) in
     record {
-      answer = c.refused-then-work-words.ensures ∙ sym r.0;
+      answer = ap Err c.from-then-work-words.ensures ∙ sym r.0;
       trace = sym r.1;
       work = sym r.2;
       index = sym r.3;
     }
 
-pub slice_bounds-plan-end-2 : goal.slice_bounds-plan-end-2
-slice_bounds-plan-end-2 c =
-    sym (length-take-le c.args.found.words c.args.work.now c.if-work-words.false)
+pub slice_bounds-plan-end : goal.slice_bounds-plan-end
+slice_bounds-plan-end c =
+    sym (length-take-le c.found-found.result.words c.args.work.now c.if-work-words.false)
 
 pub plan-requires : goal.plan-requires
 plan-requires c =
-    let O = c.requires in
+    let O = c.found-found.ensures.of in
     let e = ap (λ (l : Layout). l.d) O.layout_is in
-    (O, length-take-le c.args.found.words c.args.work.now c.if-work-words.false, omega (arith, e, c.if-trace-d.false))
+    (length-take-le c.found-found.result.words c.args.work.now c.if-work-words.false ∙ O.words_are, omega (arith, e, c.if-trace-found.false))
 
 pub returns : goal.returns
 returns c =
     let s = c.args.s.now in
-    let w = c.args.found.words in
+    let w = c.found-found.result.words in
     let work = c.args.work.now in
     let trace = c.args.trace.now in
-    let O = c.requires in
+    let O = c.found-found.ensures.of in
     let p = answered O in
     let e = ap (λ (l : Layout). l.d) O.layout_is in
-    let long : bound_of s ≤ length trace = omega (arith, e, c.if-trace-d.false) in
+    let long : bound_of s ≤ length trace = omega (arith, e, c.if-trace-found.false) in
     let r = planning s w _ p work trace c.if-work-words.false long c.plan.new.trace c.plan.result c.plan.ensures.answer in
     let q = plan_cleared s w _ p work c.if-work-words.false trace long c.args.index.now in
     record {
