@@ -1,7 +1,6 @@
 -- Truths first, then the records that may be final, then those in doubt: the tables are those of the state. Assumes nothing.
 use Rattle.std.proofs.Common.{◌≡◌, ℕ, ◌+◌, ◌-◌, ◌≤◌, Bool, true, List, length, get_or, sym, ap, ◌∙◌, subst, subst₂, arith, length-take-le}
 use borrow.Rule.Slice.PartMut.{put_mid, same_len_mid}
-use Rattle.sheet.specs.declared.Layout.{Layout}
 use Rattle.leaves.specs.Endable.{FinalsKnown}
 use Rattle.engine.specs.Tables.{window, Only, endable_in, truths_from, finals_from, truths_at, finals_at, extended_size_of}
 use Rattle.sheet.proofs.Parts.{formulas_long}
@@ -16,15 +15,14 @@ use Rattle.engine.proofs.judge.Goals as goal
 
 pub fill_truths-requires : goal.fill_truths-requires
 fill_truths-requires c =
-    let O = c.found.ensures.of in
+    let O = c.programs_of-p.ensures.accepted in
     let s = c.args.s.now in
     let x = c.flags_from-from.result in
     let T = window_at x (truths_from c.args.d) (x + 512) 512 c.args.flags.now c.flags_from-from.ensures.0 (omega arith) in
-    let q = ap (λ (l : Layout). l.q) O.layout_is in
-    rw (c.formulas.ensures.table, q)
+    rw (c.formulas.ensures.table, c.found.ensures.found)
     (record {
-      n_in_bounds = (formulas_long s _ (laid s O.accepted), omega (arith, (laid s O.accepted).q, ap length T, truths_long c.requires c.args.d));
-      lower_formulas = (lower_formulas s O.accepted, plain_formulas s O.accepted);
+      n_in_bounds = (formulas_long s _ (laid s O), omega (arith, (laid s O).q, ap length T, truths_long c.requires c.args.d));
+      lower_formulas = (lower_formulas s O, plain_formulas s O);
     })
 
 pub slice_bounds-mark_finals-end : goal.slice_bounds-mark_finals-end
@@ -51,7 +49,7 @@ mark_finals-requires c =
 
 pub returns : goal.returns
 returns c =
-    let O = c.found.ensures.of in
+    let O = c.programs_of-p.ensures.accepted in
     let P = c.requires in
     let d = c.args.d in
     let s = c.args.s.now in
@@ -73,18 +71,17 @@ returns c =
     let S : Only (x + 512) 260 flags₁ flags₂ = subst (Only (x + 512) 260 flags₁) (sym after) (only_copied 260 (x + 512) flags₁ (omega (arith, n₁))) in
     let copied = ap (window (x + 512) 260) after ∙ window_copied 260 (x + 512) flags₁ (omega (arith, n₁)) in
     let M = rw c.programs_of-p.ensures.running at c.mark_finals.ensures in
-    let q = ap (λ (l : Layout). l.q) O.layout_is in
     let K : Only (truths_from d) 772 flags flags₃ =
     subst (λ (o : ℕ). Only o 772 flags flags₃) ex
     (only_then (only_in (omega arith) (omega arith) K₁) (only_then (only_in (omega arith) (omega arith) S) (only_in (omega arith) (omega arith) M.written))) in
     let finals : (l : List Bool) → window (x + 512) 260 l ≡ finals_at d l = λ l. let e : x + 512 ≡ finals_from d = omega arith in ap (λ (o : ℕ). window o 260 l) e in
     let truths : (l : List Bool) → window x 512 l ≡ truths_at d l = λ l. ap (λ (o : ℕ). window o 512 l) ex in
     let same = window_before M.written n₃ x 512 (omega arith) (omega (arith, n₁, n₂)) ∙ window_before S n₂ x 512 (omega arith) (omega (arith, n₁)) in
-    let told = sym (truths flags₃) ∙ same ∙ window_put x (x + 512) 512 flags said (omega arith) (omega arith) long ∙ (rw (c.formulas.ensures.table, q) at c.fill_truths.ensures) in
+    let told = sym (truths flags₃) ∙ same ∙ window_put x (x + 512) 512 flags said (omega arith) (omega arith) long ∙ (rw (c.formulas.ensures.table, c.found.ensures.found) at c.fill_truths.ensures) in
     let before : endable_in flags₁ ≡ endable_in flags = endable_kept (omega arith) K₁ in
     record {
-      tables = judged s O.accepted P st d flags₃ (n₃ ∙ n₂ ∙ n₁) K
-          (truths_told s O.accepted st _ told)
+      tables = judged s O P st d flags₃ (n₃ ∙ n₂ ∙ n₁) K
+          (truths_told s O st _ told)
           (subst₂ (λ (t f : List Bool). FinalsKnown (extended_records s) (extended_size_of s) t st.running f) (truths flags₃) (finals flags₃) M.finals)
           (λ i l. ap (λ (y : List Bool). get_or y i true) (sym (finals flags₃)) ∙ M.behind i l ∙ ap (λ (y : List Bool). get_or y i true) (copied ∙ before));
       written = K;

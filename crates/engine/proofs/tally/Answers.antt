@@ -7,9 +7,6 @@ use Rattle.engine.proofs.Windows.{window_at, only_put, window_put}
 use Rattle.engine.proofs.Judging.{tallyable, surveyed}
 use Rattle.engine.proofs.tally.Goals as goal
 
-pub conflicted_at-conflicted-requires : goal.conflicted_at-conflicted-requires
-conflicted_at-conflicted-requires c = c.requires.prepared
-
 pub tallies-requires : goal.tallies-requires
 tallies-requires c =
     let J = c.requires in
