@@ -36,6 +36,7 @@ use golog::State;
 use records::Program;
 use sheet::Sheet;
 use state::{Evaluated, Possibility};
+use steps::tables::Tables;
 use steps::{Setting, Turn};
 
 // How many sets of tables there are: those for a depth stand until a configuration so much deeper is surveyed.
@@ -463,23 +464,19 @@ fn lay_next(
     ensures accepted { Accepts s.now }
 {
     let found = s.found();
-    let v = Setting {
-        n: found.layout.p,
-        interrupts: found.interrupts,
-        running: st.running,
+    let t = Tables {
+        programs: s.programs(),
+        setting: Setting {
+            n: found.layout.p,
+            interrupts: found.interrupts,
+            running: st.running,
+        },
+        truths: truths_at(flags, d),
+        finals: finals_at(flags, d),
+        counts: counts_at(numbers, d),
     };
     let at = d * found.frame + height::HEADER;
-    steps::step_rest(
-        s.programs(),
-        v,
-        truths_at(flags, d),
-        finals_at(flags, d),
-        counts_at(numbers, d),
-        work,
-        at,
-        at + found.frame,
-        k.next,
-    )
+    steps::step_rest(&t, work, at, at + found.frame, k.next)
 }
 
 // Makes the next transition from a cursor on into the frame after frame d, or says that there is none.

@@ -22,12 +22,14 @@ overflow_add-at-2 c =
     let F = c.requires.1.frame in
     omega (arith, frame_by c.found-found.ensures.of c.args.d, next_inside F, F.roomy.small, c.found-found.ensures.of.frame_is)
 
+pub invariant_of-t : goal.invariant_of-t
+invariant_of-t c = record { long = rw (ap (λ (l : Layout). l.p) c.found-found.ensures.of.layout_is) c.programs.ensures.long }
+
 pub step_rest-requires : goal.step_rest-requires
 step_rest-requires c =
     let O = c.found-found.ensures.of in
     let d = c.args.d in
     record {
-      program_table = rw (ap (λ (l : Layout). l.p) O.layout_is) c.programs.ensures.long;
       can_step = rw (of_layout O (λ (l : Layout). programs_in c.args.s.now l) c.programs.ensures.table)
           (asked O c.requires.0 _ _ _ _ _ c.truths_at.ensures c.finals_at.ensures c.counts_at.ensures
           (omega (arith, frame_by O d)) (omega (arith, frame_by O d, O.frame_is)) c.requires.1);
