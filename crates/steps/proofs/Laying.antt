@@ -5,12 +5,11 @@ use mathlib.Core.Path.{◌≡◌, refl, sym, ap, ap₂, subst, ◌∙◌}
 use mathlib.Core.Bool.{Bool, true, false, cond}
 use mathlib.Core.Option.{some}
 use mathlib.Core.List.{List, [], ◌∷◌, ◌++◌}
-use Prim.Native.Nat.{ℕ, zero, suc, ◌+◌, ◌*◌, ◌-◌, ◌^◌, ◌≤◌, ◌<◌}
+use Prim.Native.Nat.{ℕ, zero, suc, ◌+◌, ◌*◌, ◌-◌, ◌≤◌, ◌<◌}
 use native.Mathlib.Omega.{arith}
 use lib.Dec.{T, eqb}
 use lib.ListN.{length, get_or, get_elem?}
 use Rattle.records.specs.declared.Program.{Program}
-use Rattle.records.specs.Records.{TwoBytes}
 use Rattle.kinds.specs.Programs.{has_a, has_b, own_of, has_own, uses_a, uses_b, tag_a, tag_b, first_by}
 use Rattle.kinds.proofs.Reading.{uses_a_lem, uses_b_lem}
 use Rattle.kinds.proofs.Constructs.{own_no_first, own_no_second, no_own}
@@ -27,9 +26,9 @@ use Rattle.words.specs.Words.{Put, Room}
 use Rattle.words.proofs.Written.{kept_less, kept_trans, kept_put}
 use Rattle.words.proofs.Moved.{put_gone}
 use Rattle.ends.specs.Ends.{most_levels}
-use Rattle.leaves.specs.Tallies.{extended_size, counts_of}
+use Rattle.leaves.specs.Tallies.{counts_of}
 use Rattle.leaves.proofs.Entries.{counts_exact, first_exact}
-use Rattle.steps.specs.Laid.{code_of, Sources, Counted, CanLay, Built, Lays, InWords, past, Wrapped}
+use Rattle.steps.specs.Laid.{code_of, Sources, Counted, CanLay, Built, Lays, past, Wrapped}
 use Rattle.steps.proofs.Nth.{nth_member, Both, from_first, from_second, second_goes}
 
 -- what was built of a transition is small: at most two nodes more for each level
@@ -64,13 +63,12 @@ pub record OfParts (v : Sources) (i : ℕ) (r : Program) (first : ℕ) : Type 0 
   pub other : has_own r.kind ≡ false
   pub first_by : first ≡ first_by r v.truths v.running v.counts
 
-pub is_record : {v : Sources} {w : List ℕ} {i to k : ℕ} {r : Program} → CanLay v w i to k → r ≡ v.records i → IsRecord v i r
-is_record can e = record { inside = can.inside; low = can.low; is = e }
+module _ {v : Sources} {w : List ℕ} {i to k : ℕ} {r : Program} (K : CanLay v w i to k) (is : r ≡ v.records i) where
+  pub is_record : IsRecord v i r
+  is_record = record { inside = K.inside; low = K.low; is = is }
 
-pub of_parts :
-    {v : Sources} {i first : ℕ} {r : Program} {own : Bool}
-    → IsRecord v i r → own ≡ has_own r.kind → own ≡ false → first ≡ first_by r v.truths v.running v.counts → OfParts v i r first
-of_parts I e n f = record { of = I; other = sym e ∙ n; first_by = f }
+  pub of_parts : {first : ℕ} {own : Bool} → own ≡ has_own r.kind → own ≡ false → first ≡ first_by r v.truths v.running v.counts → OfParts v i r first
+  of_parts e n f = record { of = is_record; other = sym e ∙ n; first_by = f }
 
 module _ {W : World} {s : State} {v : Sources} (C : Counted W s v) where
   abbrev p : ℕ → Program
@@ -251,11 +249,3 @@ module _ {W : World} {s : State} {v : Sources} (C : Counted W s v) where
       };
       kept = kept_put to to 0 0 1 w w' P (omega arith);
     }
-
-pub in_words : {r : Program} → TwoBytes r → InWords r
-in_words b = record { a = omega (arith, b.a); b = omega (arith, b.b) }
-
--- the records of a sheet with the four more are few
-pub many_few : (interrupts : Bool) (n i : ℕ) → n ≤ 256 → i < extended_size interrupts n → i < 2 ^ 32
-many_few true n i h l = omega arith
-many_few false n i h l = omega arith

@@ -128,11 +128,6 @@ split {v} {finals} {w} {f} {to} K {tag} {left} e n0 n1 el =
       size_is = at_size K.rest w f K.at ∙ ap nodes P.is;
     }
 
--- the right part was tried, the left one having made none: there is room to put the left part beside what it left, which answers for both
-pub record RightTried (W : World) (s : State) (p : ℕ → Program) (g : Rest) (tag f to left : ℕ) (done : Bool) (k : ℕ) (w w₂ : List ℕ) (u : Turn) : Type 0 where
-  pub can : CanEndRight tag (f + 3) to left w₂ u
-  pub ends : {w' : List ℕ} {z : Turn} → EndsRight tag (f + 3) to left done w₂ w' u z → Stepped W s p g k to w w' z
-
 module _ {v : Sources} {finals : List Bool} {w : List ℕ} {f to tag left : ℕ} {g : Rest} (X : Split v finals w f to tag left g) where
   abbrev p : ℕ → Program
   p = v.records
@@ -164,7 +159,10 @@ module _ {v : Sources} {finals : List Bool} {w : List ℕ} {f to tag left : ℕ}
   parts_inside = omega (arith, X.below, X.parts.left_is)
 
   -- after the left part was tried
-  module _ {w₁ : List ℕ} (E : Kept (to + 3) w w₁) where
+  module _ {k : ℕ} {w₁ : List ℕ} {t : Turn} (M : StepsRest v finals (f + 3) k (to + 3) w w₁ t) where
+    E : Kept (to + 3) w w₁
+    E = (M X.world X.state X.tabled l X.parts.l_at).kept
+
     pub right_at : At X.parts.r w₁ (f + 3 + 3 * left)
     right_at = at_kept r (f + 3 + 3 * left) (to + 3) w w₁ E (omega (arith, parts_inside)) X.parts.r_at
 
@@ -187,7 +185,10 @@ module _ {v : Sources} {finals : List Bool} {w : List ℕ} {f to tag left : ℕ}
     unfolding size_at
     right_falls e = omega (arith, at_size r w₁ (f + 3 + 3 * left) right_at, X.size_is, nodes_pos l)
 
-  module _ {W : World} {s : State} (T : Tabled W s v finals) {k : ℕ} {w₁ : List ℕ} {t : Turn} (S : Stepped W s v.records X.parts.l k (to + 3) w w₁ t) where
+  module _ {W : World} {s : State} (T : Tabled W s v finals) {k : ℕ} {w₁ : List ℕ} {t : Turn} (M : StepsRest v finals (f + 3) k (to + 3) w w₁ t) where
+    S : Stepped W s p l k (to + 3) w w₁ t
+    S = M W s T l X.parts.l_at
+
     abbrev L : List RestTransition
     L = rest_transitions W s p l
 
@@ -212,7 +213,7 @@ module _ {v : Sources} {finals : List Bool} {w : List ℕ} {f to tag left : ℕ}
           record {
             three = X.parts.three;
             right = r;
-            at = right_at S.kept;
+            at = right_at M;
             below = omega (arith, parts_inside);
             room = record { inside = omega (arith, X.inside, S.kept.len); small = omega (arith, X.small, S.kept.len) };
           }
@@ -220,7 +221,7 @@ module _ {v : Sources} {finals : List Bool} {w : List ℕ} {f to tag left : ℕ}
       pub made_stepped : {w' : List ℕ} {z : Turn} → EndsLeft tag (f + 3 + 3 * left) to n e w₁ w' z → Stepped W s v.records g k to w w' z
       unfolding rest_transitions
       made_stepped {w'} {z} (n', ez, wraps) =
-          let Y = wraps r (right_at S.kept) in
+          let Y = wraps r (right_at M) in
           subst (λ (z : Turn). Stepped W s p g k to w w' z) (sym ez)
           (record {
             turned =
@@ -249,12 +250,15 @@ module _ {v : Sources} {finals : List Bool} {w : List ℕ} {f to tag left : ℕ}
       stays_stepped nb ex = record {
         turned = (
           counted ∙ omega (arith, both_count, ap (λ (b : Bool). cond b (length R) 0) nb),
-          ex r (right_at S.kept) ∙ final_is (left_of S q).1 (ap (λ (l : List Bool). final_by_table l r) T.finals_are ∙ final_in W s p v.many r X.right_in),
+          ex r (right_at M) ∙ final_is (left_of S q).1 (ap (λ (l : List Bool). final_by_table l r) T.finals_are ∙ final_in W s p v.many r X.right_in),
         );
         kept = kept_less to (to + 3) w w₁ S.kept (omega arith);
       }
 
-      module _ (yb : b ≡ true) {x : ℕ} (ex : x ≡ past (eqb tag 3) (3 + 3 * left)) {w₂ : List ℕ} {u : Turn} (U : Stepped W s v.records X.parts.r j (to + x) w₁ w₂ u) where
+      module _ (yb : b ≡ true) {x : ℕ} (ex : x ≡ past (eqb tag 3) (3 + 3 * left)) {w₂ : List ℕ} {u : Turn} (N : StepsRest v finals (f + 3 + 3 * left) j (to + x) w₁ w₂ u) where
+        U : Stepped W s p r j (to + x) w₁ w₂ u
+        U = N W s T r (right_at M)
+
         kept_two : Kept to w w₂
         kept_two = kept_trans to (to + x) w w₁ w₂ (kept_less to (to + 3) w w₁ S.kept (omega arith)) U.kept (omega arith)
 
@@ -267,7 +271,7 @@ module _ {v : Sources} {finals : List Bool} {w : List ℕ} {f to tag left : ℕ}
                 record { inside = omega (arith, X.inside, X.parts.left_is, kept_two.len); small = omega (arith, X.small, kept_two.len) }
             go (Passed i d) B = tt
 
-        goes_stepped : {w' : List ℕ} {z : Turn} → EndsRight tag (f + 3) to left done w₂ w' u z → Stepped W s v.records g k to w w' z
+        pub goes_stepped : {w' : List ℕ} {z : Turn} → EndsRight tag (f + 3) to left done w₂ w' u z → Stepped W s v.records g k to w w' z
         unfolding rest_transitions
         goes_stepped {w'} {z} D = go u U.turned D
           where
@@ -294,8 +298,5 @@ module _ {v : Sources} {finals : List Bool} {w : List ℕ} {f to tag left : ℕ}
                   kept = kept_two;
                 }))
 
-        pub right_tried : RightTried W s v.records g tag f to left done k w w₂ u
-        right_tried = record {
-          can = record { room = goes_room; three = X.parts.three; below = omega (arith, parts_inside) };
-          ends = goes_stepped;
-        }
+        pub right_ends : CanEndRight tag (f + 3) to left w₂ u
+        right_ends = record { room = goes_room; three = X.parts.three; below = omega (arith, parts_inside) }

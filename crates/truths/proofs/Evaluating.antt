@@ -4,10 +4,8 @@ use Prim.Native.Nat.{ℕ, ◌<◌}
 use mathlib.Core.Path.{◌≡◌, sym, subst}
 use mathlib.Core.List.{List}
 use native.Mathlib.Omega.{arith}
-use lib.Dec.{T}
 use Rattle.records.specs.declared.Formula.{Formula}
 use Rattle.records.specs.Records.{formula_at}
-use Rattle.kinds.specs.Formulas.{has_a, has_b}
 use Rattle.sets.specs.Sets.{Has}
 use Rattle.golog.specs.declared.State.{State}
 use Rattle.golog.specs.World.{World}
@@ -24,16 +22,10 @@ module _ {formulas table : List ℕ} {filled i : ℕ} (E : Evaluable formulas ta
     pub rule : Ruled i r
     rule = subst (Ruled i) (sym of) (E.ruled i (omega arith))
 
-    pub a_lower : T (has_a r.kind) → r.a < i
-    a_lower t = rule.lower.0 t
-
-    pub b_lower : T (has_b r.kind) → r.b < i
-    b_lower t = rule.lower.1 t
-
     pub evaluated : (W : World) (s : State) {values set : List ℕ} → WrittenFrom formulas W → s.values ≡ values → Has (said_in (says W s) r values) set → HoldsIn W s i set
     evaluated W s {values} {set} from v h =
         said_held W s formulas from i (E.ruled i (omega arith))
         (subst (λ (f : Formula). Has (said_in (says W s) f s.values) set) of (subst (λ (u : List ℕ). Has (said_in (says W s) r u) set) (sym v) h))
 
 -- what an evaluation asks of its parts
-pub ruleset parts = (evaluable_lower, rule, a_lower, b_lower)
+pub ruleset parts = (evaluable_lower, rule)
