@@ -12,7 +12,7 @@ ghost use Rattle.positions.specs.Found.{tables_of, CanLook, ForksRecord, CanGo, 
 ghost use Rattle.positions.specs.Levels.{digits_over, digits_of};
 ghost use Rattle.golog.specs.Written.{entry_in, program_read};
 ghost use Rattle.records.specs.Placeholders.{put, reading};
-ghost use Rattle.kinds.specs.Programs.{has_a, has_condition, uses_a, uses_b, tag_a, tag_b};
+ghost use Rattle.kinds.specs.Programs.{has_a, has_condition, picks, uses_a, uses_b, tag_a, tag_b};
 ghost use Rattle.sets.specs.Sets.{member, set_at};
 ghost use Rattle.steps.specs.Laid.{InWords, past};
 ghost use Rattle.positions.specs.Read.{Readable};
@@ -20,6 +20,7 @@ ghost use Rattle.positions.specs.Placed.{CanPlace, PlacesRecord, LaidOwn, Wrappe
 ghost use Rattle.remaining.specs.Leaves.{sibling_a, wrap_a, wrap_b};
 ghost use Rattle.words.specs.Words.{Room};
 
+use kinds::programs::{Kind, kind_of};
 use records::Program;
 use steps::{Laid, Setting};
 
@@ -34,12 +35,12 @@ fn digits_by(r: Program, endable: bool, span: u32, da: u32, db: u32) -> u32
     requires { (da < 2 ^ 31) × (db < 2 ^ 31) }
     ensures { result ≡ digits_by r endable span da db }
 {
-    match r.kind {
-        3 => da.max(db) + u32::from(endable),
-        4 | 8 => da.max(db) + 1,
-        5 | 7 | 10 | 11 => da,
-        6 | 9 => da.max(db),
-        12 => db + u32::from(span != 1),
+    match kind_of(r.kind) {
+        Some(Kind::Sequence) => da.max(db) + u32::from(endable),
+        Some(Kind::Choice | Kind::Together) => da.max(db) + 1,
+        Some(Kind::Star | Kind::While | Kind::Iteration | Kind::Interrupt) => da,
+        Some(Kind::If | Kind::Over) => da.max(db),
+        Some(Kind::Pick) => db + u32::from(span != 1),
         _ => 0,
     }
 }
@@ -102,11 +103,11 @@ fn read_a(r: Program, e: usize, span: usize) -> usize
     requires { Readable r e span }
     ensures { (result ≡ (program_read e span r).a) × (result < 2 ^ 32) }
 {
-    match r.kind {
-        1 => entry_in(r.a, e),
-        2..=11 => reading_of(r.a, e),
-        12 => span,
-        _ => r.a,
+    match kind_of(r.kind) {
+        None | Some(Kind::Nil) => r.a,
+        Some(Kind::Act) => entry_in(r.a, e),
+        Some(Kind::Pick) => span,
+        _ => reading_of(r.a, e),
     }
 }
 
@@ -127,8 +128,8 @@ fn read_c(r: Program, e: usize, span: usize) -> usize
     requires { Readable r e span }
     ensures { result ≡ (program_read e span r).c }
 {
-    match r.kind {
-        6 | 7 | 11 => reading_of(r.c, e),
+    match kind_of(r.kind) {
+        Some(Kind::If | Kind::While | Kind::Interrupt) => reading_of(r.c, e),
         _ => r.c,
     }
 }
@@ -224,8 +225,8 @@ fn condition(r: Program, table: &[u32], e: usize) -> bool
     requires { (8256 ≤ length table.now) × (T (has_condition r.kind) → r.c < 512) × (e < 256) }
     ensures { T (has_condition r.kind) → result ≡ member (set_at table.now r.c) e }
 {
-    match r.kind {
-        6 | 7 | 11 => sets::has_in(table, r.c, e),
+    match kind_of(r.kind) {
+        Some(Kind::If | Kind::While | Kind::Interrupt) => sets::has_in(table, r.c, e),
         _ => false,
     }
 }
@@ -245,11 +246,11 @@ fn goes_b(r: Program, h: bool, table: &[u32], e: usize) -> bool
     requires { (8256 ≤ length table.now) × (T (has_a r.kind) → r.a < 260) × (e < 256) }
     ensures { result ≡ uses_b r.kind (member (set_at table.now (512 + r.a)) e) h (not (member (set_at table.now (772 + r.a)) e)) }
 {
-    match r.kind {
-        3 => final_in(table, r.a, e),
-        4 | 8 => true,
-        6 => !h,
-        9 => !enabled_in(table, r.a, e),
+    match kind_of(r.kind) {
+        Some(Kind::Sequence) => final_in(table, r.a, e),
+        Some(Kind::Choice | Kind::Together) => true,
+        Some(Kind::If) => !h,
+        Some(Kind::Over) => !enabled_in(table, r.a, e),
         _ => false,
     }
 }
@@ -259,10 +260,9 @@ fn gap(kind: usize, goes: bool, d: usize) -> u64
     requires { d ≤ 16 }
     ensures { result ≡ gap_of kind goes d }
 {
-    if goes && matches!(kind, 3 | 4 | 8) {
-        apart_of(d)
-    } else {
-        0
+    match kind_of(kind) {
+        Some(Kind::Sequence | Kind::Choice | Kind::Together) if goes => apart_of(d),
+        _ => 0,
     }
 }
 
@@ -331,8 +331,12 @@ fn fork_values(r: Program, n: usize, d: usize, table: &[u32], e: usize, k: u64) 
     Fork { r, first, second }
 }
 
-// The kind that chooses a value.
-const CHOICE: usize = 12;
+// Whether a record chooses a value.
+fn picks(kind: usize) -> bool
+    ensures { result ≡ picks kind }
+{
+    kind_of(kind) == Some(Kind::Pick)
+}
 
 // The ways of record i, read in e, from position k on.
 fn ways(
@@ -351,7 +355,7 @@ fn ways(
 {
     let r = leaves::record_at(programs, v.n, v.interrupts, i);
     let d = records::value_in(digits, i, 0) as usize;
-    if r.kind == CHOICE {
+    if picks(r.kind) {
         let n = records::value_in(spans, i, 1) as usize;
         return fork_values(r, n, d, table, e, k);
     }

@@ -1,7 +1,6 @@
 -- By whether it chooses a value (Finding.antt). Assumes nothing.
 use mathlib.Core.Path.{◌≡◌, sym, ◌∙◌, ap, subst}
 use mathlib.Core.Bool.{true, false}
-use borrow.Author.Tests.{eq-eqb, ne_eqb}
 use Rattle.kinds.specs.Programs.{picks, has_own}
 use Rattle.records.specs.declared.Program.{Program}
 use Rattle.records.specs.Records.{TwoBytes}
@@ -19,16 +18,16 @@ pub fork_values-requires-clause-n_bound : goal.fork_values-requires-clause-n_bou
 fork_values-requires-clause-n_bound c =
     let C = c.requires.can_look in
     let is = c.record_at-r.ensures.record in
-    let p : picks c.record_at-r.result.kind ≡ true = eq-eqb c.record_at-r.result.kind 12 c.if-r-eq-CHOICE.true in
+    let p : picks c.record_at-r.result.kind ≡ true = sym c.picks.ensures ∙ c.if-picks.true in
     let n = c.value_in-n.ensures ∙ span_is C is p in
     can_choose C is p n
 
-pub returns-then-r-eq-CHOICE : goal.returns-then-r-eq-CHOICE
-returns-then-r-eq-CHOICE c =
+pub returns-then-picks : goal.returns-then-picks
+returns-then-picks c =
     let C = c.requires.can_look in
     let is = c.record_at-r.ensures.record in
     let d = c.value_in-d.ensures in
-    let p : picks c.record_at-r.result.kind ≡ true = eq-eqb c.record_at-r.result.kind 12 c.if-r-eq-CHOICE.true in
+    let p : picks c.record_at-r.result.kind ≡ true = sym c.picks.ensures ∙ c.if-picks.true in
     let n = c.value_in-n.ensures ∙ span_is C is p in
     record {
       record_is = c.fork_values.ensures.record_is ∙ is;
@@ -49,7 +48,7 @@ returns c =
     let C = c.requires.can_look in
     let is = c.record_at-r.ensures.record in
     let d = c.value_in-d.ensures in
-    let p : picks c.record_at-r.result.kind ≡ false = ne_eqb c.record_at-r.result.kind 12 c.if-r-eq-CHOICE.false in
+    let p : picks c.record_at-r.result.kind ≡ false = sym c.picks.ensures ∙ c.if-picks.false in
     let same = parts_record c.fork_parts.ensures in
     record {
       record_is = same ∙ is;
