@@ -17,7 +17,7 @@ use Rattle.golog.specs.Written.{span_of, program_read, written_records}
 use Rattle.remaining.specs.Leaves.{RestTransition, on_rest, wrap_a, wrap_b, sibling_a, leaf_of}
 use Rattle.remaining.specs.Extended.{table_of}
 use Rattle.leaves.specs.Tallies.{extended_size}
-use Rattle.steps.specs.declared.Setting.{Setting}
+use Rattle.positions.specs.declared.tables.Tables as given
 use Rattle.positions.specs.declared.Way.{Way}
 use Rattle.positions.specs.declared.Fork.{Fork}
 use Rattle.positions.specs.Spots.{Spot, apart, spots_of, from_spot}
@@ -48,14 +48,14 @@ pub record Tables : Type 0 where
   pub digits : List ℕ
   pub sets : List ℕ
 
-abbrev pub tables_of : (programs : List ℕ) → Setting → (spans digits sets : List ℕ) → Tables
-tables_of programs v spans digits sets = record {
-  records = table_of programs v.n v.interrupts;
-  many = extended_size v.interrupts v.n;
-  running = v.running;
-  spans = spans;
-  digits = digits;
-  sets = sets;
+abbrev pub tables_of : given.Tables → Tables
+tables_of t = record {
+  records = table_of t.programs.now t.setting.n t.setting.interrupts;
+  many = extended_size t.setting.interrupts t.setting.n;
+  running = t.setting.running;
+  spans = t.spans.now;
+  digits = t.digits.now;
+  sets = t.table.now;
 }
 
 abbrev pub digits_in : Tables → ℕ → ℕ

@@ -22,7 +22,11 @@ ghost use Rattle.words.specs.Words.{Room};
 
 use kinds::programs::{Kind, kind_of};
 use records::Program;
-use steps::{Laid, Setting};
+use steps::Laid;
+
+mod tables;
+
+pub use tables::Tables;
 
 // How many environments there are.
 pub const ENVIRONMENTS: usize = 256;
@@ -339,74 +343,46 @@ fn picks(kind: usize) -> bool
 }
 
 // The ways of record i, read in e, from position k on.
-fn ways(
-    programs: &[u8],
-    v: Setting,
-    spans: &[u32],
-    digits: &[u32],
-    table: &[u32],
-    i: usize,
-    e: usize,
-    k: u64,
-) -> Fork
-    requires program_table { ProgramTable programs.now v.n }
-    requires can_look { CanLook (tables_of programs.now v spans.now digits.now table.now) i e }
-    ensures { ForksRecord (tables_of programs.now v spans.now digits.now table.now) i e k result }
+fn ways(t: &Tables, i: usize, e: usize, k: u64) -> Fork
+    requires { CanLook (tables_of t.now) i e }
+    ensures { ForksRecord (tables_of t.now) i e k result }
 {
-    let r = leaves::record_at(programs, v.n, v.interrupts, i);
-    let d = records::value_in(digits, i, 0) as usize;
+    let r = leaves::record_at(t.programs, t.setting.n, t.setting.interrupts, i);
+    let d = records::value_in(t.digits, i, 0) as usize;
     if picks(r.kind) {
-        let n = records::value_in(spans, i, 1) as usize;
-        return fork_values(r, n, d, table, e, k);
+        let n = records::value_in(t.spans, i, 1) as usize;
+        return fork_values(r, n, d, t.table, e, k);
     }
-    fork_parts(r, v.running, d, table, e, k)
+    fork_parts(r, t.setting.running, d, t.table, e, k)
 }
 
 // The position of the first transition that a way leads to: straight down, since a record that has none is passed by at once.
-fn find_way(
-    programs: &[u8],
-    v: Setting,
-    spans: &[u32],
-    digits: &[u32],
-    table: &[u32],
-    way: Option<Way>,
-) -> Option<u64>
-    requires program_table { ProgramTable programs.now v.n }
-    requires can_go { ForSome way (CanGo (tables_of programs.now v spans.now digits.now table.now)) }
-    ensures { FindsWay (tables_of programs.now v spans.now digits.now table.now) way result }
+fn find_way(t: &Tables, way: Option<Way>) -> Option<u64>
+    requires { ForSome way (CanGo (tables_of t.now)) }
+    ensures { FindsWay (tables_of t.now) way result }
 {
     let w = way?;
-    if !enabled_in(table, w.i, w.e) {
+    if !enabled_in(t.table, w.i, w.e) {
         return None;
     }
-    let f = ways(programs, v, spans, digits, table, w.i, w.e, w.k);
+    let f = ways(t, w.i, w.e, w.k);
     if kinds::programs::has_own(f.r.kind) {
         return (w.k == 0).then_some(w.base);
     }
-    if let Some(at) = find_way(programs, v, spans, digits, table, f.first) {
+    if let Some(at) = find_way(t, f.first) {
         return Some(w.base + at);
     }
-    let at = find_way(programs, v, spans, digits, table, f.second)?;
+    let at = find_way(t, f.second)?;
     Some(w.base + at)
 }
 
 // The position of the first transition of record i, read in e, at k or later.
-pub fn find_record(
-    programs: &[u8],
-    v: Setting,
-    spans: &[u32],
-    digits: &[u32],
-    table: &[u32],
-    i: usize,
-    e: usize,
-    k: u64,
-) -> Option<u64>
-    requires program_table { ProgramTable programs.now v.n }
-    requires can_look { CanLook (tables_of programs.now v spans.now digits.now table.now) i e }
-    ensures { FindsRecord (tables_of programs.now v spans.now digits.now table.now) i e k result }
+pub fn find_record(t: &Tables, i: usize, e: usize, k: u64) -> Option<u64>
+    requires { CanLook (tables_of t.now) i e }
+    ensures { FindsRecord (tables_of t.now) i e k result }
 {
     let w = Way { i, e, k, base: 0 };
-    find_way(programs, v, spans, digits, table, Some(w))
+    find_way(t, Some(w))
 }
 
 // Lays out the own transition of record r, which leaves nothing.
@@ -450,34 +426,28 @@ fn wrap_laid_b(work: &mut [u32], to: usize, r: Program, x: Laid) -> Laid
 // Lays out the transition of record i, read in e, at position k: its own, or the one that its ways lead to. What stands beside what it leaves
 // is read in e too, so that it does not see a value chosen below.
 pub fn lay_record(
-    programs: &[u8],
-    v: Setting,
-    spans: &[u32],
-    digits: &[u32],
-    table: &[u32],
+    t: &Tables,
     work: &mut [u32],
     i: usize,
     e: usize,
     to: usize,
     k: u64,
 ) -> Laid
-    requires program_table { ProgramTable programs.now v.n }
-    requires can_place { CanPlace (tables_of programs.now v spans.now digits.now table.now) work.old i e to k }
-    ensures { PlacesRecord (tables_of programs.now v spans.now digits.now table.now) i e k to
-        work.old work.new result.entry result.size }
+    requires { CanPlace (tables_of t.now) work.old i e to k }
+    ensures { PlacesRecord (tables_of t.now) i e k to work.old work.new result.entry result.size }
 {
-    let f = ways(programs, v, spans, digits, table, i, e, k);
-    let r = read(f.r, e, records::value_in(spans, i, 1) as usize);
+    let f = ways(t, i, e, k);
+    let r = read(f.r, e, records::value_in(t.spans, i, 1) as usize);
     if kinds::programs::has_own(r.kind) {
         return lay_own(work, to, r);
     }
     if let Some(w) = f.first {
         let at = to + steps::past_words(kinds::programs::tag_a(r.kind) == 0, 3);
-        let x = lay_record(programs, v, spans, digits, table, work, w.i, w.e, at, w.k);
+        let x = lay_record(t, work, w.i, w.e, at, w.k);
         return wrap_laid_a(work, to, r, reading_of(i, e), x);
     }
     let w = f.second.unwrap();
     let at = to + steps::past_words(kinds::programs::tag_b(r.kind) == 0, 6);
-    let x = lay_record(programs, v, spans, digits, table, work, w.i, w.e, at, w.k);
+    let x = lay_record(t, work, w.i, w.e, at, w.k);
     wrap_laid_b(work, to, r, x)
 }

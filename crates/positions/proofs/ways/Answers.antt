@@ -9,14 +9,14 @@ use Rattle.positions.proofs.ways.Goals as goal
 
 pub fork_values-requires-clause-can_fork : goal.fork_values-requires-clause-can_fork
 fork_values-requires-clause-can_fork c =
-    let C = c.requires.can_look in
+    let C = c.requires in
     let is = c.record_at-r.ensures.record in
     let d = c.value_in-d.ensures in
     can_fork C is d
 
 pub fork_values-requires-clause-n_bound : goal.fork_values-requires-clause-n_bound
 fork_values-requires-clause-n_bound c =
-    let C = c.requires.can_look in
+    let C = c.requires in
     let is = c.record_at-r.ensures.record in
     let p : picks c.record_at-r.result.kind ≡ true = sym c.picks.ensures ∙ c.if-picks.true in
     let n = c.value_in-n.ensures ∙ span_is C is p in
@@ -24,7 +24,7 @@ fork_values-requires-clause-n_bound c =
 
 pub returns-then-picks : goal.returns-then-picks
 returns-then-picks c =
-    let C = c.requires.can_look in
+    let C = c.requires in
     let is = c.record_at-r.ensures.record in
     let d = c.value_in-d.ensures in
     let p : picks c.record_at-r.result.kind ≡ true = sym c.picks.ensures ∙ c.if-picks.true in
@@ -38,14 +38,14 @@ returns-then-picks c =
 
 pub fork_parts-requires : goal.fork_parts-requires
 fork_parts-requires c =
-    let C = c.requires.can_look in
+    let C = c.requires in
     let is = c.record_at-r.ensures.record in
     let d = c.value_in-d.ensures in
     can_fork C is d
 
 pub returns : goal.returns
 returns c =
-    let C = c.requires.can_look in
+    let C = c.requires in
     let is = c.record_at-r.ensures.record in
     let d = c.value_in-d.ensures in
     let p : picks c.record_at-r.result.kind ≡ false = sym c.picks.ensures ∙ c.if-picks.false in
