@@ -3,7 +3,6 @@
 #![tactic(auto)]
 
 ghost use Rattle.std.specs.Prelude.{◌≡◌, ◌&&◌, ◌-◌, ◌*◌, ◌^◌, ◌≤◌, ◌<◌, length};
-ghost use Rattle.records.specs.Records.{ProgramTable};
 ghost use Rattle.records.specs.Placeholders.{read_in, environment_of};
 ghost use Rattle.remaining.specs.Rest.{Rest};
 ghost use Rattle.words.specs.Words.{At, CanPutCopy};
@@ -14,8 +13,8 @@ ghost use Rattle.cursors.specs.Ended.{finals_in, counts_in, distances_in, CanEnd
 ghost use Rattle.cursors.specs.Going.{cursor_at, CanPoint, FindsLeaf, FindsRest, CanLayRest, PlacesRest, GotRight, GotLeft};
 
 use ends::Totals;
-use positions::ENVIRONMENTS;
-use steps::{Laid, Setting};
+use positions::{ENVIRONMENTS, Tables};
+use steps::Laid;
 
 // Whether the remaining program at `at` is final.
 pub fn final_rest(table: &[u32], work: &[u32], at: usize) -> bool
@@ -93,31 +92,26 @@ fn position(at: usize, place: usize, k: u64) -> u64
 
 // The first transition from the cursor on of a record, whose node is at `at`.
 fn find_leaf(
-    programs: &[u8],
-    v: Setting,
-    spans: &[u32],
-    digits: &[u32],
-    table: &[u32],
+    t: &Tables,
     n: usize,
     at: usize,
     place: usize,
     k: u64,
 ) -> Result<Cursor, Passed>
-    requires program_table { ProgramTable programs.now v.n }
-    requires can_look { CanLook (tables_of programs.now v spans.now digits.now table.now) (read_in n) (environment_of n) }
-    ensures { FindsLeaf (tables_of programs.now v spans.now digits.now table.now) n at place k result }
+    requires { CanLook (tables_of t.now) (read_in n) (environment_of n) }
+    ensures { FindsLeaf (tables_of t.now) n at place k result }
 {
     let i = n / ENVIRONMENTS;
     let e = n % ENVIRONMENTS;
     let passed = Passed {
-        done: positions::final_in(table, i, e),
-        idle: !positions::enabled_in(table, i, e),
+        done: positions::final_in(t.table, i, e),
+        idle: !positions::enabled_in(t.table, i, e),
     };
     if at < place {
         return Err(passed);
     }
     let j = position(at, place, k);
-    match positions::find_record(programs, v, spans, digits, table, i, e, j) {
+    match positions::find_record(t, i, e, j) {
         Some(k) => Ok(Cursor { place: at, k }),
         None => Err(passed),
     }
@@ -134,19 +128,14 @@ fn final_after(done: bool, table: &[u32], work: &[u32], at: usize) -> bool
 // The first transition from the cursor on of the remaining program at `at`: one pass. Of records before the cursor's place only the sets are
 // asked, for whether right parts go.
 pub fn find_rest(
-    programs: &[u8],
-    v: Setting,
-    spans: &[u32],
-    digits: &[u32],
-    table: &[u32],
+    t: &Tables,
     work: &[u32],
     at: usize,
     place: usize,
     k: u64,
 ) -> Result<Cursor, Passed>
-    requires program_table { ProgramTable programs.now v.n }
-    requires can_point { CanPoint (tables_of programs.now v spans.now digits.now table.now) work.now at }
-    ensures { FindsRest (tables_of programs.now v spans.now digits.now table.now) work.now at place k result }
+    requires { CanPoint (tables_of t.now) work.now at }
+    ensures { FindsRest (tables_of t.now) work.now at place k result }
 {
     let tag = words::tag_at(work, at);
     if tag == words::GONE {
@@ -157,21 +146,21 @@ pub fn find_rest(
     }
     if tag == words::LEAF {
         let n = words::record_at(work, at);
-        return find_leaf(programs, v, spans, digits, table, n, at, place, k);
+        return find_leaf(t, n, at, place, k);
     }
     let left = at + 3;
     let right = left + 3 * words::size_at(work, left);
-    let x = match find_rest(programs, v, spans, digits, table, work, left, place, k) {
+    let x = match find_rest(t, work, left, place, k) {
         Ok(found) => return Ok(found),
         Err(passed) => passed,
     };
     if !ends::goes_right(tag, x.done, x.idle) {
         return Err(Passed {
-            done: final_after(x.done, table, work, right),
+            done: final_after(x.done, t.table, work, right),
             idle: x.idle,
         });
     }
-    let y = match find_rest(programs, v, spans, digits, table, work, right, place, k) {
+    let y = match find_rest(t, work, right, place, k) {
         Ok(found) => return Ok(found),
         Err(passed) => passed,
     };
@@ -214,38 +203,32 @@ fn put_left(work: &mut [u32], from: usize, to: usize, tag: u32, n: usize, x: Lai
 // Lays out the transition at the cursor of the remaining program at `from`: straight down to its record's node by the place, and on the way
 // back up the constructs around what it leaves.
 pub fn lay_rest(
-    programs: &[u8],
-    v: Setting,
-    spans: &[u32],
-    digits: &[u32],
-    table: &[u32],
+    t: &Tables,
     work: &mut [u32],
     from: usize,
     to: usize,
     place: usize,
     k: u64,
 ) -> Laid
-    requires program_table { ProgramTable programs.now v.n }
-    requires can_lay_rest { CanLayRest (tables_of programs.now v spans.now digits.now table.now) work.old from to place k }
-    ensures { PlacesRest (tables_of programs.now v spans.now digits.now table.now) from place k to
-        work.old work.new result }
+    requires { CanLayRest (tables_of t.now) work.old from to place k }
+    ensures { PlacesRest (tables_of t.now) from place k to work.old work.new result }
 {
     let tag = words::tag_at(work, from);
     if tag == words::LEAF {
         let j = words::record_at(work, from);
         let i = j / ENVIRONMENTS;
         let e = j % ENVIRONMENTS;
-        return positions::lay_record(programs, v, spans, digits, table, work, i, e, to, k);
+        return positions::lay_record(t, work, i, e, to, k);
     }
     let left = from + 3;
     let n = words::size_at(work, left);
     let right = left + 3 * n;
     if place < right {
         let at = to + 3;
-        let x = lay_rest(programs, v, spans, digits, table, work, left, at, place, k);
+        let x = lay_rest(t, work, left, at, place, k);
         return put_right(work, right, to, tag, x);
     }
     let at = to + steps::past_words(tag == words::SEQUENCE, 3 + 3 * n);
-    let x = lay_rest(programs, v, spans, digits, table, work, right, at, place, k);
+    let x = lay_rest(t, work, right, at, place, k);
     put_left(work, left, to, tag, n, x)
 }
