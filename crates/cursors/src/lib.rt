@@ -2,9 +2,9 @@
 // at least, and their transitions by cursors. A leaf's number is that of its record, read in its environment (records/specs/Placeholders.antt).
 #![tactic(auto)]
 
-ghost use Rattle.std.specs.Prelude.{◌≡◌, ◌&&◌, ◌-◌, ◌*◌, ◌^◌, ◌≤◌, ◌<◌, length};
+ghost use Rattle.std.specs.Prelude.{◌≡◌, true, ◌-◌, ◌*◌, ◌^◌, ◌≤◌, ◌<◌, length, get_or};
 ghost use Rattle.records.specs.Placeholders.{read_in, environment_of};
-ghost use Rattle.remaining.specs.Rest.{Rest};
+ghost use Rattle.remaining.specs.Rest.{Rest, leaf};
 ghost use Rattle.words.specs.Words.{At, CanPutCopy};
 ghost use Rattle.ends.specs.Ends.{final_by_table, Totalled};
 ghost use Rattle.steps.specs.Stepped.{CanEndLeft};
@@ -16,56 +16,46 @@ use ends::Totals;
 use positions::{ENVIRONMENTS, Tables};
 use steps::Laid;
 
+// Whether the record of leaf n is final.
+fn final_of(table: &[u32], n: usize) -> bool
+    requires { (8256 ≤ length table.now) × (n < 66560) }
+    ensures { result ≡ get_or (finals_in table.now) n true }
+{
+    positions::final_in(table, n / ENVIRONMENTS, n % ENVIRONMENTS)
+}
+
 // Whether the remaining program at `at` is final.
 pub fn final_rest(table: &[u32], work: &[u32], at: usize) -> bool
     requires { CanEnd table.now work.now at }
     ensures { (g : Rest) → At g work.now at → result ≡ final_by_table (finals_in table.now) g }
 {
-    let tag = words::tag_at(work, at);
-    if tag == words::GONE {
-        return true;
-    }
-    if tag == words::LEAF {
-        let n = words::record_at(work, at);
-        return positions::final_in(table, n / ENVIRONMENTS, n % ENVIRONMENTS);
-    }
-    let left = words::size_at(work, at + 3);
-    final_rest(table, work, at + 3) && final_rest(table, work, at + 3 + 3 * left)
+    ends::final_by(&|n| final_of(table, n), work, at)
 }
 
-// The totals of the remaining program at `at`: as many as there are records that go and have a transition, so 0 where there is none.
+// The totals of leaf n: as many as there are records that go and have a transition, so 0 where there is none.
+fn total_of(table: &[u32], distances: &[u32], n: usize) -> Totals
+    requires { (8256 ≤ length table.now) × (n < 66560) }
+    ensures { Totalled (finals_in table.now) (distances_in distances.now) (counts_in table.now) (leaf n) result }
+{
+    let i = n / ENVIRONMENTS;
+    let count = usize::from(positions::enabled_in(table, i, n % ENVIRONMENTS));
+    let far = records::value_in(distances, i, 0) as usize;
+    Totals {
+        done: final_of(table, n),
+        count,
+        far,
+        soon: ends::soon_of(count, far),
+    }
+}
+
+// The totals of the remaining program at `at`.
 pub fn total_rest(table: &[u32], distances: &[u32], work: &[u32], at: usize) -> Totals
     requires can_end { CanEnd table.now work.now at }
     requires work_len_bound { length work.now < 2 ^ 32 }
     ensures { (g : Rest) → At g work.now at
         → Totalled (finals_in table.now) (distances_in distances.now) (counts_in table.now) g result }
 {
-    let tag = words::tag_at(work, at);
-    if tag == words::GONE {
-        return Totals {
-            done: true,
-            count: 0,
-            far: 0,
-            soon: leaves::FARTHEST,
-        };
-    }
-    if tag == words::LEAF {
-        let n = words::record_at(work, at);
-        let i = n / ENVIRONMENTS;
-        let e = n % ENVIRONMENTS;
-        let count = usize::from(positions::enabled_in(table, i, e));
-        let far = records::value_in(distances, i, 0) as usize;
-        return Totals {
-            done: positions::final_in(table, i, e),
-            count,
-            far,
-            soon: ends::soon_of(count, far),
-        };
-    }
-    let left = words::size_at(work, at + 3);
-    let l = total_rest(table, distances, work, at + 3);
-    let r = total_rest(table, distances, work, at + 3 + 3 * left);
-    ends::join_totals(tag, l, r)
+    ends::total_by(&|n| total_of(table, distances, n), work, at)
 }
 
 // Where a transition is: the place of its record's node, and its position among those of the record.
@@ -117,14 +107,6 @@ fn find_leaf(
     }
 }
 
-// Whether a left part that is final or not, and the right part at `at`, are both final.
-fn final_after(done: bool, table: &[u32], work: &[u32], at: usize) -> bool
-    requires { CanEnd table.now work.now at }
-    ensures { (g : Rest) → At g work.now at → result ≡ (done && final_by_table (finals_in table.now) g) }
-{
-    done && final_rest(table, work, at)
-}
-
 // The first transition from the cursor on of the remaining program at `at`: one pass. Of records before the cursor's place only the sets are
 // asked, for whether right parts go.
 pub fn find_rest(
@@ -156,7 +138,7 @@ pub fn find_rest(
     };
     if !ends::goes_right(tag, x.done, x.idle) {
         return Err(Passed {
-            done: final_after(x.done, t.table, work, right),
+            done: x.done && final_rest(t.table, work, right),
             idle: x.idle,
         });
     }

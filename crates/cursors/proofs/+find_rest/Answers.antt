@@ -1,6 +1,5 @@
 -- One pass: by the outermost node, and of the parts by the same (Pointing.antt). The number of nodes falls. Assumes nothing.
-use mathlib.Core.Path.{◌∙◌, ap}
-use mathlib.Core.Bool.{Bool, ◌&&◌}
+use mathlib.Core.Path.{refl, ◌∙◌}
 use Rattle.words.proofs.Standing.{gone_at, leaf_at}
 use Rattle.words.proofs.Reading.{holds_room, Construct, construct, Sized, sized}
 use Rattle.cursors.proofs.Ending.{final_is}
@@ -52,25 +51,29 @@ returns-in-Ok t c W s Q g h =
     let D = Z.parts_of g h in
     left_there D W s _ _ (c.in-Ok.ensures W s Q D.l D.l_at)
 
-pub final_after-requires : goal.final_after-requires
-final_after-requires t c =
+pub final_rest-requires : goal.final_rest-requires
+final_rest-requires t c =
     let sized_known : Sized c.args.work.now c.args.at c.tag_at-tag.result c.size_at.result =
     sized (point_stands c.requires) c.tag_at-tag.ensures c.if-tag-eq-GONE.false c.if-tag-eq-LEAF.false c.size_at.ensures in
     let Z = sized_known in
     let K = c.requires in
     point_end (point_right K (Z.parts_of K.rest K.at))
 
-pub returns-then-not-goes_right : goal.returns-then-not-goes_right
-returns-then-not-goes_right t c W s Q g h =
+pub returns-then-x : goal.returns-then-x
+returns-then-x t c W s Q g h =
     let sized_known : Sized c.args.work.now c.args.at c.tag_at-tag.result c.size_at.result =
     sized (point_stands c.requires) c.tag_at-tag.ensures c.if-tag-eq-GONE.false c.if-tag-eq-LEAF.false c.size_at.ensures in
-    let Z = sized_known in
+    let D = sized_known.parts_of g h in
     let K = c.requires in
-    let D = Z.parts_of g h in
-    let E = Z.parts_of K.rest K.at in
-    let same = final_is Q D.r (point_inside (point_right K E) D.r D.r_at) in
-    right_stays D W s _ _ (c.in-Err.ensures W s Q D.l D.l_at) c.goes_right.ensures c.if-not-goes_right.true
-    (c.final_after.ensures D.r D.r_at ∙ ap (λ (b : Bool). c.in-Err.passed.done && b) same)
+    let same = final_is Q D.r (point_inside (point_right K (sized_known.parts_of K.rest K.at)) D.r D.r_at) in
+    right_stays D W s _ _ (c.in-Err.ensures W s Q D.l D.l_at) c.goes_right.ensures c.if-not-goes_right.true (rw c.if-x.true (c.final_rest.ensures D.r D.r_at ∙ same))
+
+pub returns-else-x : goal.returns-else-x
+returns-else-x t c W s Q g h =
+    let sized_known : Sized c.args.work.now c.args.at c.tag_at-tag.result c.size_at.result =
+    sized (point_stands c.requires) c.tag_at-tag.ensures c.if-tag-eq-GONE.false c.if-tag-eq-LEAF.false c.size_at.ensures in
+    let D = sized_known.parts_of g h in
+    right_stays D W s _ _ (c.in-Err.ensures W s Q D.l D.l_at) c.goes_right.ensures c.if-not-goes_right.true (rw c.if-x.false refl)
 
 pub find_rest-requires-2 : goal.find_rest-requires-2
 find_rest-requires-2 t c =
