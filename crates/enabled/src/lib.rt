@@ -4,17 +4,19 @@
 #![tactic(auto)]
 
 ghost use Rattle.std.specs.Prelude.{◌≡◌, true, false, not, cond, ◌&&◌, ◌||◌, ℕ, ◌*◌, ◌≤◌, ◌<◌, length, get_or};
-ghost use Rattle.records.specs.Records.{TwoBytes, ProgramTable};
+ghost use Rattle.records.specs.Records.{TwoBytes};
 ghost use Rattle.sets.specs.Sets.{member, Has, set_at};
 ghost use Rattle.golog.specs.World.{start};
 ghost use Rattle.golog.specs.Written.{sees_of};
 ghost use Rattle.state.specs.Conflicts.{most_actions};
-ghost use Rattle.remaining.specs.Extended.{most_records, table_of};
-ghost use Rattle.leaves.specs.Tallies.{extended_size};
+ghost use Rattle.remaining.specs.Extended.{most_records};
+ghost use Rattle.leaves.specs.Running.{records, size};
 ghost use Rattle.enabled.specs.Spans.{seeing_of, span_by, spans_of};
 ghost use Rattle.enabled.specs.Filled.{most_formulas, final_set, enabled_set, table_sets, valuation_by, Readable};
 ghost use Rattle.enabled.specs.Filled.{BothFinal, EitherEnabled, FinalBy, EnabledBy, Fillable, Filled, FinalsFilled};
 
+use kinds::programs::{Kind, kind_of};
+use leaves::Programs;
 use records::Program;
 
 // The sets of a table: first the formulas', then these.
@@ -37,24 +39,25 @@ fn either_in(marks: &[bool], a: usize, b: usize) -> bool
 fn sees_by(r: Program, c: usize, lower: &[bool]) -> bool
     ensures { result ≡ sees_of r c lower.now }
 {
-    match r.kind {
-        1 | 2 | 6 | 7 | 11 => true,
-        3 | 4 | 8 | 9 => either_in(lower, r.a, r.b),
-        5 | 10 => records::value_in(lower, r.a, false),
-        12 => records::value_in(lower, r.b, false) & (r.c != c),
-        _ => false,
+    match kind_of(r.kind) {
+        Some(Kind::Act | Kind::Test | Kind::If | Kind::While | Kind::Interrupt) => true,
+        Some(Kind::Sequence | Kind::Choice | Kind::Together | Kind::Over) => either_in(
+            lower, r.a, r.b,
+        ),
+        Some(Kind::Star | Kind::Iteration) => records::value_in(lower, r.a, false),
+        Some(Kind::Pick) => records::value_in(lower, r.b, false) & (r.c != c),
+        None | Some(Kind::Nil) => false,
     }
 }
 
 // Which records of the table that runs see placeholder c.
-fn seeing(programs: &[u8], n: usize, interrupts: bool, c: usize) -> [bool; leaves::RECORDS]
-    requires { ProgramTable programs.now n }
-    ensures { result ≡ seeing_of (table_of programs.now n interrupts) (extended_size interrupts n) c }
+fn seeing(p: &Programs, c: usize) -> [bool; leaves::RECORDS]
+    ensures { result ≡ seeing_of (records p.now) (size p.now) c }
 {
-    let m = leaves::places_of(n, interrupts);
+    let m = p.places();
     let mut marks = [false; leaves::RECORDS];
     for i in 0..m {
-        let r = leaves::record_at(programs, n, interrupts, i);
+        let r = p.record(i);
         marks[i] = sees_by(r, c, &marks);
     }
     marks
@@ -67,23 +70,22 @@ fn span_by(r: Program, first: &[bool], second: &[bool]) -> u32
     ensures { result ≡ span_by r first.now second.now }
 {
     let seeing = if r.c == 0 { first } else { second };
-    if (r.kind == 12) & records::value_in(seeing, r.b, false) {
+    if (kind_of(r.kind) == Some(Kind::Pick)) & records::value_in(seeing, r.b, false) {
         return r.a as u32;
     }
     1
 }
 
 // How many values are listed for each record of the table that runs, where it chooses one.
-pub fn spans(programs: &[u8], n: usize, interrupts: bool) -> [u32; leaves::RECORDS]
-    requires { ProgramTable programs.now n }
-    ensures { result ≡ spans_of (table_of programs.now n interrupts) (extended_size interrupts n) }
+pub fn spans(p: &Programs) -> [u32; leaves::RECORDS]
+    ensures { result ≡ spans_of (records p.now) (size p.now) }
 {
-    let m = leaves::places_of(n, interrupts);
-    let first = seeing(programs, n, interrupts, 0);
-    let second = seeing(programs, n, interrupts, 1);
+    let m = p.places();
+    let first = seeing(p, 0);
+    let second = seeing(p, 1);
     let mut spans = [0u32; leaves::RECORDS];
     for i in 0..m {
-        let r = leaves::record_at(programs, n, interrupts, i);
+        let r = p.record(i);
         spans[i] = span_by(r, &first, &second);
     }
     spans
@@ -174,18 +176,26 @@ fn final_set(r: Program, n: usize, running: bool, table: &[u32]) -> [u32; sets::
     requires { Readable table.now n r }
     ensures { FinalBy table.now running n r result }
 {
-    match r.kind {
-        1 | 2 => sets::whole(false),
-        3 | 8 | 9 => both_final(table, r.a, r.b),
-        4 => sets::either(final_at(table, r.a), final_at(table, r.b)),
-        6 => branch(
+    match kind_of(r.kind) {
+        Some(Kind::Act | Kind::Test) => sets::whole(false),
+        Some(Kind::Sequence | Kind::Together | Kind::Over) => both_final(table, r.a, r.b),
+        Some(Kind::Choice) => sets::either(final_at(table, r.a), final_at(table, r.b)),
+        Some(Kind::If) => branch(
             holding_at(table, r.c),
             final_at(table, r.a),
             final_at(table, r.b),
         ),
-        7 => sets::either(sets::others(holding_at(table, r.c)), final_at(table, r.a)),
-        11 => while_running(running, holding_at(table, r.c), final_at(table, r.a), true),
-        12 => sets::some(final_at(table, r.b), r.c, n),
+        Some(Kind::While) => sets::either(
+            sets::others(holding_at(table, r.c)),
+            final_at(table, r.a),
+        ),
+        Some(Kind::Interrupt) => while_running(
+            running,
+            holding_at(table, r.c),
+            final_at(table, r.a),
+            true,
+        ),
+        Some(Kind::Pick) => sets::some(final_at(table, r.b), r.c, n),
         _ => sets::whole(true),
     }
 }
@@ -196,25 +206,25 @@ fn enabled_set(r: Program, n: usize, running: bool, table: &[u32]) -> [u32; sets
     requires { Readable table.now n r }
     ensures { EnabledBy table.now running n r result }
 {
-    match r.kind {
-        1 => possible_at(table, r.a),
-        2 => holding_at(table, r.a),
-        3 => either_enabled(table, r.a, r.b, true),
-        4 | 8 | 9 => either_enabled(table, r.a, r.b, false),
-        5 | 10 => enabled_at(table, r.a),
-        6 => branch(
+    match kind_of(r.kind) {
+        Some(Kind::Act) => possible_at(table, r.a),
+        Some(Kind::Test) => holding_at(table, r.a),
+        Some(Kind::Sequence) => either_enabled(table, r.a, r.b, true),
+        Some(Kind::Choice | Kind::Together | Kind::Over) => either_enabled(table, r.a, r.b, false),
+        Some(Kind::Star | Kind::Iteration) => enabled_at(table, r.a),
+        Some(Kind::If) => branch(
             holding_at(table, r.c),
             enabled_at(table, r.a),
             enabled_at(table, r.b),
         ),
-        7 => sets::both(holding_at(table, r.c), enabled_at(table, r.a)),
-        11 => while_running(
+        Some(Kind::While) => sets::both(holding_at(table, r.c), enabled_at(table, r.a)),
+        Some(Kind::Interrupt) => while_running(
             running,
             holding_at(table, r.c),
             enabled_at(table, r.a),
             false,
         ),
-        12 => sets::some(enabled_at(table, r.b), r.c, n),
+        Some(Kind::Pick) => sets::some(enabled_at(table, r.b), r.c, n),
         _ => sets::whole(false),
     }
 }
@@ -222,23 +232,14 @@ fn enabled_set(r: Program, n: usize, running: bool, table: &[u32]) -> [u32; sets
 // Fills in where each record of the table that runs is final, and with `goes` where it is enabled, in the state of which the sets of formulas and
 // of actions tell, whatever stood there: one pass upwards, since a record names lower ones only.
 // Kept: `goes` is a flag and no closure, which would have to say in its clauses what it reads of the table and puts into it.
-fn fill_sets(
-    programs: &[u8],
-    n: usize,
-    interrupts: bool,
-    running: bool,
-    spans: &[u32],
-    table: &mut [u32],
-    goes: bool,
-)
-    requires program_table { ProgramTable programs.now n }
-    requires fillable { Fillable (table_of programs.now n interrupts) (extended_size interrupts n) spans.now table.old }
-    ensures all { goes ≡ true → Filled (table_of programs.now n interrupts) (extended_size interrupts n) running table.old table.new }
-    ensures ends { goes ≡ false → FinalsFilled (table_of programs.now n interrupts) (extended_size interrupts n) running table.old table.new }
+fn fill_sets(p: &Programs, running: bool, spans: &[u32], table: &mut [u32], goes: bool)
+    requires { Fillable (records p.now) (size p.now) spans.now table.old }
+    ensures all { goes ≡ true → Filled (records p.now) (size p.now) running table.old table.new }
+    ensures ends { goes ≡ false → FinalsFilled (records p.now) (size p.now) running table.old table.new }
 {
-    let m = leaves::places_of(n, interrupts);
+    let m = p.places();
     for i in 0..m {
-        let r = leaves::record_at(programs, n, interrupts, i);
+        let r = p.record(i);
         let k = spans[i] as usize;
         let ends = final_set(r, k, running, table);
         if goes {
@@ -250,33 +251,17 @@ fn fill_sets(
 }
 
 // Fills in where each record is final and where it is enabled.
-pub fn fill(
-    programs: &[u8],
-    n: usize,
-    interrupts: bool,
-    running: bool,
-    spans: &[u32],
-    table: &mut [u32],
-)
-    requires program_table { ProgramTable programs.now n }
-    requires fillable { Fillable (table_of programs.now n interrupts) (extended_size interrupts n) spans.now table.old }
-    ensures { Filled (table_of programs.now n interrupts) (extended_size interrupts n) running table.old table.new }
+pub fn fill(p: &Programs, running: bool, spans: &[u32], table: &mut [u32])
+    requires { Fillable (records p.now) (size p.now) spans.now table.old }
+    ensures { Filled (records p.now) (size p.now) running table.old table.new }
 {
-    fill_sets(programs, n, interrupts, running, spans, table, true)
+    fill_sets(p, running, spans, table, true)
 }
 
 // Fills in where each record is final, and not where it is enabled: for a state of which no more is asked.
-pub fn fill_finals(
-    programs: &[u8],
-    n: usize,
-    interrupts: bool,
-    running: bool,
-    spans: &[u32],
-    table: &mut [u32],
-)
-    requires program_table { ProgramTable programs.now n }
-    requires fillable { Fillable (table_of programs.now n interrupts) (extended_size interrupts n) spans.now table.old }
-    ensures { FinalsFilled (table_of programs.now n interrupts) (extended_size interrupts n) running table.old table.new }
+pub fn fill_finals(p: &Programs, running: bool, spans: &[u32], table: &mut [u32])
+    requires { Fillable (records p.now) (size p.now) spans.now table.old }
+    ensures { FinalsFilled (records p.now) (size p.now) running table.old table.new }
 {
-    fill_sets(programs, n, interrupts, running, spans, table, false)
+    fill_sets(p, running, spans, table, false)
 }

@@ -13,8 +13,11 @@ ghost use Rattle.leaves.specs.Tallies.{extended_size, capped_count_by, Tallied};
 ghost use Rattle.leaves.specs.Endable.{final_bounds_of, doubt_by, skips_of, Tallyable};
 ghost use Rattle.leaves.specs.Distances.{distances_of};
 ghost use Rattle.leaves.specs.Performed.{Performed};
+ghost use Rattle.leaves.specs.Running.{running_of, records, size};
 
+use kinds::programs::Kind;
 use records::Program;
+use std::marker::Model;
 
 // How many program records can run: those of a sheet, and four more.
 pub const RECORDS: usize = 260;
@@ -30,7 +33,7 @@ pub const FARTHEST: usize = 65;
 
 // The record that does nothing.
 const EMPTY: Program = Program {
-    kind: 0,
+    kind: Kind::Nil as usize,
     a: 0,
     b: 0,
     c: 0,
@@ -44,25 +47,25 @@ fn virtual_at(n: usize, k: usize) -> Program
 {
     match k {
         0 => Program {
-            kind: 1,
+            kind: Kind::Act as usize,
             a: golog::START,
             b: 0,
             c: 0,
         },
         1 => Program {
-            kind: 1,
+            kind: Kind::Act as usize,
             a: golog::STOP,
             b: 0,
             c: 0,
         },
         2 => Program {
-            kind: 9,
+            kind: Kind::Over as usize,
             a: n - 1,
             b: n + 1,
             c: 0,
         },
         3 => Program {
-            kind: 3,
+            kind: Kind::Sequence as usize,
             a: n,
             b: n + 2,
             c: 0,
@@ -133,42 +136,86 @@ pub fn places_of(n: usize, interrupts: bool) -> usize
     if interrupts { n + 4 } else { n }
 }
 
+// The program table that runs: the n records of a sheet, and four more where there are interrupts.
+#[derive(Drop)]
+pub struct Programs<'a> {
+    bytes: &'a [u8],
+    n: usize,
+    interrupts: bool,
+}
+
+impl<'a> Model for Programs<'a> {
+    ghost use Rattle.records.specs.Records.{ProgramTable};
+    ghost use Rattle.leaves.specs.Running.{Running, running_of};
+
+    ghost Value = { Running };
+
+    ghost view = { λ p. running_of p.bytes.now p.n p.interrupts };
+
+    ghost invariant = { λ p. ProgramTable p.bytes.now p.n };
+}
+
+impl<'a> Programs<'a> {
+    pub fn new(bytes: &'a [u8], n: usize, interrupts: bool) -> Programs<'a>
+        requires { ProgramTable bytes.now n }
+        ensures { result ≡ running_of bytes.now n interrupts }
+    {
+        Programs {
+            bytes,
+            n,
+            interrupts,
+        }
+    }
+
+    // Its record i.
+    pub fn record(&self, i: usize) -> Program
+        ensures record { result ≡ records self.now i }
+        ensures fields { TwoBytes result }
+    {
+        record_at(self.bytes, self.n, self.interrupts, i)
+    }
+
+    // How many there are.
+    pub fn places(&self) -> usize
+        ensures { (result ≡ size self.now) × (result ≤ most_records) }
+    {
+        places_of(self.n, self.interrupts)
+    }
+}
+
 // Fills in how many transitions each record of the table that runs has in the state that `truths`, the actions, `conflicted` and `running`
 // say, where `finals` tells which are final, whatever stood there: one pass upwards, since a record names lower ones only.
 pub fn tallies(
     counts: &mut [u32],
-    programs: &[u8],
-    n: usize,
-    interrupts: bool,
+    p: &Programs,
     actions: &[u8],
     truths: &[bool],
     conflicted: &[bool],
     running: bool,
     finals: &[bool],
 )
-    requires program_table { ProgramTable programs.now n × (length counts.old ≡ most_records) }
-    requires tallyable { Tallyable (table_of programs.now n interrupts) (extended_size interrupts n) actions.now truths.now running finals.now }
-    ensures counts { Tallied (table_of programs.now n interrupts) (extended_size interrupts n) actions.now truths.now
+    requires places { length counts.old ≡ most_records }
+    requires tallyable { Tallyable (records p.now) (size p.now) actions.now truths.now running finals.now }
+    ensures counts { Tallied (records p.now) (size p.now) actions.now truths.now
         conflicted.now running counts.old counts.new }
     ensures places { length counts.new ≡ most_records }
 {
-    let m = places_of(n, interrupts);
+    let m = p.places();
     for i in 0..m {
-        let r = record_at(programs, n, interrupts, i);
+        let r = p.record(i);
         let k = count_at(r, actions, truths, conflicted, running, finals, counts);
         counts[i] = k;
     }
 }
 
 // With `most`, which records of the table that runs may be final in some state; without, which are in every one.
-pub fn bounds(programs: &[u8], n: usize, interrupts: bool, most: bool) -> [bool; RECORDS]
-    requires { ProgramTable programs.now n }
-    ensures { result ≡ final_bounds_of most (table_of programs.now n interrupts) (extended_size interrupts n) }
+pub fn bounds(p: &Programs, most: bool) -> [bool; RECORDS]
+    ensures { result ≡ final_bounds_of most (records p.now) (size p.now) }
 {
-    let m = places_of(n, interrupts);
+    let m = p.places();
     let mut marks = [true; RECORDS];
     for i in 0..m {
-        let r = record_at(programs, n, interrupts, i);
+        let r = p.record(i);
         marks[i] = kinds::programs::final_bound_by(r, most, &marks);
     }
     marks
@@ -182,12 +229,11 @@ fn doubt_at(endable: &[bool], sure: &[bool], i: usize) -> bool
 }
 
 // From each record on, the first whose finality depends on the state, where `endable` has those that may be final in some.
-pub fn skips(programs: &[u8], n: usize, interrupts: bool, endable: &[bool]) -> [u32; SKIPS]
-    requires { ProgramTable programs.now n }
-    ensures { result ≡ skips_of (table_of programs.now n interrupts) (extended_size interrupts n) endable.now }
+pub fn skips(p: &Programs, endable: &[bool]) -> [u32; SKIPS]
+    ensures { result ≡ skips_of (records p.now) (size p.now) endable.now }
 {
-    let m = places_of(n, interrupts);
-    let sure = bounds(programs, n, interrupts, false);
+    let m = p.places();
+    let sure = bounds(p, false);
     let mut skips = [m as u32; SKIPS];
     let mut first = m as u32;
     for i in (0..m).rev() {
@@ -200,14 +246,13 @@ pub fn skips(programs: &[u8], n: usize, interrupts: bool, endable: &[bool]) -> [
 }
 
 // How far each record of the table that runs is from its end at least, in transitions and whatever the states.
-pub fn distances(programs: &[u8], n: usize, interrupts: bool) -> [u32; RECORDS]
-    requires { ProgramTable programs.now n }
-    ensures { result ≡ distances_of (table_of programs.now n interrupts) (extended_size interrupts n) }
+pub fn distances(p: &Programs) -> [u32; RECORDS]
+    ensures { result ≡ distances_of (records p.now) (size p.now) }
 {
-    let m = places_of(n, interrupts);
+    let m = p.places();
     let mut distances = [0u32; RECORDS];
     for i in 0..m {
-        let r = record_at(programs, n, interrupts, i);
+        let r = p.record(i);
         distances[i] = kinds::programs::distance_by(r, &distances).min(FARTHEST as u64) as u32;
     }
     distances

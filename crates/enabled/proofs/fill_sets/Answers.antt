@@ -13,22 +13,22 @@ loop-i-init c = (kept_none _, λ e. known_none, λ e. finals_none)
 
 pub final_set-ends-requires : goal.final_set-ends-requires
 final_set-ends-requires c =
-    rw c.record_at-r.ensures.record
-    (readable c.requires.fillable.ruled c.requires.fillable.spans_known (omega (arith, c.places_of-m.ensures)) (omega (arith, c.places_of-m.ensures.0))
-    (omega (arith, c.loop-i.invariant.0.len, c.requires.fillable.room)))
+    rw c.record-r.ensures.record
+    (readable c.requires.ruled c.requires.spans_known (omega (arith, c.places-m.ensures)) (omega (arith, c.places-m.ensures.0))
+    (omega (arith, c.loop-i.invariant.0.len, c.requires.room)))
 
 pub enabled_set-starts-requires : goal.enabled_set-starts-requires
 enabled_set-starts-requires c =
-    rw c.record_at-r.ensures.record
-    (readable c.requires.fillable.ruled c.requires.fillable.spans_known (omega (arith, c.places_of-m.ensures)) (omega (arith, c.places_of-m.ensures.0))
-    (omega (arith, c.loop-i.invariant.0.len, c.requires.fillable.room)))
+    rw c.record-r.ensures.record
+    (readable c.requires.ruled c.requires.spans_known (omega (arith, c.places-m.ensures)) (omega (arith, c.places-m.ensures.0))
+    (omega (arith, c.loop-i.invariant.0.len, c.requires.room)))
 
 pub loop-i-preserved : goal.loop-i-preserved
 loop-i-preserved c =
     let (kept, known, finals) = c.loop-i.invariant in
-    let z = c.requires.fillable in
-    let r = c.record_at-r.ensures.record in
-    let few = c.places_of-m.ensures in
+    let z = c.requires in
+    let r = c.record-r.ensures.record in
+    let few = c.places-m.ensures in
     elim c.if-goes.branch [
       | then-goes w ↦
           let put = rw w.table-is at c.put_set-in-loop-i.ensures in (
@@ -48,10 +48,10 @@ loop-i-preserved c =
 
 pub returns-clause-all : goal.returns-clause-all
 returns-clause-all c =
-    let e = le_antisymm c.loop-i.auto.i-end c.loop-i-test.false ∙ c.places_of-m.ensures.0 in
+    let e = le_antisymm c.loop-i.auto.i-end c.loop-i-test.false ∙ c.places-m.ensures.0 in
     λ g. record { known = rw e at (c.loop-i.invariant.1 g); kept = c.loop-i.invariant.0 }
 
 pub returns-clause-ends : goal.returns-clause-ends
 returns-clause-ends c =
-    let e = le_antisymm c.loop-i.auto.i-end c.loop-i-test.false ∙ c.places_of-m.ensures.0 in
+    let e = le_antisymm c.loop-i.auto.i-end c.loop-i-test.false ∙ c.places-m.ensures.0 in
     λ g. record { known = rw e at (c.loop-i.invariant.2 g); kept = c.loop-i.invariant.0 }

@@ -4,9 +4,8 @@ use mathlib.Core.Bool.{Bool, false}
 use mathlib.Core.List.{map-id}
 use native.Mathlib.Nat.{le_antisymm}
 use native.Mathlib.Omega.{arith}
-use Rattle.records.specs.Records.{program_at}
+use Rattle.leaves.specs.Running.{records}
 use Rattle.records.proofs.Fills.{start}
-use Rattle.remaining.specs.Extended.{extended}
 use Rattle.enabled.specs.Spans.{seeing_of}
 use Rattle.enabled.proofs.Listing.{seeing_more}
 use Rattle.enabled.proofs.seeing.Goals as goal
@@ -17,11 +16,11 @@ loop-i-init c = start false _ (λ (b : Bool). b) 260
 pub loop-i-preserved : goal.loop-i-preserved
 loop-i-preserved c =
     let a = c.args in
-    let p = extended a.interrupts (program_at a.programs.now) a.n in
-    seeing_more p a.c c.loop-i.invariant (omega arith) c.record_at-r.ensures.record c.sees_by.ensures
+    let p = records a.p.now in
+    seeing_more p a.c c.loop-i.invariant (omega arith) c.record-r.ensures.record c.sees_by.ensures
 
 pub returns : goal.returns
 unfolding seeing_of
 returns c =
-    let e = le_antisymm c.loop-i.auto.i-end c.loop-i-test.false ∙ c.places_of-m.ensures.0 in
+    let e = le_antisymm c.loop-i.auto.i-end c.loop-i-test.false ∙ c.places-m.ensures.0 in
     rw (← e) (c.loop-i.invariant.same ∙ simp map-id)

@@ -13,10 +13,10 @@ loop-i-init c = start 0 _ (λ (k : ℕ). k) 260
 
 pub loop-i-preserved : goal.loop-i-preserved
 loop-i-preserved c =
-    more _ _ _ _ c.loop-i.invariant (omega arith) (rw (c.record_at-r.ensures.record, c.seeing-first.ensures, c.seeing-second.ensures) at c.span_by.ensures)
+    more _ _ _ _ c.loop-i.invariant (omega arith) (rw (c.record-r.ensures.record, c.seeing-first.ensures, c.seeing-second.ensures) at c.span_by.ensures)
 
 pub returns : goal.returns
 unfolding spans_of
 returns c =
-    let e = le_antisymm c.loop-i.auto.i-end c.loop-i-test.false ∙ c.places_of-m.ensures.0 in
+    let e = le_antisymm c.loop-i.auto.i-end c.loop-i-test.false ∙ c.places-m.ensures.0 in
     rw (← e) (rw (← e) at c.loop-i.invariant.same ∙ simp map-id)

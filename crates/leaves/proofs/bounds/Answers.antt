@@ -15,10 +15,10 @@ loop-i-init c = start true _ (λ (b : Bool). b) 260
 pub loop-i-preserved : goal.loop-i-preserved
 loop-i-preserved c =
     let b = c.loop-i.invariant in
-    more _ _ _ _ b (omega arith) (rw c.record_at-r.ensures.record at c.final_bound_by.ensures ∙ bound_same _ _ _ _ (at _ _ _ _ b))
+    more _ _ _ _ b (omega arith) (rw c.record-r.ensures.record at c.final_bound_by.ensures ∙ bound_same _ _ _ _ (at _ _ _ _ b))
 
 pub returns : goal.returns
 unfolding final_bounds_of
 returns c =
-    let e = le_antisymm c.loop-i.auto.i-end c.loop-i-test.false ∙ c.places_of-m.ensures.0 in
+    let e = le_antisymm c.loop-i.auto.i-end c.loop-i-test.false ∙ c.places-m.ensures.0 in
     rw (← e) (c.loop-i.invariant.same ∙ simp map-id)

@@ -15,11 +15,11 @@ loop-i-init c = start 0 _ (λ (d : ℕ). d) 260
 pub loop-i-preserved : goal.loop-i-preserved
 loop-i-preserved c =
     let b = c.loop-i.invariant in
-    let e = rw c.record_at-r.ensures.record at c.distance_by.ensures ∙ distance_same _ _ _ (at _ _ _ _ b) in
+    let e = rw c.record-r.ensures.record at c.distance_by.ensures ∙ distance_same _ _ _ (at _ _ _ _ b) in
     more _ _ _ _ b (omega arith) (omega (arith, e, c.min.ensures))
 
 pub returns : goal.returns
 unfolding distances_of
 returns c =
-    let e = le_antisymm c.loop-i.auto.i-end c.loop-i-test.false ∙ c.places_of-m.ensures.0 in
+    let e = le_antisymm c.loop-i.auto.i-end c.loop-i-test.false ∙ c.places-m.ensures.0 in
     rw (← e) (c.loop-i.invariant.same ∙ simp map-id)

@@ -9,7 +9,7 @@ use Rattle.leaves.proofs.skips.Goals as goal
 use Rattle.leaves.proofs.skips.Goals.{then-doubt_at, else-doubt_at}
 
 pub loop-i-init : goal.loop-i-init
-loop-i-init c = (length-replicate 261 c.places_of-m.result, none)
+loop-i-init c = (length-replicate 261 c.places-m.result, none)
 
 pub loop-i-preserved : goal.loop-i-preserved
 loop-i-preserved c =
@@ -25,6 +25,6 @@ loop-i-preserved c =
 pub returns : goal.returns
 returns c =
     let (long, v) = c.loop-i.invariant in
-    let e = c.places_of-m.ensures.0 in
+    let e = c.places-m.ensures.0 in
     let z : c.loop-i.i ≡ 0 = omega arith in
     rw (← e) (all _ _ _ (omega arith) long (rw (z, c.bounds-sure.ensures, ← e) at v))

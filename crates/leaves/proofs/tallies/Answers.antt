@@ -8,15 +8,15 @@ use Rattle.leaves.proofs.Filling.{next}
 use Rattle.leaves.proofs.tallies.Goals as goal
 
 pub loop-i-init : goal.loop-i-init
-loop-i-init c = (c.requires.program_table.1, λ W s S. refill_start _ capped_count _)
+loop-i-init c = (c.requires.places, λ W s S. refill_start _ capped_count _)
 
 pub loop-i-preserved : goal.loop-i-preserved
 loop-i-preserved c =
     let z = c.requires in
     let (long, v) = c.loop-i.invariant in (
       simp length-set long,
-      λ W s S. next W s _ z.tallyable.lower z.tallyable.plain _ (z.tallyable.finals_known W s _ S) (v W s S) (omega (arith, c.places_of-m.ensures.0))
-          (S.each _ (omega (arith, c.places_of-m.ensures.0))) S.runs
+      λ W s S. next W s _ z.tallyable.lower z.tallyable.plain _ (z.tallyable.finals_known W s _ S) (v W s S) (omega (arith, c.places-m.ensures.0))
+          (S.each _ (omega (arith, c.places-m.ensures.0))) S.runs
           (omega arith)
-          (rw c.record_at-r.ensures.record at c.count_at-k.ensures),
+          (rw c.record-r.ensures.record at c.count_at-k.ensures),
     )
