@@ -3,9 +3,7 @@
 
 ghost use Rattle.std.specs.Prelude.{◌≡◌, true, false, not, cond, ◌&&◌, ℕ, ◌+◌, ◌-◌, ◌/◌, ◌^◌, ◌≤◌, ◌<◌, min, max, T, eqb, length, get_or};
 ghost use Rattle.std.specs.Option.{ForSome};
-ghost use Rattle.records.specs.Records.{ProgramTable};
-ghost use Rattle.remaining.specs.Extended.{table_of};
-ghost use Rattle.leaves.specs.Tallies.{extended_size};
+ghost use Rattle.leaves.specs.Running.{records, size};
 ghost use Rattle.positions.specs.Spots.{digits_by, apart};
 ghost use Rattle.positions.specs.Found.{NextValue, gap_of, CanFork, ForksParts, value_way, ForksValues};
 ghost use Rattle.positions.specs.Found.{tables_of, CanLook, ForksRecord, CanGo, FindsWay, FindsRecord};
@@ -21,6 +19,7 @@ ghost use Rattle.remaining.specs.Leaves.{sibling_a, wrap_a, wrap_b};
 ghost use Rattle.words.specs.Words.{Room};
 
 use kinds::programs::{Kind, kind_of};
+use leaves::Programs;
 use records::Program;
 use steps::Laid;
 
@@ -62,19 +61,16 @@ fn digits_over(r: Program, endable: bool, span: u32, digits: &[u32]) -> u32
 // How many digits each record of the table that runs has, where `endable` has those that may be final and `spans` how many values each
 // lists: one pass upwards, since a record names lower ones only.
 pub fn digits(
-    programs: &[u8],
-    n: usize,
-    interrupts: bool,
+    p: &Programs,
     endable: &[bool],
     spans: &[u32],
 ) -> [u32; leaves::RECORDS]
-    requires { ProgramTable programs.now n }
-    ensures { result ≡ digits_of (table_of programs.now n interrupts) (extended_size interrupts n) endable.now spans.now }
+    ensures { result ≡ digits_of (records p.now) (size p.now) endable.now spans.now }
 {
-    let m = leaves::places_of(n, interrupts);
+    let m = p.places();
     let mut digits = [0u32; leaves::RECORDS];
     for i in 0..m {
-        let r = leaves::record_at(programs, n, interrupts, i);
+        let r = p.record(i);
         let ends = records::value_in(endable, r.a, true);
         digits[i] = digits_over(r, ends, records::value_in(spans, i, 1), &digits);
     }
@@ -347,13 +343,13 @@ fn ways(t: &Tables, i: usize, e: usize, k: u64) -> Fork
     requires { CanLook (tables_of t.now) i e }
     ensures { ForksRecord (tables_of t.now) i e k result }
 {
-    let r = leaves::record_at(t.programs, t.setting.n, t.setting.interrupts, i);
+    let r = t.programs.record(i);
     let d = records::value_in(t.digits, i, 0) as usize;
     if picks(r.kind) {
         let n = records::value_in(t.spans, i, 1) as usize;
         return fork_values(r, n, d, t.table, e, k);
     }
-    fork_parts(r, t.setting.running, d, t.table, e, k)
+    fork_parts(r, t.running, d, t.table, e, k)
 }
 
 // The position of the first transition that a way leads to: straight down, since a record that has none is passed by at once.

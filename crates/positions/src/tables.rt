@@ -1,18 +1,15 @@
 // What the transitions of records are found by.
 #![tactic(auto)]
 
-ghost use Rattle.records.specs.Records.{ProgramTable};
+use leaves::Programs;
 
-use steps::Setting;
-
-// The records of a sheet, how many values each lists, its digits, and the sets of a state: the state's truths, and the records that are
-// final and that have a transition.
+// The table that runs and whether interrupts do, how many values each record lists, its digits, and the sets of a state: where its formulas
+// hold, and which records are final and have a transition.
 #[derive(Clone, Copy)]
 pub struct Tables<'a> {
-    pub programs: &'a [u8],
-    pub setting: Setting,
+    pub programs: &'a Programs<'a>,
+    pub running: bool,
     pub spans: &'a [u32],
     pub digits: &'a [u32],
     pub table: &'a [u32],
-    ghost ruled: { ProgramTable programs.now setting.n },
 }
