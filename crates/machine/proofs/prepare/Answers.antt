@@ -31,9 +31,8 @@ returns c =
     let B = c.put_numbers-2.ensures in
     let C = c.put_numbers-3.ensures in
     let D = c.put_numbers-4.ensures in
-    let digits = c.digits-digits.ensures
-    ∙ ap₂ (λ (x : List Bool) (y : List ℕ). digits_of (records_of programs v) (many_of v) x y) c.bounds-endable.ensures c.spans-spans.ensures in
+    let p = c.new-p.ensures in
     record {
-      told = put_told long A B C D al bl cl dl c.spans-spans.ensures digits c.distances-distances.ensures c.marks_of-marks.ensures;
+      told = put_told long A B C D al bl cl dl (rw p at c.spans-spans.ensures) (rw (c.bounds-endable.ensures, c.spans-spans.ensures, p) at c.digits-digits.ensures) (rw p at c.distances-distances.ensures) c.marks_of-marks.ensures;
       written = put_only long A B C D al bl cl dl;
     }
