@@ -60,11 +60,7 @@ fn digits_over(r: Program, endable: bool, span: u32, digits: &[u32]) -> u32
 
 // How many digits each record of the table that runs has, where `endable` has those that may be final and `spans` how many values each
 // lists: one pass upwards, since a record names lower ones only.
-pub fn digits(
-    p: &Programs,
-    endable: &[bool],
-    spans: &[u32],
-) -> [u32; leaves::RECORDS]
+pub fn digits(p: &Programs, endable: &[bool], spans: &[u32]) -> [u32; leaves::RECORDS]
     ensures { result ≡ digits_of (records p.now) (size p.now) endable.now spans.now }
 {
     let m = p.places();
@@ -211,12 +207,7 @@ fn next_value(table: &[u32], b: usize, e: usize, c: usize, v: usize, n: usize) -
     requires { (8256 ≤ length table.now) × (b < 260) × (e < 256) × (n ≤ 16) }
     ensures { NextValue (λ (u : ℕ). member (set_at table.now (772 + b)) (put e c u)) v n result }
 {
-    for w in v..n {
-        if enabled_in(table, b, put_value(e, c, w)) {
-            return Some(w);
-        }
-    }
-    None
+    (v..n).find(|&w| enabled_in(table, b, put_value(e, c, w)))
 }
 
 // Whether the condition of record r, where it has one, holds in e.
@@ -322,11 +313,7 @@ fn fork_values(r: Program, n: usize, d: usize, table: &[u32], e: usize, k: u64) 
     }
     let by = apart_of(d);
     let v = (k / by).min(VALUES as u64) as usize;
-    let first = if v < n {
-        Some(value_way(r, e, v, k % by, by))
-    } else {
-        None
-    };
+    let first = (v < n).then(|| value_way(r, e, v, k % by, by));
     let second = next_value(table, r.b, e, r.c, v + 1, n).map(|w| value_way(r, e, w, 0, by));
     Fork { r, first, second }
 }
@@ -421,14 +408,7 @@ fn wrap_laid_b(work: &mut [u32], to: usize, r: Program, x: Laid) -> Laid
 
 // Lays out the transition of record i, read in e, at position k: its own, or the one that its ways lead to. What stands beside what it leaves
 // is read in e too, so that it does not see a value chosen below.
-pub fn lay_record(
-    t: &Tables,
-    work: &mut [u32],
-    i: usize,
-    e: usize,
-    to: usize,
-    k: u64,
-) -> Laid
+pub fn lay_record(t: &Tables, work: &mut [u32], i: usize, e: usize, to: usize, k: u64) -> Laid
     requires { CanPlace (tables_of t.now) work.old i e to k }
     ensures { PlacesRecord (tables_of t.now) i e k to work.old work.new result.entry result.size }
 {
