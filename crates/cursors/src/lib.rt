@@ -81,13 +81,7 @@ fn position(at: usize, place: usize, k: u64) -> u64
 }
 
 // The first transition from the cursor on of a record, whose node is at `at`.
-fn find_leaf(
-    t: &Tables,
-    n: usize,
-    at: usize,
-    place: usize,
-    k: u64,
-) -> Result<Cursor, Passed>
+fn find_leaf(t: &Tables, n: usize, at: usize, place: usize, k: u64) -> Result<Cursor, Passed>
     requires { CanLook (tables_of t.now) (read_in n) (environment_of n) }
     ensures { FindsLeaf (tables_of t.now) n at place k result }
 {
@@ -101,10 +95,8 @@ fn find_leaf(
         return Err(passed);
     }
     let j = position(at, place, k);
-    match positions::find_record(t, i, e, j) {
-        Some(k) => Ok(Cursor { place: at, k }),
-        None => Err(passed),
-    }
+    let found = positions::find_record(t, i, e, j);
+    found.map(|k| Cursor { place: at, k }).ok_or(passed)
 }
 
 // The first transition from the cursor on of the remaining program at `at`: one pass. Of records before the cursor's place only the sets are
@@ -184,14 +176,7 @@ fn put_left(work: &mut [u32], from: usize, to: usize, tag: u32, n: usize, x: Lai
 
 // Lays out the transition at the cursor of the remaining program at `from`: straight down to its record's node by the place, and on the way
 // back up the constructs around what it leaves.
-pub fn lay_rest(
-    t: &Tables,
-    work: &mut [u32],
-    from: usize,
-    to: usize,
-    place: usize,
-    k: u64,
-) -> Laid
+pub fn lay_rest(t: &Tables, work: &mut [u32], from: usize, to: usize, place: usize, k: u64) -> Laid
     requires { CanLayRest (tables_of t.now) work.old from to place k }
     ensures { PlacesRest (tables_of t.now) from place k to work.old work.new result }
 {
