@@ -1,11 +1,6 @@
 -- Each table is what its function tells, and stands where it was written: those written later stand behind it. Assumes nothing.
-use Prim.Native.Nat.{ℕ}
-use mathlib.Core.Bool.{Bool}
-use mathlib.Core.List.{List}
-use mathlib.Core.Path.{◌≡◌, ◌∙◌, ap₂}
+use mathlib.Core.Path.{◌≡◌}
 use lib.ListN.{length}
-use Rattle.positions.specs.Levels.{digits_of}
-use Rattle.machine.specs.Tables.{records_of, many_of}
 use Rattle.machine.proofs.Keeping.{put_only, put_told}
 use borrow.Author.Rules.{rules}
 use Rattle.machine.proofs.prepare.Goals as goal
