@@ -1,13 +1,13 @@
 -- The sets of a state say of a remaining program whether it is final, whether it has a transition, and with the distances how far it is from
 -- its end at least: a leaf's number is that of its record and its environment, for which they say it (crate `ends`). Assumes nothing.
-use mathlib.Core.Path.{◌≡◌, refl, sym, ◌∙◌, ap}
+use mathlib.Core.Path.{◌≡◌, refl, sym, ◌∙◌, ap, subst}
 use mathlib.Core.Bool.{Bool, true, false, not, cond}
 use mathlib.Core.List.{List, Memᴰ}
-use Prim.Native.Nat.{ℕ, suc, ◌+◌, ◌*◌, ◌/◌, ◌%◌, ◌^◌, ◌≤◌, ◌<◌}
+use Prim.Native.Nat.{ℕ, suc, ◌+◌, ◌/◌, ◌%◌, ◌^◌, ◌≤◌, ◌<◌}
 use native.Mathlib.Omega.{arith}
 use mir.Val.{bool_byte}
 use lib.Dec.{eqb}
-use lib.ListN.{length, get_or}
+use lib.ListN.{get_or}
 use Rattle.records.specs.Placeholders.{read_in, environment_of}
 use Rattle.records.proofs.Placeholders.{environment_small, reading_whole}
 use Rattle.records.proofs.Fills.{up_at, entry_is}
@@ -21,8 +21,10 @@ use Rattle.golog.specs.Written.{written_records}
 use Rattle.remaining.specs.Rest.{Rest, leaf, node, unfolded, largest}
 use Rattle.remaining.specs.Leaves.{RestTransition, leaf_of, rest_final, rest_transitions}
 use Rattle.remaining.proofs.Written.{written_lower}
-use Rattle.words.specs.Words.{Stands}
-use Rattle.words.proofs.Reading.{Parts}
+use Rattle.words.specs.Words.{At}
+use Rattle.words.proofs.Standing.{at_unique}
+use Rattle.ends.specs.Ends.{Leaves, Asked}
+use Rattle.ends.proofs.Asking.{leaves_below}
 use Rattle.ends.specs.Ends.{final_by_table, count_by_table, soon_by_table, Totalled}
 use Rattle.ends.specs.declared.Totals.{Totals}
 use Rattle.ends.proofs.Tabled.{Closed, final_over, none_over}
@@ -55,26 +57,13 @@ count_reading sets {c} {b} {n} l e q =
 pub far_reading : (distances : List ℕ) {d : ℕ} {n : ℕ} → n < 66560 → d ≡ get_or distances (n / 256) 0 → d ≡ get_or (distances_in distances) n 0
 far_reading distances {d} {n} l e = e ∙ sym (readings_at (λ (i e : ℕ). get_or distances i 0) 0 n l)
 
--- what is asked of the parts, and of a leaf
-module _ {sets w : List ℕ} {i : ℕ} (K : CanEnd sets w i) where
-  pub end_stands : Stands w i
-  end_stands = record { rest = K.rest; at = K.at }
+-- what is so of each leaf that there can be is so of those of what stands there
+module _ {sets w : List ℕ} {i : ℕ} (K : CanEnd sets w i) {P : ℕ → Type 0} where
+  pub end_asked : ((n : ℕ) → n < 66560 → P n) → Asked P w i
+  end_asked f = record { rest = K.rest; at = K.at; leaves = leaves_below 66560 f K.rest K.number }
 
-  pub end_leaf : {j n : ℕ} → K.rest ≡ leaf j → n ≡ j → n < 66560
-  unfolding largest
-  end_leaf e q = omega (arith, K.number, ap (largest (λ (n : ℕ). n)) e)
-
-  pub end_set : {j n : ℕ} → K.rest ≡ leaf j → n ≡ j → (8256 ≤ length sets) × (n / 256 < 260) × (n % 256 < 256)
-  end_set e q = (K.long, omega (arith, end_leaf e q), omega arith)
-
-  module _ {k m : ℕ} (P : Parts K.rest w i k m) where
-    pub end_left : CanEnd sets w (i + 3)
-    unfolding largest
-    end_left = record { rest = P.l; at = P.l_at; number = omega (arith, K.number, ap (largest (λ (n : ℕ). n)) P.is); long = K.long }
-
-    pub end_right : CanEnd sets w (i + 3 + 3 * m)
-    unfolding largest
-    end_right = record { rest = P.r; at = P.r_at; number = omega (arith, K.number, ap (largest (λ (n : ℕ). n)) P.is); long = K.long }
+  pub end_leaves : (g : Rest) → At g w i → ((n : ℕ) → n < 66560 → P n) → Leaves P g
+  end_leaves g h f = subst (Leaves P) (at_unique K.rest g w i K.at h) (leaves_below 66560 f K.rest K.number)
 
 -- parts of remaining programs of a table
 module _ {t : Tables} where

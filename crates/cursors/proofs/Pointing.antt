@@ -5,7 +5,7 @@ use mathlib.Core.Path.{◌≡◌, refl, sym, ◌∙◌, ap, ap₂, subst}
 use mathlib.Core.Bool.{Bool, true, false, not, cond, ◌&&◌}
 use mathlib.Core.List.{List, [], ◌∷◌, ◌++◌, map}
 use Rattle.std.specs.Prelude.{Option, Some, None, Result, Ok, Err}
-use Rattle.std.specs.Option.{option_or}
+use Rattle.std.specs.Option.{option_or, option_map, ok_or}
 use Prim.Native.Nat.{ℕ, ◌+◌, ◌-◌, ◌*◌, ◌^◌, ◌≤◌, ◌<◌}
 use native.Mathlib.Nat.{sub-zero, pow-le-pow_right}
 use native.Mathlib.Omega.{arith}
@@ -90,7 +90,7 @@ module _ {t : Tables} (n : ℕ) (C : CanLook t (read_in n) (environment_of n)) {
 
   -- at it, or behind it, the record's
   module _ (at place k : ℕ) {j : ℕ} (e : j ≡ cursor_at place k - at * 2 ^ 64) where
-    pub leaf_at : {m : ℕ} → FindsRecord t (read_in n) (environment_of n) j (Some m) → FindsLeaf t n at place k (Ok (record { place = at; k = m }))
+    leaf_at : {m : ℕ} → FindsRecord t (read_in n) (environment_of n) j (Some m) → FindsLeaf t n at place k (Ok (record { place = at; k = m }))
     leaf_at F W s Q = record {
       first =
           leaf_first W s t n at (cursor_at place k)
@@ -100,9 +100,14 @@ module _ {t : Tables} (n : ℕ) (C : CanLook t (read_in n) (environment_of n)) {
       idle = tt;
     }
 
-    pub leaf_passed : FindsRecord t (read_in n) (environment_of n) j None → FindsLeaf t n at place k (Err (record { done = done; idle = idle }))
+    leaf_passed : FindsRecord t (read_in n) (environment_of n) j None → FindsLeaf t n at place k (Err (record { done = done; idle = idle }))
     leaf_passed F =
         leaf_none at place k (λ W s Q. ap (λ (j : ℕ). first_of (from_spot j (spots_in W s t (read_in n) (environment_of n)))) (sym e) ∙ F W s Q)
+
+    pub leaf_found : (o : Option ℕ) → FindsRecord t (read_in n) (environment_of n) j o
+        → FindsLeaf t n at place k (ok_or (option_map (λ (m : ℕ). record { place = at; k = m }) o) (record { done = done; idle = idle }))
+    leaf_found None F = leaf_passed F
+    leaf_found (Some m) F = leaf_at F
 
 -- a construct
 abbrev written : Tables → ℕ → Program

@@ -2,10 +2,9 @@
 // at least, and their transitions by cursors. A leaf's number is that of its record, read in its environment (records/specs/Placeholders.antt).
 #![tactic(auto)]
 
-ghost use Rattle.std.specs.Prelude.{◌≡◌, ◌&&◌, ◌-◌, ◌*◌, ◌^◌, ◌≤◌, ◌<◌, length};
-ghost use Rattle.records.specs.Records.{ProgramTable};
+ghost use Rattle.std.specs.Prelude.{◌≡◌, true, ◌-◌, ◌*◌, ◌^◌, ◌≤◌, ◌<◌, length, get_or};
 ghost use Rattle.records.specs.Placeholders.{read_in, environment_of};
-ghost use Rattle.remaining.specs.Rest.{Rest};
+ghost use Rattle.remaining.specs.Rest.{Rest, leaf};
 ghost use Rattle.words.specs.Words.{At, CanPutCopy};
 ghost use Rattle.ends.specs.Ends.{final_by_table, Totalled};
 ghost use Rattle.steps.specs.Stepped.{CanEndLeft};
@@ -14,59 +13,49 @@ ghost use Rattle.cursors.specs.Ended.{finals_in, counts_in, distances_in, CanEnd
 ghost use Rattle.cursors.specs.Going.{cursor_at, CanPoint, FindsLeaf, FindsRest, CanLayRest, PlacesRest, GotRight, GotLeft};
 
 use ends::Totals;
-use positions::ENVIRONMENTS;
-use steps::{Laid, Setting};
+use positions::{ENVIRONMENTS, Tables};
+use steps::Laid;
+
+// Whether the record of leaf n is final.
+fn final_of(table: &[u32], n: usize) -> bool
+    requires { (8256 ≤ length table.now) × (n < 66560) }
+    ensures { result ≡ get_or (finals_in table.now) n true }
+{
+    positions::final_in(table, n / ENVIRONMENTS, n % ENVIRONMENTS)
+}
 
 // Whether the remaining program at `at` is final.
 pub fn final_rest(table: &[u32], work: &[u32], at: usize) -> bool
     requires { CanEnd table.now work.now at }
     ensures { (g : Rest) → At g work.now at → result ≡ final_by_table (finals_in table.now) g }
 {
-    let tag = words::tag_at(work, at);
-    if tag == words::GONE {
-        return true;
-    }
-    if tag == words::LEAF {
-        let n = words::record_at(work, at);
-        return positions::final_in(table, n / ENVIRONMENTS, n % ENVIRONMENTS);
-    }
-    let left = words::size_at(work, at + 3);
-    final_rest(table, work, at + 3) && final_rest(table, work, at + 3 + 3 * left)
+    ends::final_by(&|n| final_of(table, n), work, at)
 }
 
-// The totals of the remaining program at `at`: as many as there are records that go and have a transition, so 0 where there is none.
+// The totals of leaf n: as many as there are records that go and have a transition, so 0 where there is none.
+fn total_of(table: &[u32], distances: &[u32], n: usize) -> Totals
+    requires { (8256 ≤ length table.now) × (n < 66560) }
+    ensures { Totalled (finals_in table.now) (distances_in distances.now) (counts_in table.now) (leaf n) result }
+{
+    let i = n / ENVIRONMENTS;
+    let count = usize::from(positions::enabled_in(table, i, n % ENVIRONMENTS));
+    let far = records::value_in(distances, i, 0) as usize;
+    Totals {
+        done: final_of(table, n),
+        count,
+        far,
+        soon: ends::soon_of(count, far),
+    }
+}
+
+// The totals of the remaining program at `at`.
 pub fn total_rest(table: &[u32], distances: &[u32], work: &[u32], at: usize) -> Totals
     requires can_end { CanEnd table.now work.now at }
     requires work_len_bound { length work.now < 2 ^ 32 }
     ensures { (g : Rest) → At g work.now at
         → Totalled (finals_in table.now) (distances_in distances.now) (counts_in table.now) g result }
 {
-    let tag = words::tag_at(work, at);
-    if tag == words::GONE {
-        return Totals {
-            done: true,
-            count: 0,
-            far: 0,
-            soon: leaves::FARTHEST,
-        };
-    }
-    if tag == words::LEAF {
-        let n = words::record_at(work, at);
-        let i = n / ENVIRONMENTS;
-        let e = n % ENVIRONMENTS;
-        let count = usize::from(positions::enabled_in(table, i, e));
-        let far = records::value_in(distances, i, 0) as usize;
-        return Totals {
-            done: positions::final_in(table, i, e),
-            count,
-            far,
-            soon: ends::soon_of(count, far),
-        };
-    }
-    let left = words::size_at(work, at + 3);
-    let l = total_rest(table, distances, work, at + 3);
-    let r = total_rest(table, distances, work, at + 3 + 3 * left);
-    ends::join_totals(tag, l, r)
+    ends::total_by(&|n| total_of(table, distances, n), work, at)
 }
 
 // Where a transition is: the place of its record's node, and its position among those of the record.
@@ -92,61 +81,35 @@ fn position(at: usize, place: usize, k: u64) -> u64
 }
 
 // The first transition from the cursor on of a record, whose node is at `at`.
-fn find_leaf(
-    programs: &[u8],
-    v: Setting,
-    spans: &[u32],
-    digits: &[u32],
-    table: &[u32],
-    n: usize,
-    at: usize,
-    place: usize,
-    k: u64,
-) -> Result<Cursor, Passed>
-    requires program_table { ProgramTable programs.now v.n }
-    requires can_look { CanLook (tables_of programs.now v spans.now digits.now table.now) (read_in n) (environment_of n) }
-    ensures { FindsLeaf (tables_of programs.now v spans.now digits.now table.now) n at place k result }
+fn find_leaf(t: &Tables, n: usize, at: usize, place: usize, k: u64) -> Result<Cursor, Passed>
+    requires { CanLook (tables_of t.now) (read_in n) (environment_of n) }
+    ensures { FindsLeaf (tables_of t.now) n at place k result }
 {
     let i = n / ENVIRONMENTS;
     let e = n % ENVIRONMENTS;
     let passed = Passed {
-        done: positions::final_in(table, i, e),
-        idle: !positions::enabled_in(table, i, e),
+        done: positions::final_in(t.table, i, e),
+        idle: !positions::enabled_in(t.table, i, e),
     };
     if at < place {
         return Err(passed);
     }
     let j = position(at, place, k);
-    match positions::find_record(programs, v, spans, digits, table, i, e, j) {
-        Some(k) => Ok(Cursor { place: at, k }),
-        None => Err(passed),
-    }
-}
-
-// Whether a left part that is final or not, and the right part at `at`, are both final.
-fn final_after(done: bool, table: &[u32], work: &[u32], at: usize) -> bool
-    requires { CanEnd table.now work.now at }
-    ensures { (g : Rest) → At g work.now at → result ≡ (done && final_by_table (finals_in table.now) g) }
-{
-    done && final_rest(table, work, at)
+    let found = positions::find_record(t, i, e, j);
+    found.map(|k| Cursor { place: at, k }).ok_or(passed)
 }
 
 // The first transition from the cursor on of the remaining program at `at`: one pass. Of records before the cursor's place only the sets are
 // asked, for whether right parts go.
 pub fn find_rest(
-    programs: &[u8],
-    v: Setting,
-    spans: &[u32],
-    digits: &[u32],
-    table: &[u32],
+    t: &Tables,
     work: &[u32],
     at: usize,
     place: usize,
     k: u64,
 ) -> Result<Cursor, Passed>
-    requires program_table { ProgramTable programs.now v.n }
-    requires can_point { CanPoint (tables_of programs.now v spans.now digits.now table.now) work.now at }
-    ensures { FindsRest (tables_of programs.now v spans.now digits.now table.now) work.now at place k result }
+    requires { CanPoint (tables_of t.now) work.now at }
+    ensures { FindsRest (tables_of t.now) work.now at place k result }
 {
     let tag = words::tag_at(work, at);
     if tag == words::GONE {
@@ -157,21 +120,21 @@ pub fn find_rest(
     }
     if tag == words::LEAF {
         let n = words::record_at(work, at);
-        return find_leaf(programs, v, spans, digits, table, n, at, place, k);
+        return find_leaf(t, n, at, place, k);
     }
     let left = at + 3;
     let right = left + 3 * words::size_at(work, left);
-    let x = match find_rest(programs, v, spans, digits, table, work, left, place, k) {
+    let x = match find_rest(t, work, left, place, k) {
         Ok(found) => return Ok(found),
         Err(passed) => passed,
     };
     if !ends::goes_right(tag, x.done, x.idle) {
         return Err(Passed {
-            done: final_after(x.done, table, work, right),
+            done: x.done && final_rest(t.table, work, right),
             idle: x.idle,
         });
     }
-    let y = match find_rest(programs, v, spans, digits, table, work, right, place, k) {
+    let y = match find_rest(t, work, right, place, k) {
         Ok(found) => return Ok(found),
         Err(passed) => passed,
     };
@@ -213,39 +176,26 @@ fn put_left(work: &mut [u32], from: usize, to: usize, tag: u32, n: usize, x: Lai
 
 // Lays out the transition at the cursor of the remaining program at `from`: straight down to its record's node by the place, and on the way
 // back up the constructs around what it leaves.
-pub fn lay_rest(
-    programs: &[u8],
-    v: Setting,
-    spans: &[u32],
-    digits: &[u32],
-    table: &[u32],
-    work: &mut [u32],
-    from: usize,
-    to: usize,
-    place: usize,
-    k: u64,
-) -> Laid
-    requires program_table { ProgramTable programs.now v.n }
-    requires can_lay_rest { CanLayRest (tables_of programs.now v spans.now digits.now table.now) work.old from to place k }
-    ensures { PlacesRest (tables_of programs.now v spans.now digits.now table.now) from place k to
-        work.old work.new result }
+pub fn lay_rest(t: &Tables, work: &mut [u32], from: usize, to: usize, place: usize, k: u64) -> Laid
+    requires { CanLayRest (tables_of t.now) work.old from to place k }
+    ensures { PlacesRest (tables_of t.now) from place k to work.old work.new result }
 {
     let tag = words::tag_at(work, from);
     if tag == words::LEAF {
         let j = words::record_at(work, from);
         let i = j / ENVIRONMENTS;
         let e = j % ENVIRONMENTS;
-        return positions::lay_record(programs, v, spans, digits, table, work, i, e, to, k);
+        return positions::lay_record(t, work, i, e, to, k);
     }
     let left = from + 3;
     let n = words::size_at(work, left);
     let right = left + 3 * n;
     if place < right {
         let at = to + 3;
-        let x = lay_rest(programs, v, spans, digits, table, work, left, at, place, k);
+        let x = lay_rest(t, work, left, at, place, k);
         return put_right(work, right, to, tag, x);
     }
     let at = to + steps::past_words(tag == words::SEQUENCE, 3 + 3 * n);
-    let x = lay_rest(programs, v, spans, digits, table, work, right, at, place, k);
+    let x = lay_rest(t, work, right, at, place, k);
     put_left(work, left, to, tag, n, x)
 }

@@ -29,11 +29,11 @@ use Rattle.leaves.specs.Endable.{final_bound_at, final_bounds_of}
 use Rattle.enabled.specs.Spans.{SpansKnown, spans_of}
 use Rattle.enabled.proofs.Listing as listing
 use Rattle.enabled.proofs.Told.{endable_read, distances_read}
-use Rattle.positions.specs.Found.{tables_of, Prepared, Surveyed}
+use Rattle.positions.specs.Found.{tables_by, Prepared, Surveyed}
 use Rattle.positions.specs.Rising.{Spread, Endable}
 use Rattle.positions.proofs.Levels.{digits_spread}
 use Rattle.machine.specs.declared.Shape.{Shape}
-use Rattle.machine.specs.Tables.{spans_on, digits_on, distances_on, sets_from, sets_at, records_of, many_of, setting_of}
+use Rattle.machine.specs.Tables.{spans_on, digits_on, distances_on, sets_from, sets_at, records_of, many_of, table_in}
 use Rattle.machine.specs.Ruled.{RuledOnce, RuledTables}
 use Rattle.machine.specs.Told.{Told, StateTold}
 use Rattle.machine.proofs.Windows.{window_long}
@@ -115,7 +115,7 @@ module _ {formulas effects actions programs : List ℕ} {v : Shape} (R : RuledOn
         (digits_spread (records_of programs v) (many_of v) (final_bounds_of true (records_of programs v) (many_of v)) (spans_of (records_of programs v) (many_of v)) linked span_few
         spans_any nil)
 
-    pub prepared : (s : State) (d : ℕ) → Prepared (tables_of programs (setting_of v s) (spans_on numbers) (digits_on numbers) (sets_at d numbers))
+    pub prepared : (s : State) (d : ℕ) → Prepared (tables_by (table_in programs v) s.running (spans_on numbers) (digits_on numbers) (sets_at d numbers))
     prepared s d = record {
       endable = λ (a : ℕ). get_or (final_bounds_of true (records_of programs v) (many_of v)) a true;
       spread = spread;
@@ -131,7 +131,7 @@ pub surveyed :
     {fluents formulas effects actions programs : List ℕ} {v : Shape} {s : State} {d : ℕ} {numbers : List ℕ} → RuledTables fluents formulas effects actions programs v
     → StateTold fluents formulas effects actions programs v s d numbers → (W : World) → Written fluents formulas effects actions W
     → ((q : ℕ) → v.q ≤ q → q < 512 → HoldsIn W s q (set_at (sets_at d numbers) q))
-    → Surveyed W s (tables_of programs (setting_of v s) (spans_on numbers) (digits_on numbers) (sets_at d numbers))
+    → Surveyed W s (tables_by (table_in programs v) s.running (spans_on numbers) (digits_on numbers) (sets_at d numbers))
 unfolding prepared
 surveyed {programs = programs} {v = v} {s = s} {d = d} {numbers = numbers} R S W is behind =
     let K = S.sets_known.known W is in

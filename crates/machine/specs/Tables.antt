@@ -1,11 +1,10 @@
 -- Own vocabulary: what stands where in the slice of numbers of a sheet with placeholders. Assumes nothing.
 use Rattle.std.specs.Prelude.{ℕ, ◌+◌, ◌*◌, ◌%◌, ◌≡◌, List, length, take, drop}
 use Rattle.records.specs.declared.Program.{Program}
-use Rattle.golog.specs.declared.State.{State}
 use Rattle.remaining.specs.Extended.{most_records, table_of}
 use Rattle.state.specs.Conflicts.{most_actions}
 use Rattle.leaves.specs.Tallies.{extended_size}
-use Rattle.steps.specs.declared.Setting.{Setting}
+use Rattle.leaves.specs.Running.{Running, running_of}
 use Rattle.machine.specs.declared.Shape.{Shape}
 
 -- n places of a list from place o on
@@ -53,12 +52,12 @@ sets_at d numbers = window (sets_from d) sets_places numbers
 abbrev pub places : ℕ
 places = 18385
 
--- the table that runs, how many records it has, and how it is read in a state
+-- the table that runs, its records, and how many there are
+abbrev pub table_in : (programs : List ℕ) → Shape → Running
+table_in programs v = running_of programs v.p v.interrupts
+
 abbrev pub records_of : (programs : List ℕ) → Shape → ℕ → Program
 records_of programs v = table_of programs v.p v.interrupts
 
 abbrev pub many_of : Shape → ℕ
 many_of v = extended_size v.interrupts v.p
-
-abbrev pub setting_of : Shape → State → Setting
-setting_of v s = record { n = v.p; interrupts = v.interrupts; running = s.running }

@@ -10,6 +10,7 @@ ghost use Rattle.enabled.specs.Spans.{SpansKnown};
 ghost use Rattle.state.specs.Conflicts.{most_actions};
 
 use golog::State;
+use leaves::Programs;
 use state::conflicts::ACTIONS;
 
 // How many records each table has, and whether there are interrupts.
@@ -97,10 +98,11 @@ pub fn prepare(
     ensures told { Told formulas.now effects.now actions.now programs.now v numbers.new }
     ensures written { Only 0 told_places numbers.old numbers.new }
 {
-    let spans = enabled::spans(programs, v.p, v.interrupts);
-    let endable = leaves::bounds(programs, v.p, v.interrupts, true);
-    let digits = positions::digits(programs, v.p, v.interrupts, &endable, &spans);
-    let distances = leaves::distances(programs, v.p, v.interrupts);
+    let p = Programs::new(programs, v.p, v.interrupts);
+    let spans = enabled::spans(&p);
+    let endable = leaves::bounds(&p, true);
+    let digits = positions::digits(&p, &endable, &spans);
+    let distances = leaves::distances(&p);
     let marks = marks_of(formulas, effects, actions, programs, v);
     put_numbers(numbers, SPANS, &spans);
     put_numbers(numbers, DIGITS, &digits);
@@ -167,7 +169,8 @@ fn fill_sets(
 {
     truths::fill(formulas, v.q, s, table);
     fill_possible(fluents, effects, actions, marks, table);
-    enabled::fill(programs, v.p, v.interrupts, s.running, spans, table);
+    let p = Programs::new(programs, v.p, v.interrupts);
+    enabled::fill(&p, s.running, spans, table);
 }
 
 // Fills in the sets of a state for depth d.

@@ -6,7 +6,7 @@ use mathlib.Core.List.Memᴰ
 use mathlib.Core.List.{List, [], ◌∷◌, map, Memᴰ}
 use mathlib.Core.Logic.{⊎_elim}
 use Rattle.std.specs.Prelude.{Option, Some, None}
-use Rattle.std.specs.Option.{option_or}
+use Rattle.std.specs.Option.{option_or, MatchOption}
 use Prim.Native.Nat.{ℕ, zero, suc, ◌+◌, ◌-◌, ◌*◌, ◌/◌, ◌%◌, ◌≤◌, ◌<◌, min}
 use native.Mathlib.Nat.{add-mul, one-mul, mul-le-mul_right, div-mul-le_self, lt-div-mul-add, div-add-mod', div-eq_of_lt-le, eq-or-lt_of_le}
 use native.Mathlib.Omega.{arith}
@@ -21,6 +21,14 @@ use Rattle.positions.specs.Found.{first_of, further, NextValue}
 use Rattle.positions.proofs.Rising.{rising_moved}
 use Rattle.positions.proofs.From.{from_start, found_moved, found_append, found_none}
 use Rattle.positions.proofs.Parts.{rising_at, empty, of_moved}
+
+-- the next value, as `find` answers it
+pub next_found : (enabled : ℕ → Bool) (v n : ℕ) (r : Option ℕ)
+    → MatchOption r ((u : ℕ) → v ≤ u → u < n → enabled u ≡ false)
+    (λ w. (v ≤ w) × (w < n) × (enabled w ≡ true) × ((u : ℕ) → v ≤ u → u < w → enabled u ≡ false))
+    → NextValue enabled v n r
+next_found enabled v n None h = h
+next_found enabled v n (Some w) h = h
 
 pub next_multiple : (u n : ℕ) → (u + 1) * n ≡ u * n + n
 next_multiple u n = add-mul u 1 n ∙ ap (λ (m : ℕ). u * n + m) (one-mul n)

@@ -15,9 +15,8 @@ use Rattle.golog.specs.World.{World, holds}
 use Rattle.golog.specs.Transitions.{is_none}
 use Rattle.golog.specs.Written.{span_of, program_read, written_records}
 use Rattle.remaining.specs.Leaves.{RestTransition, on_rest, wrap_a, wrap_b, sibling_a, leaf_of}
-use Rattle.remaining.specs.Extended.{table_of}
-use Rattle.leaves.specs.Tallies.{extended_size}
-use Rattle.steps.specs.declared.Setting.{Setting}
+use Rattle.leaves.specs.Running as table
+use Rattle.positions.specs.declared.tables.Tables as given
 use Rattle.positions.specs.declared.Way.{Way}
 use Rattle.positions.specs.declared.Fork.{Fork}
 use Rattle.positions.specs.Spots.{Spot, apart, spots_of, from_spot}
@@ -48,15 +47,18 @@ pub record Tables : Type 0 where
   pub digits : List ℕ
   pub sets : List ℕ
 
-abbrev pub tables_of : (programs : List ℕ) → Setting → (spans digits sets : List ℕ) → Tables
-tables_of programs v spans digits sets = record {
-  records = table_of programs v.n v.interrupts;
-  many = extended_size v.interrupts v.n;
-  running = v.running;
+abbrev pub tables_by : table.Running → (running : Bool) → (spans digits sets : List ℕ) → Tables
+tables_by p running spans digits sets = record {
+  records = table.records p;
+  many = table.size p;
+  running = running;
   spans = spans;
   digits = digits;
   sets = sets;
 }
+
+abbrev pub tables_of : given.Tables → Tables
+tables_of t = tables_by t.programs.now t.running t.spans.now t.digits.now t.table.now
 
 abbrev pub digits_in : Tables → ℕ → ℕ
 digits_in t i = get_or t.digits i 0

@@ -3,16 +3,14 @@
 
 ghost use Rattle.std.specs.Prelude.{◌≡◌, true, false, not, cond, ◌&&◌, ℕ, ◌+◌, ◌-◌, ◌/◌, ◌^◌, ◌≤◌, ◌<◌, min, max, T, eqb, length, get_or};
 ghost use Rattle.std.specs.Option.{ForSome};
-ghost use Rattle.records.specs.Records.{ProgramTable};
-ghost use Rattle.remaining.specs.Extended.{table_of};
-ghost use Rattle.leaves.specs.Tallies.{extended_size};
+ghost use Rattle.leaves.specs.Running.{records, size};
 ghost use Rattle.positions.specs.Spots.{digits_by, apart};
 ghost use Rattle.positions.specs.Found.{NextValue, gap_of, CanFork, ForksParts, value_way, ForksValues};
 ghost use Rattle.positions.specs.Found.{tables_of, CanLook, ForksRecord, CanGo, FindsWay, FindsRecord};
 ghost use Rattle.positions.specs.Levels.{digits_over, digits_of};
 ghost use Rattle.golog.specs.Written.{entry_in, program_read};
 ghost use Rattle.records.specs.Placeholders.{put, reading};
-ghost use Rattle.kinds.specs.Programs.{has_a, has_condition, uses_a, uses_b, tag_a, tag_b};
+ghost use Rattle.kinds.specs.Programs.{has_a, has_condition, picks, uses_a, uses_b, tag_a, tag_b};
 ghost use Rattle.sets.specs.Sets.{member, set_at};
 ghost use Rattle.steps.specs.Laid.{InWords, past};
 ghost use Rattle.positions.specs.Read.{Readable};
@@ -20,8 +18,14 @@ ghost use Rattle.positions.specs.Placed.{CanPlace, PlacesRecord, LaidOwn, Wrappe
 ghost use Rattle.remaining.specs.Leaves.{sibling_a, wrap_a, wrap_b};
 ghost use Rattle.words.specs.Words.{Room};
 
+use kinds::programs::{Kind, kind_of};
+use leaves::Programs;
 use records::Program;
-use steps::{Laid, Setting};
+use steps::Laid;
+
+mod tables;
+
+pub use tables::Tables;
 
 // How many environments there are.
 pub const ENVIRONMENTS: usize = 256;
@@ -34,12 +38,12 @@ fn digits_by(r: Program, endable: bool, span: u32, da: u32, db: u32) -> u32
     requires { (da < 2 ^ 31) × (db < 2 ^ 31) }
     ensures { result ≡ digits_by r endable span da db }
 {
-    match r.kind {
-        3 => da.max(db) + u32::from(endable),
-        4 | 8 => da.max(db) + 1,
-        5 | 7 | 10 | 11 => da,
-        6 | 9 => da.max(db),
-        12 => db + u32::from(span != 1),
+    match kind_of(r.kind) {
+        Some(Kind::Sequence) => da.max(db) + u32::from(endable),
+        Some(Kind::Choice | Kind::Together) => da.max(db) + 1,
+        Some(Kind::Star | Kind::While | Kind::Iteration | Kind::Interrupt) => da,
+        Some(Kind::If | Kind::Over) => da.max(db),
+        Some(Kind::Pick) => db + u32::from(span != 1),
         _ => 0,
     }
 }
@@ -56,20 +60,13 @@ fn digits_over(r: Program, endable: bool, span: u32, digits: &[u32]) -> u32
 
 // How many digits each record of the table that runs has, where `endable` has those that may be final and `spans` how many values each
 // lists: one pass upwards, since a record names lower ones only.
-pub fn digits(
-    programs: &[u8],
-    n: usize,
-    interrupts: bool,
-    endable: &[bool],
-    spans: &[u32],
-) -> [u32; leaves::RECORDS]
-    requires { ProgramTable programs.now n }
-    ensures { result ≡ digits_of (table_of programs.now n interrupts) (extended_size interrupts n) endable.now spans.now }
+pub fn digits(p: &Programs, endable: &[bool], spans: &[u32]) -> [u32; leaves::RECORDS]
+    ensures { result ≡ digits_of (records p.now) (size p.now) endable.now spans.now }
 {
-    let m = leaves::places_of(n, interrupts);
+    let m = p.places();
     let mut digits = [0u32; leaves::RECORDS];
     for i in 0..m {
-        let r = leaves::record_at(programs, n, interrupts, i);
+        let r = p.record(i);
         let ends = records::value_in(endable, r.a, true);
         digits[i] = digits_over(r, ends, records::value_in(spans, i, 1), &digits);
     }
@@ -102,11 +99,11 @@ fn read_a(r: Program, e: usize, span: usize) -> usize
     requires { Readable r e span }
     ensures { (result ≡ (program_read e span r).a) × (result < 2 ^ 32) }
 {
-    match r.kind {
-        1 => entry_in(r.a, e),
-        2..=11 => reading_of(r.a, e),
-        12 => span,
-        _ => r.a,
+    match kind_of(r.kind) {
+        None | Some(Kind::Nil) => r.a,
+        Some(Kind::Act) => entry_in(r.a, e),
+        Some(Kind::Pick) => span,
+        _ => reading_of(r.a, e),
     }
 }
 
@@ -127,8 +124,8 @@ fn read_c(r: Program, e: usize, span: usize) -> usize
     requires { Readable r e span }
     ensures { result ≡ (program_read e span r).c }
 {
-    match r.kind {
-        6 | 7 | 11 => reading_of(r.c, e),
+    match kind_of(r.kind) {
+        Some(Kind::If | Kind::While | Kind::Interrupt) => reading_of(r.c, e),
         _ => r.c,
     }
 }
@@ -210,12 +207,7 @@ fn next_value(table: &[u32], b: usize, e: usize, c: usize, v: usize, n: usize) -
     requires { (8256 ≤ length table.now) × (b < 260) × (e < 256) × (n ≤ 16) }
     ensures { NextValue (λ (u : ℕ). member (set_at table.now (772 + b)) (put e c u)) v n result }
 {
-    for w in v..n {
-        if enabled_in(table, b, put_value(e, c, w)) {
-            return Some(w);
-        }
-    }
-    None
+    (v..n).find(|&w| enabled_in(table, b, put_value(e, c, w)))
 }
 
 // Whether the condition of record r, where it has one, holds in e.
@@ -224,8 +216,8 @@ fn condition(r: Program, table: &[u32], e: usize) -> bool
     requires { (8256 ≤ length table.now) × (T (has_condition r.kind) → r.c < 512) × (e < 256) }
     ensures { T (has_condition r.kind) → result ≡ member (set_at table.now r.c) e }
 {
-    match r.kind {
-        6 | 7 | 11 => sets::has_in(table, r.c, e),
+    match kind_of(r.kind) {
+        Some(Kind::If | Kind::While | Kind::Interrupt) => sets::has_in(table, r.c, e),
         _ => false,
     }
 }
@@ -245,11 +237,11 @@ fn goes_b(r: Program, h: bool, table: &[u32], e: usize) -> bool
     requires { (8256 ≤ length table.now) × (T (has_a r.kind) → r.a < 260) × (e < 256) }
     ensures { result ≡ uses_b r.kind (member (set_at table.now (512 + r.a)) e) h (not (member (set_at table.now (772 + r.a)) e)) }
 {
-    match r.kind {
-        3 => final_in(table, r.a, e),
-        4 | 8 => true,
-        6 => !h,
-        9 => !enabled_in(table, r.a, e),
+    match kind_of(r.kind) {
+        Some(Kind::Sequence) => final_in(table, r.a, e),
+        Some(Kind::Choice | Kind::Together) => true,
+        Some(Kind::If) => !h,
+        Some(Kind::Over) => !enabled_in(table, r.a, e),
         _ => false,
     }
 }
@@ -259,10 +251,9 @@ fn gap(kind: usize, goes: bool, d: usize) -> u64
     requires { d ≤ 16 }
     ensures { result ≡ gap_of kind goes d }
 {
-    if goes && matches!(kind, 3 | 4 | 8) {
-        apart_of(d)
-    } else {
-        0
+    match kind_of(kind) {
+        Some(Kind::Sequence | Kind::Choice | Kind::Together) if goes => apart_of(d),
+        _ => 0,
     }
 }
 
@@ -322,87 +313,59 @@ fn fork_values(r: Program, n: usize, d: usize, table: &[u32], e: usize, k: u64) 
     }
     let by = apart_of(d);
     let v = (k / by).min(VALUES as u64) as usize;
-    let first = if v < n {
-        Some(value_way(r, e, v, k % by, by))
-    } else {
-        None
-    };
+    let first = (v < n).then(|| value_way(r, e, v, k % by, by));
     let second = next_value(table, r.b, e, r.c, v + 1, n).map(|w| value_way(r, e, w, 0, by));
     Fork { r, first, second }
 }
 
-// The kind that chooses a value.
-const CHOICE: usize = 12;
+// Whether a record chooses a value.
+fn picks(kind: usize) -> bool
+    ensures { result ≡ picks kind }
+{
+    kind_of(kind) == Some(Kind::Pick)
+}
 
 // The ways of record i, read in e, from position k on.
-fn ways(
-    programs: &[u8],
-    v: Setting,
-    spans: &[u32],
-    digits: &[u32],
-    table: &[u32],
-    i: usize,
-    e: usize,
-    k: u64,
-) -> Fork
-    requires program_table { ProgramTable programs.now v.n }
-    requires can_look { CanLook (tables_of programs.now v spans.now digits.now table.now) i e }
-    ensures { ForksRecord (tables_of programs.now v spans.now digits.now table.now) i e k result }
+fn ways(t: &Tables, i: usize, e: usize, k: u64) -> Fork
+    requires { CanLook (tables_of t.now) i e }
+    ensures { ForksRecord (tables_of t.now) i e k result }
 {
-    let r = leaves::record_at(programs, v.n, v.interrupts, i);
-    let d = records::value_in(digits, i, 0) as usize;
-    if r.kind == CHOICE {
-        let n = records::value_in(spans, i, 1) as usize;
-        return fork_values(r, n, d, table, e, k);
+    let r = t.programs.record(i);
+    let d = records::value_in(t.digits, i, 0) as usize;
+    if picks(r.kind) {
+        let n = records::value_in(t.spans, i, 1) as usize;
+        return fork_values(r, n, d, t.table, e, k);
     }
-    fork_parts(r, v.running, d, table, e, k)
+    fork_parts(r, t.running, d, t.table, e, k)
 }
 
 // The position of the first transition that a way leads to: straight down, since a record that has none is passed by at once.
-fn find_way(
-    programs: &[u8],
-    v: Setting,
-    spans: &[u32],
-    digits: &[u32],
-    table: &[u32],
-    way: Option<Way>,
-) -> Option<u64>
-    requires program_table { ProgramTable programs.now v.n }
-    requires can_go { ForSome way (CanGo (tables_of programs.now v spans.now digits.now table.now)) }
-    ensures { FindsWay (tables_of programs.now v spans.now digits.now table.now) way result }
+fn find_way(t: &Tables, way: Option<Way>) -> Option<u64>
+    requires { ForSome way (CanGo (tables_of t.now)) }
+    ensures { FindsWay (tables_of t.now) way result }
 {
     let w = way?;
-    if !enabled_in(table, w.i, w.e) {
+    if !enabled_in(t.table, w.i, w.e) {
         return None;
     }
-    let f = ways(programs, v, spans, digits, table, w.i, w.e, w.k);
+    let f = ways(t, w.i, w.e, w.k);
     if kinds::programs::has_own(f.r.kind) {
         return (w.k == 0).then_some(w.base);
     }
-    if let Some(at) = find_way(programs, v, spans, digits, table, f.first) {
+    if let Some(at) = find_way(t, f.first) {
         return Some(w.base + at);
     }
-    let at = find_way(programs, v, spans, digits, table, f.second)?;
+    let at = find_way(t, f.second)?;
     Some(w.base + at)
 }
 
 // The position of the first transition of record i, read in e, at k or later.
-pub fn find_record(
-    programs: &[u8],
-    v: Setting,
-    spans: &[u32],
-    digits: &[u32],
-    table: &[u32],
-    i: usize,
-    e: usize,
-    k: u64,
-) -> Option<u64>
-    requires program_table { ProgramTable programs.now v.n }
-    requires can_look { CanLook (tables_of programs.now v spans.now digits.now table.now) i e }
-    ensures { FindsRecord (tables_of programs.now v spans.now digits.now table.now) i e k result }
+pub fn find_record(t: &Tables, i: usize, e: usize, k: u64) -> Option<u64>
+    requires { CanLook (tables_of t.now) i e }
+    ensures { FindsRecord (tables_of t.now) i e k result }
 {
     let w = Way { i, e, k, base: 0 };
-    find_way(programs, v, spans, digits, table, Some(w))
+    find_way(t, Some(w))
 }
 
 // Lays out the own transition of record r, which leaves nothing.
@@ -445,35 +408,22 @@ fn wrap_laid_b(work: &mut [u32], to: usize, r: Program, x: Laid) -> Laid
 
 // Lays out the transition of record i, read in e, at position k: its own, or the one that its ways lead to. What stands beside what it leaves
 // is read in e too, so that it does not see a value chosen below.
-pub fn lay_record(
-    programs: &[u8],
-    v: Setting,
-    spans: &[u32],
-    digits: &[u32],
-    table: &[u32],
-    work: &mut [u32],
-    i: usize,
-    e: usize,
-    to: usize,
-    k: u64,
-) -> Laid
-    requires program_table { ProgramTable programs.now v.n }
-    requires can_place { CanPlace (tables_of programs.now v spans.now digits.now table.now) work.old i e to k }
-    ensures { PlacesRecord (tables_of programs.now v spans.now digits.now table.now) i e k to
-        work.old work.new result.entry result.size }
+pub fn lay_record(t: &Tables, work: &mut [u32], i: usize, e: usize, to: usize, k: u64) -> Laid
+    requires { CanPlace (tables_of t.now) work.old i e to k }
+    ensures { PlacesRecord (tables_of t.now) i e k to work.old work.new result.entry result.size }
 {
-    let f = ways(programs, v, spans, digits, table, i, e, k);
-    let r = read(f.r, e, records::value_in(spans, i, 1) as usize);
+    let f = ways(t, i, e, k);
+    let r = read(f.r, e, records::value_in(t.spans, i, 1) as usize);
     if kinds::programs::has_own(r.kind) {
         return lay_own(work, to, r);
     }
     if let Some(w) = f.first {
         let at = to + steps::past_words(kinds::programs::tag_a(r.kind) == 0, 3);
-        let x = lay_record(programs, v, spans, digits, table, work, w.i, w.e, at, w.k);
+        let x = lay_record(t, work, w.i, w.e, at, w.k);
         return wrap_laid_a(work, to, r, reading_of(i, e), x);
     }
     let w = f.second.unwrap();
     let at = to + steps::past_words(kinds::programs::tag_b(r.kind) == 0, 6);
-    let x = lay_record(programs, v, spans, digits, table, work, w.i, w.e, at, w.k);
+    let x = lay_record(t, work, w.i, w.e, at, w.k);
     wrap_laid_b(work, to, r, x)
 }

@@ -2,79 +2,63 @@
 -- nothing.
 use native.Mathlib.Omega.{arith}
 use Rattle.words.proofs.Standing.{leaf_at}
-use Rattle.words.proofs.Reading.{holds_room, Parts}
+use Rattle.words.proofs.Reading.{holds_room}
 use Rattle.cursors.proofs.Laying.{lay_stands, lay_construct, lay_parts, leaf_can, leaf_placed, lay_falls_left, lay_falls_right}
 use Rattle.cursors.proofs.Laying.{can_left, left_end, left_placed, can_right, right_end, right_placed}
 use Rattle.cursors.proofs.+lay_rest.Goals as goal
 
 pub tag_at-tag-requires : goal.tag_at-tag-requires
-tag_at-tag-requires t c = holds_room (lay_stands c.requires.can_lay_rest)
+tag_at-tag-requires t c = holds_room (lay_stands c.requires)
 
 pub record_at-j-requires : goal.record_at-j-requires
-record_at-j-requires t c = holds_room (lay_stands c.requires.can_lay_rest)
+record_at-j-requires t c = holds_room (lay_stands c.requires)
 
 pub lay_record-requires : goal.lay_record-requires
 lay_record-requires t c =
-    let K = c.requires.can_lay_rest in
-    record {
-      program_table = c.requires.program_table;
-      can_place = leaf_can K (omega (arith, c.ranges.k.fits)) (leaf_at _ _ _ c.tag_at-tag.ensures K.can.rest K.can.at c.if-tag-eq-LEAF.true)
-          c.record_at-j.ensures;
-    }
+    let K = c.requires in
+    leaf_can K (omega (arith, c.ranges.k.fits)) (leaf_at _ _ _ c.tag_at-tag.ensures K.can.rest K.can.at c.if-tag-eq-LEAF.true) c.record_at-j.ensures
 
 pub returns-then-tag-eq-LEAF : goal.returns-then-tag-eq-LEAF
 returns-then-tag-eq-LEAF t c =
-    let K = c.requires.can_lay_rest in
+    let K = c.requires in
     leaf_placed K (omega (arith, c.ranges.k.fits)) (leaf_at _ _ _ c.tag_at-tag.ensures K.can.rest K.can.at c.if-tag-eq-LEAF.true) c.record_at-j.ensures
     c.lay_record.ensures
 
 pub size_at-n-requires : goal.size_at-n-requires
-size_at-n-requires t c = (lay_construct c.requires.can_lay_rest c.tag_at-tag.ensures c.if-tag-eq-LEAF.false).left_room
+size_at-n-requires t c = (lay_construct c.requires c.tag_at-tag.ensures c.if-tag-eq-LEAF.false).left_room
 
 pub lay_rest-x-requires : goal.lay_rest-x-requires
 lay_rest-x-requires t c =
-    let parts_known : Parts c.requires.can_lay_rest.can.rest c.args.work.now c.args.from c.tag_at-tag.result c.size_at-n.result =
-    lay_parts c.requires.can_lay_rest c.tag_at-tag.ensures c.if-tag-eq-LEAF.false c.size_at-n.ensures in
-    let K = c.requires.can_lay_rest in
-    let D = parts_known in
-    (lay_falls_left K D c.decreases, (c.requires.program_table, can_left K D (omega (arith, c.ranges.k.fits)) c.if-place-right.true))
+    let K = c.requires in
+    let D = lay_parts K c.tag_at-tag.ensures c.if-tag-eq-LEAF.false c.size_at-n.ensures in
+    (lay_falls_left K D c.decreases, can_left K D (omega (arith, c.ranges.k.fits)) c.if-place-right.true)
 
 pub put_right-requires : goal.put_right-requires
 put_right-requires t c =
-    let parts_known : Parts c.requires.can_lay_rest.can.rest c.args.work.now c.args.from c.tag_at-tag.result c.size_at-n.result =
-    lay_parts c.requires.can_lay_rest c.tag_at-tag.ensures c.if-tag-eq-LEAF.false c.size_at-n.ensures in
-    let K = c.requires.can_lay_rest in
-    let D = parts_known in
+    let K = c.requires in
+    let D = lay_parts K c.tag_at-tag.ensures c.if-tag-eq-LEAF.false c.size_at-n.ensures in
     left_end K D (omega (arith, c.ranges.k.fits)) c.if-place-right.true c.lay_rest-x.ensures
 
 pub returns-then-place-right : goal.returns-then-place-right
 returns-then-place-right t c =
-    let parts_known : Parts c.requires.can_lay_rest.can.rest c.args.work.now c.args.from c.tag_at-tag.result c.size_at-n.result =
-    lay_parts c.requires.can_lay_rest c.tag_at-tag.ensures c.if-tag-eq-LEAF.false c.size_at-n.ensures in
-    let K = c.requires.can_lay_rest in
-    let D = parts_known in
+    let K = c.requires in
+    let D = lay_parts K c.tag_at-tag.ensures c.if-tag-eq-LEAF.false c.size_at-n.ensures in
     left_placed K D (omega (arith, c.ranges.k.fits)) c.if-place-right.true c.lay_rest-x.ensures c.put_right.ensures
 
 pub lay_rest-x-requires-2 : goal.lay_rest-x-requires-2
 lay_rest-x-requires-2 t c =
-    let parts_known : Parts c.requires.can_lay_rest.can.rest c.args.work.now c.args.from c.tag_at-tag.result c.size_at-n.result =
-    lay_parts c.requires.can_lay_rest c.tag_at-tag.ensures c.if-tag-eq-LEAF.false c.size_at-n.ensures in
-    let K = c.requires.can_lay_rest in
-    let D = parts_known in
-    (lay_falls_right K D c.decreases, (c.requires.program_table, can_right K D (omega (arith, c.if-place-right.false)) c.past_words.ensures.1))
+    let K = c.requires in
+    let D = lay_parts K c.tag_at-tag.ensures c.if-tag-eq-LEAF.false c.size_at-n.ensures in
+    (lay_falls_right K D c.decreases, can_right K D (omega (arith, c.if-place-right.false)) c.past_words.ensures.1)
 
 pub put_left-requires : goal.put_left-requires
 put_left-requires t c =
-    let parts_known : Parts c.requires.can_lay_rest.can.rest c.args.work.now c.args.from c.tag_at-tag.result c.size_at-n.result =
-    lay_parts c.requires.can_lay_rest c.tag_at-tag.ensures c.if-tag-eq-LEAF.false c.size_at-n.ensures in
-    let K = c.requires.can_lay_rest in
-    let D = parts_known in
+    let K = c.requires in
+    let D = lay_parts K c.tag_at-tag.ensures c.if-tag-eq-LEAF.false c.size_at-n.ensures in
     right_end K D (omega (arith, c.if-place-right.false)) c.past_words.ensures.0 c.lay_rest-x-2.ensures
 
 pub returns : goal.returns
 returns t c =
-    let parts_known : Parts c.requires.can_lay_rest.can.rest c.args.work.now c.args.from c.tag_at-tag.result c.size_at-n.result =
-    lay_parts c.requires.can_lay_rest c.tag_at-tag.ensures c.if-tag-eq-LEAF.false c.size_at-n.ensures in
-    let K = c.requires.can_lay_rest in
-    let D = parts_known in
+    let K = c.requires in
+    let D = lay_parts K c.tag_at-tag.ensures c.if-tag-eq-LEAF.false c.size_at-n.ensures in
     right_placed K D (omega (arith, c.if-place-right.false)) c.past_words.ensures.0 c.lay_rest-x-2.ensures c.put_left.ensures

@@ -1,11 +1,6 @@
 -- Each table is what its function tells, and stands where it was written: those written later stand behind it. Assumes nothing.
-use Prim.Native.Nat.{ℕ}
-use mathlib.Core.Bool.{Bool}
-use mathlib.Core.List.{List}
-use mathlib.Core.Path.{◌≡◌, ◌∙◌, ap₂}
+use mathlib.Core.Path.{◌≡◌}
 use lib.ListN.{length}
-use Rattle.positions.specs.Levels.{digits_of}
-use Rattle.machine.specs.Tables.{records_of, many_of}
 use Rattle.machine.proofs.Keeping.{put_only, put_told}
 use borrow.Author.Rules.{rules}
 use Rattle.machine.proofs.prepare.Goals as goal
@@ -31,9 +26,8 @@ returns c =
     let B = c.put_numbers-2.ensures in
     let C = c.put_numbers-3.ensures in
     let D = c.put_numbers-4.ensures in
-    let digits = c.digits-digits.ensures
-    ∙ ap₂ (λ (x : List Bool) (y : List ℕ). digits_of (records_of programs v) (many_of v) x y) c.bounds-endable.ensures c.spans-spans.ensures in
+    let p = c.new-p.ensures in
     record {
-      told = put_told long A B C D al bl cl dl c.spans-spans.ensures digits c.distances-distances.ensures c.marks_of-marks.ensures;
+      told = put_told long A B C D al bl cl dl (rw p at c.spans-spans.ensures) (rw (c.bounds-endable.ensures, c.spans-spans.ensures, p) at c.digits-digits.ensures) (rw p at c.distances-distances.ensures) c.marks_of-marks.ensures;
       written = put_only long A B C D al bl cl dl;
     }

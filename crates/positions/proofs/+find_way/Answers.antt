@@ -8,32 +8,32 @@ use Rattle.positions.proofs.+find_way.Goals as goal
 
 pub enabled_in-requires : goal.enabled_in-requires
 enabled_in-requires t c =
-    let can = c.requires.can_go _ c.in_ok-w.was in
+    let can = c.requires _ c.in_ok-w.was in
     (can.look.surveyed.prepared.long, omega (arith, can.look.inside, can.look.surveyed.prepared.few), can.look.small)
 
 pub returns-then-not-enabled_in : goal.returns-then-not-enabled_in
 returns-then-not-enabled_in t c W s Q =
-    let can = c.requires.can_go _ c.in_ok-w.was in
+    let can = c.requires _ c.in_ok-w.was in
     finds_idle Q c.in_ok-w.was can.look.inside can.look.small (sym c.enabled_in.ensures ∙ c.if-not-enabled_in.true)
 
 pub returns-then-has_own : goal.returns-then-has_own
 returns-then-has_own t c W s Q =
-    let can = c.requires.can_go _ c.in_ok-w.was in
+    let can = c.requires _ c.in_ok-w.was in
     finds_own Q c.in_ok-w.was can.look.inside can.look.small (sym c.enabled_in.ensures ∙ c.if-not-enabled_in.false)
     (sym (ap (λ (r : Program). has_own r.kind) c.ways-f.ensures.record_is) ∙ sym c.has_own.ensures ∙ c.if-has_own.true)
     ∙ sym c.then_some.ensures
 
 pub find_way-requires : goal.find_way-requires
 find_way-requires t c =
-    let can = c.requires.can_go _ c.in_ok-w.was in
+    let can = c.requires _ c.in_ok-w.was in
     let F = c.ways-f.ensures.forked (sym c.has_own.ensures ∙ c.if-has_own.false) in (
       omega (arith, rank_falls c.in_ok-w.w.i c.ways-f.result.first (λ x g. way_falls can (F.first x g)), rank_is c.in_ok-w.was, c.decreases),
-      (c.requires.program_table, λ x g. way_can can (F.first x g)),
+      λ x g. way_can can (F.first x g),
     )
 
 pub overflow_add-result : goal.overflow_add-result
 overflow_add-result t c =
-    let can = c.requires.can_go _ c.in_ok-w.was in
+    let can = c.requires _ c.in_ok-w.was in
     let F = c.ways-f.ensures.forked (sym c.has_own.ensures ∙ c.if-has_own.false) in
     omega (arith, way_fits can (by_first can.look.surveyed c.in_ok-w.was (F.forks _ _ can.look.surveyed) (c.find_way.ensures _ _ can.look.surveyed ∙ c.in-Some.is)))
 
@@ -44,15 +44,15 @@ returns-in-Some t c W s Q =
 
 pub find_way-requires-2 : goal.find_way-requires-2
 find_way-requires-2 t c =
-    let can = c.requires.can_go _ c.in_ok-w.was in
+    let can = c.requires _ c.in_ok-w.was in
     let F = c.ways-f.ensures.forked (sym c.has_own.ensures ∙ c.if-has_own.false) in (
       omega (arith, rank_falls c.in_ok-w.w.i c.ways-f.result.second (λ x g. way_falls can (F.second x g)), rank_is c.in_ok-w.was, c.decreases),
-      (c.requires.program_table, λ x g. way_can can (F.second x g)),
+      λ x g. way_can can (F.second x g),
     )
 
 pub overflow_add-result-2 : goal.overflow_add-result-2
 overflow_add-result-2 t c =
-    let can = c.requires.can_go _ c.in_ok-w.was in
+    let can = c.requires _ c.in_ok-w.was in
     let F = c.ways-f.ensures.forked (sym c.has_own.ensures ∙ c.if-has_own.false) in
     omega (
       arith,

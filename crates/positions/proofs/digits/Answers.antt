@@ -4,9 +4,8 @@ use mathlib.Core.List.{map-id}
 use Prim.Native.Nat.{ℕ}
 use native.Mathlib.Nat.{le_antisymm}
 use native.Mathlib.Omega.{arith}
-use Rattle.records.specs.Records.{program_at}
 use Rattle.records.proofs.Fills.{start}
-use Rattle.remaining.specs.Extended.{extended}
+use Rattle.leaves.specs.Running.{records}
 use Rattle.positions.specs.Levels.{digits_of}
 use Rattle.positions.proofs.Levels.{filled_few, filled_more}
 use Rattle.positions.proofs.digits.Goals as goal
@@ -16,13 +15,13 @@ loop-i-init c = start 0 _ (λ (d : ℕ). d) 260
 
 pub digits_over-requires : goal.digits_over-requires
 digits_over-requires c =
-    filled_few (extended c.args.interrupts (program_at c.args.programs.now) c.args.n) c.args.endable.now c.args.spans.now c.loop-i.invariant (omega arith)
+    filled_few (records c.args.p.now) c.args.endable.now c.args.spans.now c.loop-i.invariant (omega arith)
 
 pub loop-i-preserved : goal.loop-i-preserved
 loop-i-preserved c =
-    filled_more (extended c.args.interrupts (program_at c.args.programs.now) c.args.n) c.args.endable.now c.args.spans.now
-    c.loop-i.invariant (omega arith) c.record_at-r.ensures.record c.value_in-ends.ensures c.value_in.ensures c.digits_over.ensures
+    filled_more (records c.args.p.now) c.args.endable.now c.args.spans.now
+    c.loop-i.invariant (omega arith) c.record-r.ensures.record c.value_in-ends.ensures c.value_in.ensures c.digits_over.ensures
 
 pub returns : goal.returns
 unfolding digits_of
-returns c = let e = le_antisymm c.loop-i.auto.i-end c.loop-i-test.false ∙ c.places_of-m.ensures.0 in rw (← e) (c.loop-i.invariant.same ∙ simp map-id)
+returns c = let e = le_antisymm c.loop-i.auto.i-end c.loop-i-test.false ∙ c.places-m.ensures.0 in rw (← e) (c.loop-i.invariant.same ∙ simp map-id)
