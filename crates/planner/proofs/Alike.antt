@@ -7,6 +7,7 @@ use Prim.Native.Nat.{ℕ, ◌≤◌, ◌<◌}
 use lib.Dec.{ltb}
 use lib.ListN.{length, take, drop}
 use lib.Seq.{take_at}
+use Rattle.std.specs.Prelude.{Result, Ok, Err}
 use Rattle.records.specs.Mask.{has_bit}
 use Rattle.records.specs.Records.{fluent_at}
 use Rattle.sheet.specs.Layout.{layout_of, fluents_in}
@@ -19,6 +20,7 @@ use Rattle.demands.proofs.Alike.{AnsweredAlike, plan_same, replay_same}
 use Rattle.demands.proofs.Notes.{notes_alike}
 use Rattle.demands.proofs.Outside.{outside_alike}
 use Rattle.demands.proofs.Initials.{initial_alone, initial_accepted}
+use Rattle.sheet.specs.declared.Refusal.{Refusal}
 use Rattle.planner.specs.Answers.{Stage, refused, searching, with_work, plan_stage, replay_stage, plan_checked, replay_checked}
 use Rattle.planner.specs.Answers.{answer_as, plan_at, traced, trace_at, work_at, index_at, answer_of, trace_of, plan_work, index_of, Called}
 use Rattle.planner.specs.Answers.{reply, replay_at, reply_of, replay_work}
@@ -80,7 +82,7 @@ module _ {s s' : List ℕ} (same : AnsweredAlike s s') where
       go (Err why) = refl
 
   -- two calls of `plan` that were lent the same answer the same and leave the same
-  pub calls_same : (work trace index : List ℕ) (a a' : Planned) (work₁ trace₁ index₁ work₂ trace₂ index₂ : List ℕ)
+  pub calls_same : (work trace index : List ℕ) (a a' : Result Planned Refusal) (work₁ trace₁ index₁ work₂ trace₂ index₂ : List ℕ)
       → Called s work trace index a work₁ trace₁ index₁ → Called s' work trace index a' work₂ trace₂ index₂
       → (a' ≡ a) × (work₂ ≡ work₁) × (trace₂ ≡ trace₁) × (index₂ ≡ index₁)
   calls_same work trace index a a' work₁ trace₁ index₁ work₂ trace₂ index₂ c c' = (

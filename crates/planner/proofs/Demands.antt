@@ -13,6 +13,7 @@ use borrow.Author.Tests.{lt-ltb, le-ltb}
 use lib.Dec.{ltb}
 use lib.ListN.{length, take, drop, replicate}
 use lib.Seq.{take_at, drop_at}
+use Rattle.std.specs.Prelude.{Result, Ok, Err}
 use Rattle.runs.specs.Search.{Verdict, plan, nothing, more}
 use Rattle.height.specs.Work.{work_words}
 use Rattle.sheet.specs.Check.{Checked, accepted_with, refusal_of, check_of}
@@ -307,10 +308,10 @@ stage_numbered s work trace = go (check_of s) refl (numbered s)
     go (Ok a) e n = lent a.words a.names e (ltb trace (bound_of s)) (ltb work a.words)
     go (Err why) e n = (n.0, omega (arith, n.1))
 
-module _ (s work trace index : List ℕ) (a : Planned) (work' trace' index' : List ℕ) (call : Called s work trace index a work' trace' index') where
+module _ (s work trace index : List ℕ) (a : Result Planned Refusal) (work' trace' index' : List ℕ) (call : Called s work trace index a work' trace' index') where
   call_numbered : NumberedAt (plan_number a) (plan_stage s (length work) (length trace))
   call_numbered =
-      subst (λ (b : Planned). NumberedAt (plan_number b) (plan_stage s (length work) (length trace))) (sym call.answered)
+      subst (λ (b : Result Planned Refusal). NumberedAt (plan_number b) (plan_stage s (length work) (length trace))) (sym call.answered)
       (stage_numbered s (length work) (length trace))
 
   -- "After a search the whole index is 0": where a plan, 13 or 14 came out
@@ -335,7 +336,7 @@ module _ (s work trace index : List ℕ) (a : Planned) (work' trace' index' : Li
       go (searching w) l = absurd (⊎_elim (λ e. omega (arith, low)) (λ e. omega (arith, high)) l)
 
   -- "On every sheet the verdict and trace with an index of any length equal those with length 0", and so is what is left in work
-  pub index_changes_nothing : (a₀ : Planned) (work₀ trace₀ index₀ : List ℕ) → Called s work trace [] a₀ work₀ trace₀ index₀
+  pub index_changes_nothing : (a₀ : Result Planned Refusal) (work₀ trace₀ index₀ : List ℕ) → Called s work trace [] a₀ work₀ trace₀ index₀
       → (a ≡ a₀) × (trace' ≡ trace₀) × (work' ≡ work₀)
   index_changes_nothing a₀ work₀ trace₀ index₀ without = (
     call.answered ∙ sym without.answered,

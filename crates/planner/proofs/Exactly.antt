@@ -8,6 +8,7 @@ use Prim.Native.Nat.{ℕ, ◌≤◌, ◌<◌}
 use native.Mathlib.Omega.{arith}
 use borrow.Author.Tests.{ltb-true, lt-ltb}
 use lib.Dec.{ltb}
+use Rattle.std.specs.Prelude.{Result, Ok, Err}
 use Rattle.runs.specs.Search.{Verdict, plan, nothing, more}
 use Rattle.sheet.specs.Check.{Checked, accepted_with, refusal_of, check_of, number_of, place_of, Accepts}
 use Rattle.sheet.specs.Causes.{Cause, First}
@@ -20,6 +21,7 @@ use Rattle.demands.specs.Decoded.{bound_of}
 use Rattle.demands.specs.Planning as meant
 use Rattle.demands.specs.Planning.{plan_of, replied, accepts_of, answer, verdict_of, NoPlanAtAll, NoPlanWithinBound}
 use Rattle.demands.proofs.Demands.{plan_is, replay_is, thirteen_exactly, fourteen_exactly}
+use Rattle.sheet.specs.declared.Refusal.{Refusal}
 use Rattle.planner.specs.Answers.{Stage, refused, searching, with_work, plan_checked, answer_as, plan_at, answer_of, replay_checked, reply, replay_at, reply_of}
 use Rattle.planner.specs.Numbers.{plan_number, plan_place, reply_number, reply_place, sizes_number, sizes_place}
 use Rattle.planner.specs.Causes.{required, PlanCause, ReplayCause}
@@ -40,15 +42,15 @@ seen_place (Ok x) = refl
 seen_place (Err why) = refl
 
 abbrev heard : Result Bool Refusal → Checked
-heard (Ok yes) = accepted_with 0 0
+heard (Ok accepted) = accepted_with 0 0
 heard (Err why) = Err why
 
 heard_number : (a : Result Bool Refusal) → reply_number a ≡ number_of (heard a)
-heard_number (Ok yes) = refl
+heard_number (Ok accepted) = refl
 heard_number (Err why) = refl
 
 heard_place : (a : Result Bool Refusal) → reply_place a ≡ place_of (heard a)
-heard_place (Ok yes) = refl
+heard_place (Ok accepted) = refl
 heard_place (Err why) = refl
 
 -- a test between two stages

@@ -3,14 +3,15 @@
 use Prim.Native.Nat.{ℕ, ◌≤◌, ◌<◌}
 use native.Mathlib.Nat.{zero-add}
 use native.Mathlib.Omega.{arith}
-use mathlib.Core.Bool.{Bool, true, false}
+use mathlib.Core.Bool.{Bool, false}
 use mathlib.Core.List.{List, ◌++◌}
 use mathlib.Core.Path.{◌≡◌, refl, sym, ◌∙◌, ap, ap₂}
 use lib.ListN.{length, take, drop, replicate}
 use lib.Seq.{length-take-le}
+use Rattle.std.specs.Prelude.{Ok}
 use Rattle.runs.proofs.Histories.{run_length}
 use Rattle.runs.specs.Search.{Verdict, plan, nothing, more}
-use Rattle.sheet.specs.Check.{Checked, accepted_with, check_of}
+use Rattle.sheet.specs.Check.{accepted_with, check_of}
 use Rattle.demands.specs.Decoded.{world_of, bound_of, first_of}
 use Rattle.demands.specs.Planning as meant
 use Rattle.demands.specs.Planning.{answer, verdict_of, accepts_of}

@@ -88,7 +88,7 @@ pub record Called (s work trace index : List ℕ) (answer : Result Planned Refus
 
 -- what `replay` answers and leaves
 abbrev pub reply : meant.ReplayAnswer → Result Bool Refusal
-reply (meant.replied yes) = Ok yes
+reply (meant.replied accepted) = Ok accepted
 reply (meant.ReplayAnswer.refused why) = Err why
 
 abbrev pub replay_at : List ℕ → List ℕ → Stage → Result Bool Refusal

@@ -24,11 +24,11 @@ plan_transitions (Err why) = 0
 
 -- replay: 1 for yes, 0 for no
 abbrev pub reply_number : Result Bool Refusal → ℕ
-reply_number (Ok yes) = 0
+reply_number (Ok accepted) = 0
 reply_number (Err why) = why.number
 
 abbrev pub reply_place : Result Bool Refusal → ℕ
-reply_place (Ok yes) = 0
+reply_place (Ok accepted) = 0
 reply_place (Err why) = why.place
 
 abbrev pub reply_yes : Result Bool Refusal → ℕ

@@ -4,6 +4,7 @@ use native.Mathlib.Omega.{arith}
 use mathlib.Core.Path.{sym, ◌∙◌, ap}
 use lib.ListN.{length}
 use lib.Seq.{length-take-le}
+use Rattle.std.specs.Prelude.{Err}
 use Rattle.sheet.specs.declared.Layout.{Layout}
 use Rattle.sheet.proofs.Found.{answered}
 use Rattle.demands.specs.Decoded.{bound_of}
@@ -35,10 +36,6 @@ returns-then-work-words c =
       work = sym r.2;
       index = sym r.3;
     }
-
-pub slice_bounds-plan-end : goal.slice_bounds-plan-end
-slice_bounds-plan-end c =
-    sym (length-take-le c.found-found.result.words c.args.work.now c.if-work-words.false)
 
 pub plan-requires : goal.plan-requires
 plan-requires c =

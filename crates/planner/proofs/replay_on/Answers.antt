@@ -1,10 +1,9 @@
 -- The work is long enough or it is not; a history longer than the bound is refused; else whether it is accepted is replay's answer. The work
 -- is cleared. Assumes nothing.
-use Prim.Native.Nat.{◌≤◌}
 use native.Mathlib.Omega.{arith}
 use mathlib.Core.Path.{sym, ◌∙◌, ap}
-use lib.ListN.{length}
 use lib.Seq.{length-take-le}
+use Rattle.std.specs.Prelude.{Err}
 use Rattle.sheet.specs.declared.Layout.{Layout}
 use Rattle.sheet.proofs.Accepted.{laid}
 use Rattle.sheet.proofs.Found.{answered}
@@ -20,10 +19,6 @@ returns-then-work-required c =
       work = sym r.1;
     }
 
-pub slice_bounds-clear-end : goal.slice_bounds-clear-end
-slice_bounds-clear-end c =
-    sym (length-take-le c.found-found.result.words c.args.work.now c.if-work-required.false)
-
 pub returns-then-found-history : goal.returns-then-found-history
 returns-then-found-history c =
     let s = c.args.s.now in
@@ -35,10 +30,6 @@ returns-then-found-history c =
       answer = longer s w _ (answered O) work c.if-work-required.false c.args.history.now (omega (arith, e, c.if-found-history.true));
       work = cleared w work _ c.clear.ensures.work c.if-work-required.false ∙ sym (replay_cleared s w _ (answered O) work c.if-work-required.false);
     }
-
-pub slice_bounds-accepts-end : goal.slice_bounds-accepts-end
-slice_bounds-accepts-end c =
-    sym (length-take-le c.found-found.result.words c.args.work.now c.if-work-required.false)
 
 pub accepts-requires : goal.accepts-requires
 accepts-requires c =
