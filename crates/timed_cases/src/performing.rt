@@ -149,11 +149,7 @@ fn compare(
 }
 
 // The first action of an accepted sheet, from the initial values.
-fn perform_first(
-    rt: &(impl Print + Eprint + CpuClock),
-    s: &Sheet,
-    timed: bool,
-) -> io::Result<()> {
+fn perform_first(rt: &(impl Print + Eprint + CpuClock), s: &Sheet, timed: bool) -> io::Result<()> {
     let l = s.found().layout;
     if l.a == 0 {
         return report::text(rt, "no action\n");
