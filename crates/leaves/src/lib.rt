@@ -144,7 +144,7 @@ impl<'a> Programs<'a> {
         }
     }
 
-    // Its record i.
+    // Its record i; and that there are so few that the number of each fits a word.
     #[tactic(auto, unfolding(remaining::specs::Extended::extended))]
     pub fn record(&self, i: usize) -> Program
         ensures record { result ≡ records self.now i }
