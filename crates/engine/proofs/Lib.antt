@@ -11,4 +11,3 @@ pub mod Going
 pub mod Telling
 pub mod Made
 pub mod Named
-pub mod Opened

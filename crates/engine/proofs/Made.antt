@@ -4,9 +4,7 @@ use Rattle.std.proofs.Common.{◌≡◌, ℕ, ◌+◌, ◌<◌, Bool, List, sym,
 use mathlib.Core.Option.{Option}
 use Rattle.std.proofs.Common.{Some}
 use Rattle.height.specs.Work.{header}
-use Rattle.sheet.specs.Layout.{programs_in}
 use Rattle.sheet.specs.Check.{Accepts}
-use Rattle.sheet.specs.declared.Layout.{Layout}
 use Rattle.golog.specs.declared.State.{State}
 use Rattle.golog.specs.World.{after}
 use Rattle.remaining.specs.Leaves.{RestTransition, rest_transitions}
@@ -14,20 +12,18 @@ use Rattle.demands.specs.Decoded.{world_of}
 use Rattle.demands.specs.Compact.{extended_records}
 use Rattle.demands.proofs.Compact.{all_lower}
 use Rattle.words.proofs.Written.{kept_less}
-use Rattle.steps.specs.Laid.{Sources, sources_of, Built}
+use Rattle.leaves.specs.Running.{Running}
+use Rattle.steps.specs.Laid.{sources_of, Built}
 use Rattle.steps.specs.Stepped.{CanStep, Stepped, StepsRest}
 use Rattle.steps.specs.declared.Turn.{Turn}
 use Rattle.steps.specs.declared.Turn.TheVariants as turn
 use Rattle.steps.proofs.Nth.{nth_member}
-use Rattle.engine.specs.Tables.{truths_at, finals_at, counts_at, Surveyed}
-use Rattle.sheet.specs.Inspection.{Of}
+use Rattle.engine.specs.Tables.{running_in, truths_at, finals_at, counts_at, Surveyed}
 use Rattle.engine.specs.Frames.{frame_of, frame_at, nodes_at, KeptFrames}
 use Rattle.engine.specs.Going.{Known, IsAction, move_of, MakesNext, CanGoOn}
-use Rattle.sheet.specs.declared.Inspection.{Inspection}
 use Rattle.engine.specs.Turns.{Turns}
 use Rattle.engine.specs.declared.Cursor.{Cursor}
 use Rattle.engine.specs.declared.Taken.{Taken}
-use Rattle.sheet.proofs.Found.{by_found, of_found}
 use Rattle.engine.proofs.Codes.{decoded}
 use Rattle.engine.proofs.Actions.{acts_known}
 use Rattle.engine.proofs.Moves.{rest_known}
@@ -38,19 +34,14 @@ use Rattle.engine.proofs.Going.{transition_of, listed_length, listed_nth, ahead_
 abbrev pub made_at : Cursor → (e : ℕ) → State → Taken
 made_at k e st = record { entry = e; state = st; cursor = record { next = k.next + 1; end = k.end } }
 
--- what a step sees, by the names of a layout
-abbrev view_by : List ℕ → State → (truths : List Bool) (counts : List ℕ) → Layout → (interrupts : Bool) → Sources
-view_by s st truths counts l interrupts = sources_of (programs_in s l) (record { n = l.p; interrupts = interrupts; running = st.running }) truths counts
-
-module _ {s : List ℕ} {m : Inspection} {st : State} {d : ℕ} {flags : List Bool} {numbers : List ℕ} (O : Of s m) (S : Surveyed s st d flags numbers) where
+module _ {s : List ℕ} {st : State} {d : ℕ} {flags : List Bool} {numbers : List ℕ} (S : Surveyed s st d flags numbers) where
   -- by the names that a step is asked by: tables, where it reads and where it writes
   module _
-      (truths finals : List Bool) (counts : List ℕ) (a b : ℕ) (et : truths ≡ truths_at d flags) (ef : finals ≡ finals_at d flags)
+      (p : Running) (truths finals : List Bool) (counts : List ℕ) (a b : ℕ) (ep : p ≡ running_in s) (et : truths ≡ truths_at d flags) (ef : finals ≡ finals_at d flags)
       (ec : counts ≡ counts_at d numbers) (ea : a ≡ nodes_at s d) (eb : b ≡ frame_at s d + frame_of s + header) where
-    pub asked : {w : List ℕ} {k : Cursor} → CanGoOn s st w d k → CanStep (view_by s st truths counts m.layout m.interrupts) finals w a b
+    pub asked : {w : List ℕ} {k : Cursor} → CanGoOn s st w d k → CanStep (sources_of p st.running truths counts) finals w a b
     asked {w} g =
-        by_found O (λ (l : Layout) (i : Bool). CanStep (view_by s st truths counts l i) finals w a b)
-        (rw (et, ef, ec, ea, eb)
+        rw (ep, et, ef, ec, ea, eb)
         record {
           world = world_of s;
           state = st;
@@ -60,14 +51,13 @@ module _ {s : List ℕ} {m : Inspection} {st : State} {d : ℕ} {flags : List Bo
           within = g.frame.roomy.within;
           below = omega (arith, (in_frame g.frame).0);
           room = step_room g.frame;
-        })
+        }
 
     pub turned :
         {w w' : List ℕ} {t : Turn} (k : Cursor)
-        → StepsRest (view_by s st truths counts m.layout m.interrupts) finals a k.next b w w' t → Turns s st d k w w' t
+        → StepsRest (sources_of p st.running truths counts) finals a k.next b w w' t → Turns s st d k w w' t
     turned {w} {w'} {t} k A g =
-        let B = of_found O (λ (l : Layout) (i : Bool). StepsRest (view_by s st truths counts l i) finals a k.next b w w' t) A in
-        (rw (et, ef, ec, ea, eb) at B) (world_of s) st S.tabled g.frame.rest g.frame.words_are
+        (rw (ep, et, ef, ec, ea, eb) at A) (world_of s) st S.tabled g.frame.rest g.frame.words_are
 
 module _
     {s w w' : List ℕ} {st : State} {d : ℕ} {k : Cursor} {t : Turn}

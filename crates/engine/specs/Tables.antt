@@ -18,7 +18,6 @@ use Rattle.leaves.specs.Tallies.{extended_size, finals_of}
 use Rattle.leaves.specs.Endable.{Skips, FinalsKnown}
 use Rattle.leaves.specs.Distances.{Distances}
 use Rattle.steps.specs.Laid.{sources_of}
-use Rattle.steps.specs.declared.Setting.{Setting}
 use Rattle.steps.specs.Stepped.{Tabled}
 
 -- n places of a list from place o on
@@ -158,16 +157,11 @@ ConflictedAt s d flags numbers conflicted = Conflicted (effects_in s (layout_of 
 abbrev pub ConflictOf : (s : List ℕ) (truths : List Bool) (a : ℕ) (conflicted : List Bool) → Type 0
 ConflictOf s truths a conflicted = slice_index_or conflicted a false ≡ in_conflict (effects_in s (layout_of s)) truths (action_at (actions_in s (layout_of s)) a)
 
--- how the sheet's program records are read in the state st
-abbrev pub setting_of : List ℕ → State → Setting
-setting_of s st = record { n = (layout_of s).p; interrupts = interrupts_in s; running = st.running }
-
 -- and how many transitions each has: the tables for depth d are those of the state st
 pub record Surveyed (s : List ℕ) (st : State) (d : ℕ) (flags : List Bool) (numbers : List ℕ) : Type 0 where
   pub prepared : Prepared s flags numbers
   pub truths_are : AreTruths (world_of s) st (layout_of s).q (truths_at d flags)
-  pub tabled :
-      Tabled (world_of s) st (sources_of (programs_in s (layout_of s)) (setting_of s st) (truths_at d flags) (counts_at d numbers)) (finals_at d flags)
+  pub tabled : Tabled (world_of s) st (sources_of (running_in s) st.running (truths_at d flags) (counts_at d numbers)) (finals_at d flags)
 
 -- the tables for a depth are as they were
 pub record SameTables (d : ℕ) (flags flags' : List Bool) (numbers numbers' : List ℕ) : Type 0 where

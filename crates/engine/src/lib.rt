@@ -36,8 +36,8 @@ use leaves::Programs;
 use records::Program;
 use sheet::Sheet;
 use state::{Evaluated, Possibility};
+use steps::Turn;
 use steps::tables::Tables;
-use steps::{Setting, Turn};
 
 // How many sets of tables there are: those for a depth stand until a configuration so much deeper is surveyed.
 pub const SETS: usize = 8;
@@ -453,13 +453,10 @@ fn lay_next(
     ensures accepted { Accepts s.now }
 {
     let found = s.found();
+    let p = programs_of(s);
     let t = Tables {
-        programs: s.programs(),
-        setting: Setting {
-            n: found.layout.p,
-            interrupts: found.interrupts,
-            running: st.running,
-        },
+        programs: &p,
+        running: st.running,
         truths: truths_at(flags, d),
         finals: finals_at(flags, d),
         counts: counts_at(numbers, d),

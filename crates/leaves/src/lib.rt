@@ -6,10 +6,10 @@
 ghost use Rattle.std.specs.Prelude.{◌≡◌, true, ◌&&◌, ◌≤◌, ◌<◌, min, T, length, get_or};
 ghost use Rattle.records.specs.Records.{TwoBytes, ProgramTable, program_at};
 ghost use Rattle.kinds.specs.Programs.{acts};
-ghost use Rattle.remaining.specs.Extended.{most_records, empty, virtual, table_of};
+ghost use Rattle.remaining.specs.Extended.{most_records, empty, virtual};
 ghost use Rattle.state.specs.Conflicts.{allowed_by};
 ghost use Rattle.state.specs.Ranges.{InActions};
-ghost use Rattle.leaves.specs.Tallies.{extended_size, capped_count_by, Tallied};
+ghost use Rattle.leaves.specs.Tallies.{capped_count_by, Tallied};
 ghost use Rattle.leaves.specs.Endable.{final_bounds_of, doubt_by, skips_of, Tallyable};
 ghost use Rattle.leaves.specs.Distances.{distances_of};
 ghost use Rattle.leaves.specs.Performed.{Performed};
@@ -74,22 +74,6 @@ fn virtual_at(n: usize, k: usize) -> Program
     }
 }
 
-// Record i of the table that runs.
-#[tactic(auto, unfolding(remaining::specs::Extended::extended))]
-pub fn record_at(programs: &[u8], n: usize, interrupts: bool, i: usize) -> Program
-    requires { ProgramTable programs.now n }
-    ensures record { result ≡ table_of programs.now n interrupts i }
-    ensures fields { TwoBytes result }
-{
-    if i < n {
-        return records::program_at(programs, i);
-    }
-    if interrupts {
-        return virtual_at(n, i - n);
-    }
-    EMPTY
-}
-
 // Which actions the first n records perform.
 pub fn performed(programs: &[u8], n: usize) -> [bool; state::conflicts::ACTIONS]
     requires { ProgramTable programs.now n }
@@ -129,13 +113,6 @@ fn count_at(
     kinds::programs::count_by(r, can, truths, running, finals, counts).min(CAP) as u32
 }
 
-pub fn places_of(n: usize, interrupts: bool) -> usize
-    requires { n ≤ 256 }
-    ensures { (result ≡ extended_size interrupts n) × (result ≤ most_records) }
-{
-    if interrupts { n + 4 } else { n }
-}
-
 // The program table that runs: the n records of a sheet, and four more where there are interrupts.
 #[derive(Drop)]
 pub struct Programs<'a> {
@@ -167,19 +144,27 @@ impl<'a> Programs<'a> {
         }
     }
 
-    // Its record i.
+    // Its record i; and that there are so few that the number of each fits a word.
+    #[tactic(auto, unfolding(remaining::specs::Extended::extended))]
     pub fn record(&self, i: usize) -> Program
         ensures record { result ≡ records self.now i }
         ensures fields { TwoBytes result }
+        ensures few { size self.now ≤ most_records }
     {
-        record_at(self.bytes, self.n, self.interrupts, i)
+        if i < self.n {
+            return records::program_at(self.bytes, i);
+        }
+        if self.interrupts {
+            return virtual_at(self.n, i - self.n);
+        }
+        EMPTY
     }
 
     // How many there are.
     pub fn places(&self) -> usize
         ensures { (result ≡ size self.now) × (result ≤ most_records) }
     {
-        places_of(self.n, self.interrupts)
+        if self.interrupts { self.n + 4 } else { self.n }
     }
 }
 

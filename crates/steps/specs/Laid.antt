@@ -3,17 +3,15 @@ use Rattle.std.specs.Prelude.{◌≡◌, Bool, cond, List, ℕ, ◌+◌, ◌*◌
 use Rattle.std.proofs.Math.Option.{Option, none, some}
 use Rattle.std.proofs.Math.ListN.{get_elem?}
 use Rattle.records.specs.declared.Program.{Program}
-use Rattle.records.specs.Records.{program_at}
 use Rattle.height.specs.Height.{rise}
 use Rattle.golog.specs.declared.State.{State}
 use Rattle.golog.specs.World.{World}
 use Rattle.remaining.specs.Rest.{Rest, nodes, AllLower, Plain}
 use Rattle.remaining.specs.Leaves.{RestTransition, leaf_of}
-use Rattle.remaining.specs.Extended.{extended}
 use Rattle.words.specs.Words.{At, Kept, Room}
 use Rattle.ends.specs.Ends.{most_levels}
-use Rattle.leaves.specs.Tallies.{extended_size, counts_of, Sees}
-use Rattle.steps.specs.declared.Setting.{Setting}
+use Rattle.leaves.specs.Tallies.{counts_of, Sees}
+use Rattle.leaves.specs.Running as table
 use Rattle.steps.specs.declared.tables.Tables.{Tables}
 
 -- the code of a transition that is no move (document 01: "A test is a transition but no move"), above every entry of a history
@@ -33,17 +31,17 @@ pub record Sources : Type 0 where
   pub running : Bool
   pub counts : List ℕ
 
-abbrev pub sources_of : (programs : List ℕ) → Setting → (truths : List Bool) (counts : List ℕ) → Sources
-sources_of programs v truths counts = record {
-  records = extended v.interrupts (program_at programs) v.n;
-  many = extended_size v.interrupts v.n;
+abbrev pub sources_of : table.Running → (running : Bool) (truths : List Bool) (counts : List ℕ) → Sources
+sources_of p running truths counts = record {
+  records = table.records p;
+  many = table.size p;
   truths = truths;
-  running = v.running;
+  running = running;
   counts = counts;
 }
 
 abbrev pub seen_in : Tables → Sources
-seen_in t = sources_of t.programs.now t.setting t.truths.now t.counts.now
+seen_in t = sources_of t.programs.now t.running t.truths.now t.counts.now
 
 -- it is that of a state
 pub record Counted (W : World) (s : State) (v : Sources) : Type 0 where

@@ -19,14 +19,6 @@ use tables::Tables;
 // The code of a transition that is no move, above every entry of a history.
 pub const TEST: u32 = 65536;
 
-// How a program table is read: the number of its records, whether there are interrupts, and whether they run.
-#[derive(Clone, Copy)]
-pub struct Setting {
-    pub n: usize,
-    pub interrupts: bool,
-    pub running: bool,
-}
-
 // The record beside what part a leaves: the record itself for a loop, else its part b.
 pub fn sibling(r: Program, i: usize) -> usize
     ensures { result ≡ sibling_a r i }
@@ -99,7 +91,7 @@ fn lay_record(t: &Tables, work: &mut [u32], i: usize, to: usize, k: usize) -> La
     requires can_lay { CanLay (seen_in t.now) work.old i to k }
     ensures { LaysRecord (seen_in t.now) i k to work.old work.new result.entry result.size }
 {
-    let r = leaves::record_at(t.programs, t.setting.n, t.setting.interrupts, i);
+    let r = t.programs.record(i);
     if kinds::programs::has_own(r.kind) {
         words::put_node(work, to, words::GONE, 0, 1);
         return Laid {
@@ -107,7 +99,7 @@ fn lay_record(t: &Tables, work: &mut [u32], i: usize, to: usize, k: usize) -> La
             size: 1,
         };
     }
-    let first = kinds::programs::first_by(r, t.truths, t.setting.running, t.counts);
+    let first = kinds::programs::first_by(r, t.truths, t.running, t.counts);
     if k < first {
         let at = to + past_words(kinds::programs::tag_a(r.kind) == 0, 3);
         let x = lay_record(t, work, r.a, at, k);

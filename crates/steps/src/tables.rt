@@ -1,15 +1,14 @@
 // What the transitions of a state are found by.
-ghost use Rattle.records.specs.Records.{ProgramTable};
+#![tactic(auto)]
 
-use crate::Setting;
+use leaves::Programs;
 
-// A program table and how it is read; the truths of the formulas; which records are final, and how many transitions each has.
+// The table that runs and whether interrupts do; the truths of the formulas; which records are final, and how many transitions each has.
 #[derive(Clone, Copy)]
 pub struct Tables<'a> {
-    pub programs: &'a [u8],
-    pub setting: Setting,
+    pub programs: &'a Programs<'a>,
+    pub running: bool,
     pub truths: &'a [bool],
     pub finals: &'a [bool],
     pub counts: &'a [u32],
-    pub ghost long: { ProgramTable programs.now setting.n },
 }
