@@ -175,12 +175,6 @@ module _ {W : World} {s : State} {t : Tables} (Q : Surveyed W s t) {x : Option W
     pub by_second : {o : Option ℕ} → way_first W s t f.first ≡ None → way_first W s t f.second ≡ o → first_of (from_spot w.k (spots_in W s t w.i w.e)) ≡ o
     by_second q p = F.found ∙ ap₂ option_or q p
 
-    pub finds_first : {n : ℕ} → way_first W s t f.first ≡ Some n → way_first W s t x ≡ Some (w.base + n)
-    finds_first q = on (by_first q)
-
-    pub finds_other : {o : Option ℕ} → way_first W s t f.first ≡ None → way_first W s t f.second ≡ o → way_first W s t x ≡ further w.base o
-    finds_other q p = on (by_second q p)
-
 -- a way to a record itself
 pub can_start : {t : Tables} {i e : ℕ} → CanLook t i e → (k : ℕ) → CanGo t (record { i = i; e = e; k = k; base = 0 })
 can_start {t} {i} C k = let l = C.low in record { look = C; bounded = let few : 16 ^ digits_in t i ≤ 16 ^ 16 = pow-le-pow_right (omega arith) l in omega arith }

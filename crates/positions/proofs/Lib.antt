@@ -2,7 +2,6 @@ pub mod Listed
 pub mod Rising
 pub mod From
 pub mod Levels
-pub mod Fields
 pub mod Powers
 pub mod Parts
 pub mod Values

@@ -16,7 +16,7 @@ use Rattle.golog.specs.Transitions.{is_none}
 use Rattle.golog.specs.Written.{span_of, program_read, written_records}
 use Rattle.remaining.specs.Leaves.{RestTransition, on_rest, wrap_a, wrap_b, sibling_a, leaf_of}
 use Rattle.leaves.specs.Running as table
-use Rattle.positions.specs.declared.tables.Tables as given
+use Rattle.positions.specs.declared.Tables as given
 use Rattle.positions.specs.declared.Way.{Way}
 use Rattle.positions.specs.declared.Fork.{Fork}
 use Rattle.positions.specs.Spots.{Spot, apart, spots_of, from_spot}
@@ -57,6 +57,7 @@ tables_by p running spans digits sets = record {
   sets = sets;
 }
 
+-- as they are lent
 abbrev pub tables_of : given.Tables → Tables
 tables_of t = tables_by t.programs.now t.running t.spans.now t.digits.now t.table.now
 

@@ -23,10 +23,6 @@ use leaves::Programs;
 use records::Program;
 use steps::Laid;
 
-mod tables;
-
-pub use tables::Tables;
-
 // How many environments there are.
 pub const ENVIRONMENTS: usize = 256;
 
@@ -192,6 +188,17 @@ pub struct Way {
     pub e: usize,
     pub k: u64,
     pub base: u64,
+}
+
+// What ways are found by: the table that runs and whether interrupts do, how many values each record lists, its digits, and the sets of a
+// state: where its formulas hold, and which records are final and have a transition.
+#[derive(Clone, Copy)]
+pub struct Tables<'a> {
+    pub programs: &'a Programs<'a>,
+    pub running: bool,
+    pub spans: &'a [u32],
+    pub digits: &'a [u32],
+    pub table: &'a [u32],
 }
 
 // A record, and its one way, then the other, where it goes them.

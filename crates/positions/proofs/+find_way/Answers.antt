@@ -3,7 +3,7 @@ use mathlib.Core.Path.{sym, ◌∙◌, ap}
 use native.Mathlib.Omega.{arith}
 use Rattle.kinds.specs.Programs.{has_own}
 use Rattle.records.specs.declared.Program.{Program}
-use Rattle.positions.proofs.Finding.{way_falls, way_can, way_fits, rank_falls, rank_is, finds_idle, finds_own, by_first, by_second, finds_first, finds_other}
+use Rattle.positions.proofs.Finding.{way_falls, way_can, way_fits, rank_falls, rank_is, finds_idle, finds_own, by_first, by_second}
 use Rattle.positions.proofs.+find_way.Goals as goal
 
 pub enabled_in-requires : goal.enabled_in-requires
@@ -37,11 +37,6 @@ overflow_add-result t c =
     let F = c.ways-f.ensures.forked (sym c.has_own.ensures ∙ c.if-has_own.false) in
     omega (arith, way_fits can (by_first can.look.surveyed c.in_ok-w.was (F.forks _ _ can.look.surveyed) (c.find_way.ensures _ _ can.look.surveyed ∙ c.in-Some.is)))
 
-pub returns-in-Some : goal.returns-in-Some
-returns-in-Some t c W s Q =
-    let F = c.ways-f.ensures.forked (sym c.has_own.ensures ∙ c.if-has_own.false) in
-    finds_first Q c.in_ok-w.was (F.forks W s Q) (c.find_way.ensures W s Q ∙ c.in-Some.is)
-
 pub find_way-requires-2 : goal.find_way-requires-2
 find_way-requires-2 t c =
     let can = c.requires _ c.in_ok-w.was in
@@ -60,8 +55,3 @@ overflow_add-result-2 t c =
           (by_second can.look.surveyed c.in_ok-w.was (F.forks _ _ can.look.surveyed) (c.find_way.ensures _ _ can.look.surveyed ∙ c.in_default.is)
           (c.find_way-2.ensures _ _ can.look.surveyed ∙ c.in_ok-at.was)),
     )
-
-pub returns : goal.returns
-returns t c W s Q =
-    let F = c.ways-f.ensures.forked (sym c.has_own.ensures ∙ c.if-has_own.false) in
-    finds_other Q c.in_ok-w.was (F.forks W s Q) (c.find_way.ensures W s Q ∙ c.in_default.is) (c.find_way-2.ensures W s Q ∙ c.in_ok-at.was)
