@@ -16,6 +16,7 @@ pub fn read_full<R: Read>(input: &mut R, buf: &mut [u8]) -> io::Result<usize>
     ensures end { IfOk result (λ n. n < length buf.new → IsAtEnd (R.remaining input.new)) }
     ensures lost { OnErr result ((n : ℕ) × (n ≤ length buf.new) × Consumes (R.remaining input.old) (R.remaining input.new) (take n buf.new)) }
 {
+    // Kept: a loop over `read`, since std's `read_exact` and `read_to_end` do not say what clause `lost` does after an Err.
     let mut done = 0;
     while done < buf.len() {
         let n = input.read(&mut buf[done..])?;

@@ -115,6 +115,7 @@ fn field_ok(nf: usize, size: usize, i: usize, field: Field, x: usize) -> bool
 }
 
 // The last kind of formula that a sheet has.
+// Kept: a number to compare with, as `formula_ok` is defined: a kind that has a name may be one that sheets do not have yet.
 const LAST_KIND: usize = Kind::Or as usize;
 
 // Whether formula i keeps its rule, where there are nf fluents and size is the domain size of fluent x.

@@ -47,7 +47,7 @@ pub fn kind_of(number: usize) -> Option<Kind>
 }
 
 // What a field of a program record is: an action, a formula, a lower record, how many values are chosen from, a placeholder.
-// Kept: (d) one enum for the fields of formulas and of program records would have roles that only one of them has, each with a test in both.
+// Kept: one enum for the fields of formulas and of program records would have roles that only one of them has, each with a test in both.
 #[derive(Clone, Copy, Debug, PartialEq, Eq)]
 pub enum Field {
     Unused,
@@ -107,6 +107,7 @@ fn field_ok(nq: usize, na: usize, i: usize, field: Field, x: usize) -> bool
 }
 
 // The last kind of program record that a sheet has.
+// Kept: a number to compare with, as `program_ok` is defined: a kind that has a name may be one that sheets do not have yet.
 const LAST_KIND: usize = Kind::Interrupt as usize;
 
 // Whether program record i keeps its rule, where there are nq formulas and na actions.

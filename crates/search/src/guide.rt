@@ -50,6 +50,7 @@ pub fn given_after(moves: &[u16], given: Option<usize>, entry: u32) -> Option<us
 }
 
 // What is left of the guide, as a number: 0 where nothing is asked any more, else one more than the moves used.
+// Kept: a number, since it is packed into the key of a configuration (`Keyed`, `head_of`).
 pub fn label_of(given: Option<usize>) -> usize
     requires { IfSome given (λ used. used ≤ 64) }
     ensures { result ≡ label_of given }

@@ -76,6 +76,7 @@ fn in_rows(values: u32) -> [u32; WORDS]
 }
 
 // The environments whose placeholder c holds one of the values.
+// Kept: a placeholder is a number here and below, as `look` and `put` (specs of records) have it, of which these functions' clauses speak.
 fn among(c: usize, values: u32) -> [u32; WORDS]
     requires { c < 2 }
     ensures { Has (λ (e : ℕ). has_bit values (look e c)) result }

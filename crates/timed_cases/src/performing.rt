@@ -32,40 +32,18 @@ struct Times {
     same: bool,
 }
 
-// The values after the action, by one pass or by a pass for each fluent.
-fn new_values(
-    one_pass: bool,
-    effects: &[u8],
-    r: Action,
-    n: usize,
-    truths: &[bool],
-    values: [u8; 32],
-) -> [u8; 32]
-    requires { InEffects effects.now r n }
-    ensures { result ≡ changed (said_by truths.now) (effect_at effects.now) r values }
-{
-    if one_pass {
-        return state::new_values(effects, r, n, truths, values);
-    }
-    each_fluent::new_values(effects, r, n, truths, values)
-}
-
 // Performs the action again and again, each time from the values that it gave.
-fn perform_often(
+fn perform_often<F: Fn([u8; 32]) -> [u8; 32]>(
     rt: &impl CpuClock,
-    one_pass: bool,
-    effects: &[u8],
-    r: Action,
-    n: usize,
-    truths: &[bool],
+    perform: F,
     values: [u8; 32],
 ) -> Round
-    requires { InEffects effects.now r n }
+    requires { F.IsAlwaysCallable perform }
 {
     let begin = clock::microseconds(rt);
     let mut v = values;
     for _ in 0..TIMES {
-        let new = new_values(one_pass, effects, r, n, truths, v);
+        let new = perform(v);
         v = new;
     }
     Round {
@@ -89,8 +67,12 @@ fn measure(
     let mut each_fluent = u64::MAX;
     let mut same = true;
     for _ in 0..ROUNDS {
-        let a = perform_often(rt, true, effects, r, n, truths, values);
-        let b = perform_often(rt, false, effects, r, n, truths, values);
+        let a = perform_often(rt, |v| state::new_values(effects, r, n, truths, v), values);
+        let b = perform_often(
+            rt,
+            |v| each_fluent::new_values(effects, r, n, truths, v),
+            values,
+        );
         one_pass = one_pass.min(a.time);
         each_fluent = each_fluent.min(b.time);
         let by_one_pass = a.values;
@@ -138,8 +120,8 @@ fn compare(
 ) -> io::Result<()>
     requires { InEffects effects.now r n }
 {
-    let a = new_values(true, effects, r, n, truths, values);
-    let b = new_values(false, effects, r, n, truths, values);
+    let a = state::new_values(effects, r, n, truths, values);
+    let b = each_fluent::new_values(effects, r, n, truths, values);
     report::values(rt, n, &a)?;
     report::answer(rt, "  the same values in both ways", a == b)?;
     if timed {

@@ -12,6 +12,7 @@ use kinds::formulas::{Kind, kind_of};
 use records::Formula;
 
 // The first kind of formula that goes through values.
+// Kept: a number to compare with, since what is asked of `composed_set` (Composable) is that a kind is below it, named or not.
 const FIRST_QUANTIFIER: usize = Kind::ForSome as usize;
 
 // The environments with v in placeholder c; a placeholder never has 16 or more.

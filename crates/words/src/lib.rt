@@ -5,6 +5,7 @@ ghost use Rattle.std.specs.Prelude.{◌≡◌, ◌+◌, ◌^◌, ◌≤◌, ◌<
 ghost use Rattle.words.specs.Words.{Copied, Put, CanPutLeaf, CanPutCopy, LeafRight, LeafLeft, CopyRight, CopyLeft};
 
 // Tags of nodes: nothing is left, a record, else the kind of the construct.
+// Kept: numbers, since they are words of the lent work area: `tag_at` answers whatever word stands there, and `At` goes by numbers.
 pub const GONE: u32 = 0;
 
 pub const LEAF: u32 = 1;
