@@ -9,7 +9,7 @@ use native.Mathlib.Decide.{dec_lt}
 use native.Mathlib.Omega.{arith}
 use borrow.Author.Tests.{lt-ltb, le-ltb}
 use lib.Dec.{T}
-use lib.ListN.{length, get_or}
+use lib.ListN.{get_or}
 use Rattle.records.specs.declared.Program.{Program}
 use Rattle.records.specs.Placeholders.{put}
 use Rattle.records.specs.Some.{some_from}
@@ -17,7 +17,7 @@ use Rattle.records.proofs.Placeholders.{put_small}
 use Rattle.records.proofs.Truth.{or_left}
 use Rattle.kinds.specs.Programs.{has_a, has_b, picks}
 use Rattle.kinds.proofs.ProgramFields.{link_a, link_b}
-use Rattle.sets.specs.Sets.{set_words, member, Has, set_at, PutSet}
+use Rattle.sets.specs.Sets.{member, Has, set_at, PutSet}
 use Rattle.sets.proofs.Members.{has_by}
 use Rattle.golog.specs.declared.State.{State}
 use Rattle.golog.specs.World.{World, special, possible, possible_by}
@@ -25,7 +25,7 @@ use Rattle.golog.specs.Written.{entry_in, sees, span_of}
 use Rattle.remaining.proofs.Written.{Linked, picks_b}
 use Rattle.enabled.specs.Spans.{SpansKnown}
 use Rattle.enabled.specs.Enabled.{Valuation, valuation_of, final_in, enabled_in}
-use Rattle.enabled.specs.Filled.{most_formulas, table_sets, final_set, enabled_set, possible_set, valuation_by, RuledTable, Readable, FinalBy, EnabledBy}
+use Rattle.enabled.specs.Filled.{most_formulas, final_set, enabled_set, possible_set, valuation_by, RuledTable, Readable, Fillable, FinalBy, EnabledBy}
 use Rattle.enabled.specs.Filled.{Sees, Known, KnownWherever, SeesConditions, FinalsWherever, Kept}
 use Rattle.enabled.proofs.Read.{Agree, either_same, final_agrees, enabled_agrees, final_read, enabled_read}
 
@@ -84,15 +84,15 @@ module _ {p : ℕ → Program} (ruled : RuledTable most_formulas p) where
       go false = omega arith
 
   -- a record reads sets that there are
-  pub readable : {m i : ℕ} {spans table : List ℕ} → SpansKnown p m spans → m ≤ 260 → i < m → set_words * table_sets ≤ length table → Readable table (get_or spans i 0) (p i)
-  readable {m} {i} known few l long = record {
-    room = long;
+  pub readable : {m i : ℕ} {spans old table : List ℕ} → Fillable p m spans old → Kept old table → m ≤ 260 → i < m → Readable table (get_or spans i 0) (p i)
+  readable {m} {i} F K few l = record {
+    room = omega (arith, K.len, F.room);
     part_a = λ t. omega (arith, below_a i t);
     part_b = λ t. omega (arith, below_b i t);
     test = (ruled i).test;
     condition = (ruled i).condition;
     act = (ruled i).act;
-    choice = λ t. (omega (arith, known.each i l t, span_few i t), ((ruled i).choice t).2);
+    choice = λ t. (omega (arith, F.spans_known.each i l t, span_few i t), ((ruled i).choice t).2);
   }
 
   -- start and stop are possible, and have no set

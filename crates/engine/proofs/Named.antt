@@ -1,22 +1,17 @@
 -- The sets that are made once of a sheet are those of its formulas and actions: preconditions and conditions are among the formulas.
 -- Assumes nothing.
-use Rattle.std.proofs.Common.{◌≡◌, ℕ, ◌+◌, ◌*◌, ◌<◌, ◌≤◌, Bool, List, length, sym, ap, ◌∙◌, subst, arith, le-ltb}
-use Rattle.records.specs.Records.{action_at}
-use Rattle.kinds.specs.Formulas.{LowerFormulas}
+use Rattle.std.proofs.Common.{◌≡◌, ℕ, ◌<◌, Bool, List, sym, ◌∙◌, subst, arith, le-ltb}
 use Rattle.named.specs.Tables.{sets_of, action_sets_of, Ranged}
 use Rattle.named.proofs.Tables.{sets_are, action_sets_are}
 use Rattle.sheet.specs.Layout.{layout_of, formulas_in, effects_in, actions_in}
 use Rattle.sheet.specs.Check.{Accepts}
-use Rattle.sheet.specs.Inspection.{Of}
 use Rattle.sheet.specs.declared.Layout.{Layout}
-use Rattle.sheet.specs.declared.Inspection.{Inspection}
 use Rattle.sheet.proofs.Accepted.{laid}
 use Rattle.sheet.proofs.Lower.{lower_formulas, action_of}
 use Rattle.golog.specs.declared.State.{State}
 use Rattle.golog.specs.World.{says_in}
 use Rattle.demands.specs.Decoded.{world_of}
 use Rattle.state.specs.Truths.{said_by}
-use Rattle.state.specs.Ranges.{Names}
 use Rattle.state.specs.Evaluated.{possibility_by}
 use Rattle.state.proofs.Noting.{allowed_marked}
 use Rattle.state.proofs.Performed.{possible_same}
@@ -25,40 +20,24 @@ use Rattle.engine.specs.Evaluated.{FormulasNamed, ActionsNamed, possibility}
 use Rattle.engine.proofs.Actions.{conditions_below, inside_range}
 use Rattle.engine.proofs.Conflicting.{listed_at}
 
-module _ {s : List ℕ} {m : Inspection} (O : Of s m) where
+module _ (s : List ℕ) (accepted : Accepts s) where
+  abbrev l : Layout
+  l = layout_of s
+
   -- what is asked before they are made
-  pub formulas_lower : LowerFormulas (formulas_in s m.layout) m.layout.q
-  formulas_lower = subst (λ (l : Layout). LowerFormulas (formulas_in s l) l.q) (sym O.layout_is) (lower_formulas s O.accepted)
-
-  pub ranged : Ranged (effects_in s m.layout) (actions_in s m.layout) m.layout.a
-  ranged =
-      subst (λ (l : Layout). Ranged (effects_in s l) (actions_in s l) l.a) (sym O.layout_is)
-      (λ a h. let (small, p) = listed_at s O.accepted a h in (p.known (omega arith), p.range (omega arith)))
-
-  -- an action's range lies in the table of effects and names fluents that there can be
-  abbrev ReadableIn : Layout → (a : ℕ) → Type 0
-  ReadableIn l a = let r = action_at (actions_in s l) a in (4 * (r.first + r.count) ≤ length (effects_in s l)) × Names (effects_in s l) 32 r.first r.count
-
-  pub readable : (a : ℕ) → a < m.layout.a → ReadableIn m.layout a
-  readable a =
-      subst (λ (l : Layout). a < l.a → ReadableIn l a) (sym O.layout_is)
-      (λ h. let (small, p) = listed_at s O.accepted a h in (p.range (omega arith), p.names (omega arith)))
+  pub ranged : Ranged (effects_in s l) (actions_in s l) l.a
+  ranged a h = let (small, p) = listed_at s accepted a h in (p.known (omega arith), p.range (omega arith))
 
   -- what they are
-  pub formulas_named : {sets : List ℕ} → sets ≡ sets_of (formulas_in s m.layout) m.layout.q → FormulasNamed s sets
-  formulas_named e =
-      let l = layout_of s in
-      subst (FormulasNamed s) (sym (e ∙ ap (λ (l : Layout). sets_of (formulas_in s l) l.q) O.layout_is))
-      (sets_are (formulas_in s l) l.q (lower_formulas s O.accepted))
+  pub formulas_named : {sets : List ℕ} → sets ≡ sets_of (formulas_in s l) l.q → FormulasNamed s sets
+  formulas_named e = subst (FormulasNamed s) (sym e) (sets_are (formulas_in s l) l.q (lower_formulas s accepted))
 
   pub actions_named :
-      (sets : List ℕ) → FormulasNamed s sets → {unions : List ℕ} → unions ≡ action_sets_of (effects_in s m.layout) (actions_in s m.layout) sets m.layout.a
-      → ActionsNamed s unions
+      (sets : List ℕ) → FormulasNamed s sets → {unions : List ℕ} → unions ≡ action_sets_of (effects_in s l) (actions_in s l) sets l.a → ActionsNamed s unions
   actions_named sets are e =
-      let l = layout_of s in
-      subst (ActionsNamed s) (sym (e ∙ ap (λ (l : Layout). action_sets_of (effects_in s l) (actions_in s l) sets l.a) O.layout_is))
+      subst (ActionsNamed s) (sym e)
       (action_sets_are (world_of s).formula l.q sets are (effects_in s l) (actions_in s l) l.a
-      (λ a h. (action_of s O.accepted a h).0) (λ a h i (x, y). conditions_below s O.accepted a h i x y))
+      (λ a h. (action_of s accepted a h).0) (λ a h i (x, y). conditions_below s accepted a h i x y))
 
 -- in a state that was judged, what a possible-check answers
 module _ {s : List ℕ} (accepted : Accepts s) {st : State} {d : ℕ} {flags : List Bool} {numbers : List ℕ} (J : Judged s st d flags numbers) where

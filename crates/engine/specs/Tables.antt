@@ -13,6 +13,7 @@ use Rattle.state.specs.Truths.{AreTruths}
 use Rattle.state.specs.Conflicts.{most_actions, Listed, in_conflict, Conflicted, ReadableListed}
 use Rattle.state.specs.Exclusion.{Exclusive}
 use Rattle.remaining.specs.Extended.{most_records}
+use Rattle.leaves.specs.Running.{Running, running_of}
 use Rattle.leaves.specs.Tallies.{extended_size, finals_of}
 use Rattle.leaves.specs.Endable.{Skips, FinalsKnown}
 use Rattle.leaves.specs.Distances.{Distances}
@@ -111,6 +112,10 @@ counts_from d = skip_places + most_records + list_places + most_records * set_of
 
 abbrev pub counts_at : (d : ℕ) → List ℕ → List ℕ
 counts_at d numbers = window (counts_from d) most_records numbers
+
+-- the program table of a sheet that runs
+abbrev pub running_in : List ℕ → Running
+running_in s = running_of (programs_in s (layout_of s)) (layout_of s).p (interrupts_in s)
 
 -- the records of a sheet that run
 abbrev pub extended_size_of : List ℕ → ℕ

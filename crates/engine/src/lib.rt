@@ -7,7 +7,6 @@ ghost use Rattle.std.specs.Prelude.{◌≡◌, ℕ, ◌+◌, ◌*◌, ◌%◌, �
 ghost use Rattle.sheet.specs.Layout.{layout_of};
 ghost use Rattle.sheet.specs.Check.{Accepts};
 ghost use Rattle.sheet.specs.Inspection.{words_required};
-ghost use Rattle.records.specs.Records.{ProgramTable};
 ghost use Rattle.kinds.specs.Programs.{final_by};
 ghost use Rattle.golog.specs.World.{after};
 ghost use Rattle.golog.specs.Prog.{Prog};
@@ -15,15 +14,15 @@ ghost use Rattle.golog.specs.Transitions.{Configuration, Transition, is_none};
 ghost use Rattle.golog.specs.declared.State.{State};
 ghost use Rattle.demands.specs.Decoded.{world_of, starting_with, initial_of, first_of, bound_of};
 ghost use Rattle.remaining.specs.Rest.{Rest, AllLower, Plain};
-ghost use Rattle.remaining.specs.Extended.{most_records, table_of, top};
-ghost use Rattle.leaves.specs.Tallies.{extended_size};
+ghost use Rattle.remaining.specs.Extended.{most_records, top};
+ghost use Rattle.leaves.specs.Running.{records, size};
 ghost use Rattle.leaves.specs.Endable.{Skips};
 ghost use Rattle.words.specs.Words.{At, Stands};
 ghost use Rattle.ends.specs.Ends.{Totalled};
 ghost use Rattle.state.specs.Truths.{AreTruths};
 ghost use Rattle.engine.specs.Tables.{window, Only, most_formulas, set_flags, truths_on, finals_on, FinalsOn, SameFrom, flag_places};
 ghost use Rattle.engine.specs.Tables.{number_places, surveys_at, surveys_in};
-ghost use Rattle.engine.specs.Tables.{endable_in, truths_from, finals_at, distances_in, counts_from, counts_at};
+ghost use Rattle.engine.specs.Tables.{running_in, endable_in, truths_from, finals_at, distances_in, counts_from, counts_at};
 ghost use Rattle.engine.specs.Tables.{ListsMayConflict, Prepared, Judged, ConflictedAt, Surveyed, Filled};
 ghost use Rattle.engine.specs.Tables.{truths_at, ConflictOf};
 ghost use Rattle.engine.specs.Evaluated.{FormulasNamed, ActionsNamed, evaluated, possibility};
@@ -33,6 +32,7 @@ ghost use Rattle.engine.specs.Turns.{Turns};
 
 use ends::Totals;
 use golog::State;
+use leaves::Programs;
 use records::Program;
 use sheet::Sheet;
 use state::{Evaluated, Possibility};
@@ -120,6 +120,15 @@ pub fn put_first(work: &mut [u32], s: &Sheet)
     words::put_node(work, height::HEADER, words::LEAF, top, 1);
 }
 
+// The program table that runs.
+fn programs_of<'a>(s: &Sheet<'a>) -> Programs<'a>
+    ensures running { result ≡ running_in s.now }
+    ensures accepted { Accepts s.now }
+{
+    let found = s.found();
+    Programs::new(s.programs(), found.layout.p, found.interrupts)
+}
+
 // The actions that records perform and whose effects may contradict each other in some state.
 fn may_conflict_of(s: &Sheet) -> [u32; state::exclusion::LIST]
     ensures { ListsMayConflict s.now result }
@@ -140,12 +149,10 @@ pub fn prepare(flags: &mut [bool], numbers: &mut [u32], s: &Sheet)
     requires { (length flags.old ≡ flag_places) × (length numbers.old ≡ number_places) × ((i : ℕ) → slice_index numbers.old i ≡ 0) }
     ensures { Prepared s.now flags.new numbers.new }
 {
-    let found = s.found();
-    let n = found.layout.p;
-    let programs = s.programs();
-    let endable = leaves::bounds(programs, n, found.interrupts, true);
-    let skips = leaves::skips(programs, n, found.interrupts, &endable);
-    let distances = leaves::distances(programs, n, found.interrupts);
+    let p = programs_of(s);
+    let endable = leaves::bounds(&p, true);
+    let skips = leaves::skips(&p, &endable);
+    let distances = leaves::distances(&p);
     let listed = may_conflict_of(s);
     flags[..leaves::RECORDS].copy_from_slice(&endable);
     numbers[..leaves::SKIPS].copy_from_slice(&skips);
@@ -205,28 +212,20 @@ fn final_by(flags: &[bool], from: usize, r: Program, running: bool) -> bool
 }
 
 // Looks at the records whose finality depends on the state, and at no others.
-fn mark_finals(
-    flags: &mut [bool],
-    from: usize,
-    programs: &[u8],
-    n: usize,
-    interrupts: bool,
-    skips: &[u32],
-    running: bool,
-)
-    requires program_table { ProgramTable programs.now n × («from» + set_flags ≤ length flags.old) }
-    requires all_lower { AllLower (table_of programs.now n interrupts) × Plain (table_of programs.now n interrupts) }
-    requires skips { Skips (table_of programs.now n interrupts) (extended_size interrupts n) (finals_on «from» flags.old) skips.now }
-    ensures finals { FinalsOn (table_of programs.now n interrupts) (extended_size interrupts n) «from» running flags.new }
+fn mark_finals(flags: &mut [bool], from: usize, p: &Programs, skips: &[u32], running: bool)
+    requires places { «from» + set_flags ≤ length flags.old }
+    requires all_lower { AllLower (records p.now) × Plain (records p.now) }
+    requires skips { Skips (records p.now) (size p.now) (finals_on «from» flags.old) skips.now }
+    ensures finals { FinalsOn (records p.now) (size p.now) «from» running flags.new }
     ensures written { Only («from» + most_formulas) most_records flags.old flags.new }
-    ensures behind { SameFrom (extended_size interrupts n) (finals_on «from» flags.old) (finals_on «from» flags.new) }
+    ensures behind { SameFrom (size p.now) (finals_on «from» flags.old) (finals_on «from» flags.new) }
 {
-    let size = leaves::places_of(n, interrupts);
+    let size = p.places();
     let none = size as u32;
     let to = from + sheet::MOST_FORMULAS;
     let mut i = records::value_in(skips, 0, none) as usize;
     while i < size {
-        let r = leaves::record_at(programs, n, interrupts, i);
+        let r = p.record(i);
         let f = final_by(flags, from, r, running);
         flags[to + i] = f;
         i = records::value_in(skips, i + 1, none) as usize;
@@ -239,22 +238,13 @@ pub fn judge(flags: &mut [bool], numbers: &[u32], s: &Sheet, st: State, d: usize
     ensures tables { Judged s.now st d flags.new numbers.now }
     ensures written { Only (truths_from d) set_flags flags.old flags.new }
 {
-    let found = s.found();
-    let l = found.layout;
+    let p = programs_of(s);
     let from = flags_from(d);
     let to = from + sheet::MOST_FORMULAS;
-    state::fill_truths(s.formulas(), l.q, st, &mut flags[from..to]);
+    state::fill_truths(s.formulas(), s.found().layout.q, st, &mut flags[from..to]);
     // every record is as it may be, unless that depends on the state
     flags.copy_within(..leaves::RECORDS, to);
-    mark_finals(
-        flags,
-        from,
-        s.programs(),
-        l.p,
-        found.interrupts,
-        &numbers[..leaves::SKIPS],
-        st.running,
-    );
+    mark_finals(flags, from, &p, &numbers[..leaves::SKIPS], st.running);
 }
 
 // Whether the configuration of frame d and the state is final.
@@ -350,15 +340,13 @@ fn tally(numbers: &mut [u32], flags: &[bool], s: &Sheet, st: State, d: usize)
     ensures tables { Surveyed s.now st d flags.now numbers.new }
     ensures written { Only (counts_from d) most_records numbers.old numbers.new }
 {
-    let found = s.found();
+    let p = programs_of(s);
     let first = counts_from(d);
     let last = first + leaves::RECORDS;
     let conflicted = conflicted_at(flags, numbers, s, d);
     leaves::tallies(
         &mut numbers[first..last],
-        s.programs(),
-        found.layout.p,
-        found.interrupts,
+        &p,
         s.actions(),
         truths_at(flags, d),
         &conflicted,

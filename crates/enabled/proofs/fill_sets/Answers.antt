@@ -14,14 +14,12 @@ loop-i-init c = (kept_none _, λ e. known_none, λ e. finals_none)
 pub final_set-ends-requires : goal.final_set-ends-requires
 final_set-ends-requires c =
     rw c.record-r.ensures.record
-    (readable c.requires.ruled c.requires.spans_known (omega (arith, c.places-m.ensures)) (omega (arith, c.places-m.ensures.0))
-    (omega (arith, c.loop-i.invariant.0.len, c.requires.room)))
+    (readable c.requires.ruled c.requires c.loop-i.invariant.0 (omega (arith, c.places-m.ensures)) (omega (arith, c.places-m.ensures.0)))
 
 pub enabled_set-starts-requires : goal.enabled_set-starts-requires
 enabled_set-starts-requires c =
     rw c.record-r.ensures.record
-    (readable c.requires.ruled c.requires.spans_known (omega (arith, c.places-m.ensures)) (omega (arith, c.places-m.ensures.0))
-    (omega (arith, c.loop-i.invariant.0.len, c.requires.room)))
+    (readable c.requires.ruled c.requires c.loop-i.invariant.0 (omega (arith, c.places-m.ensures)) (omega (arith, c.places-m.ensures.0)))
 
 pub loop-i-preserved : goal.loop-i-preserved
 loop-i-preserved c =

@@ -1,22 +1,17 @@
 -- The sets are those of the sheet's formulas, by the law of Named. Assumes nothing.
-use Rattle.std.proofs.Common.{ap, arith}
-use Rattle.sheet.specs.Layout.{formulas_in}
-use Rattle.sheet.specs.declared.Layout.{Layout}
-use Rattle.sheet.proofs.Found.{in_sheet}
-use Rattle.engine.proofs.Named.{formulas_lower, formulas_named}
-use Rattle.engine.proofs.Opened.{of_layout}
+use Rattle.sheet.specs.Layout.{layout_of}
+use Rattle.sheet.proofs.Accepted.{laid}
+use Rattle.sheet.proofs.Lower.{lower_formulas}
+use Rattle.sheet.proofs.Parts.{formulas_long}
+use Rattle.engine.proofs.Named.{formulas_named}
 use Rattle.engine.proofs.formula_sets.Goals as goal
 
 pub sets_of-requires : goal.sets_of-requires
 sets_of-requires c =
-    let O = c.found.ensures.of in
     let s = c.args.s.now in
-    let e = ap (λ (l : Layout). l.q) O.layout_is in
-    let low = formulas_lower O in
-    (omega (arith, e, c.formulas.ensures.long), (in_sheet O).q, rw (of_layout O (λ (l : Layout). formulas_in s l) c.formulas.ensures.table) low)
+    let O = c.found.ensures.of.accepted in
+    rw (c.formulas.ensures.table, c.found.ensures.found) (formulas_long s (layout_of s) (laid s O), (laid s O).q, lower_formulas s O)
 
 pub returns : goal.returns
 returns c =
-    let O = c.found.ensures.of in
-    let s = c.args.s.now in
-    formulas_named O (rw (of_layout O (λ (l : Layout). formulas_in s l) c.formulas.ensures.table) at c.sets_of.ensures)
+    formulas_named c.args.s.now c.found.ensures.of.accepted (rw (c.formulas.ensures.table, c.found.ensures.found) at c.sets_of.ensures)

@@ -4,25 +4,10 @@ use Rattle.std.proofs.Common.{ℕ, ◌≤◌, List, ◌++◌, length, get_or, dr
 use lib.Seq.{length_front}
 use borrow.Rule.Slice.PartMut.{put_mid, same_len_mid}
 use Rattle.engine.specs.Tables.{counts_from, ListsMayConflict}
-use Rattle.sheet.specs.Layout.{programs_in}
-use Rattle.sheet.specs.declared.Layout.{Layout}
-use Rattle.engine.proofs.Opened.{of_layout}
 use Rattle.engine.proofs.Tables.{skips_kept, distances_kept}
 use Rattle.engine.proofs.Windows.{window_at_long, only_front, only_put, window_behind, window_put, window_same}
 use Rattle.engine.proofs.Judging.{prepared}
 use Rattle.engine.proofs.prepare.Goals as goal
-
-pub bounds-endable-requires : goal.bounds-endable-requires
-bounds-endable-requires c =
-    rw (ap (λ (l : Layout). l.p) c.found-found.ensures.of.layout_is) c.programs-programs.ensures.long
-
-pub skips-skips-requires : goal.skips-skips-requires
-skips-skips-requires c =
-    rw (ap (λ (l : Layout). l.p) c.found-found.ensures.of.layout_is) c.programs-programs.ensures.long
-
-pub distances-distances-requires : goal.distances-distances-requires
-distances-distances-requires c =
-    rw (ap (λ (l : Layout). l.p) c.found-found.ensures.of.layout_is) c.programs-programs.ensures.long
 
 pub slice_bounds-copy_from_slice-end-2 : goal.slice_bounds-copy_from_slice-end-2
 slice_bounds-copy_from_slice-end-2 c =
@@ -63,19 +48,18 @@ returns c =
     let jl = c.copy_from_slice-4.ensures.len ∙ window_at_long 521 586 65 numbers₂ (omega arith) long₂ in
     let nl₃ = same_len_mid 521 65 numbers₂ judged c.copy_from_slice-4.ensures.len in
     let K₂ = only_put 521 586 65 numbers₂ judged (omega arith) long₂ jl in
-    let O = c.found-found.ensures.of in
-    let programs = of_layout O (λ (l : Layout). programs_in c.args.s.now l) c.programs-programs.ensures.table in
-    prepared O c.bounds-endable.result
+    let runs = c.programs_of-p.ensures.running in
+    prepared c.args.s.now c.programs_of-p.ensures.accepted c.bounds-endable.result
     (length_front flags marks 260 c.copy_from_slice.ensures.len ∙ c.requires.0)
     (nl₃ ∙ nl₂ ∙ nl ∙ c.requires.1)
     (take_at marks (drop 260 flags) 260 ml ∙ c.copy_from_slice.ensures.after)
-    (rw programs at c.bounds-endable.ensures)
+    (rw runs at c.bounds-endable.ensures)
     (λ d i. ap (λ (x : List ℕ). get_or x i 0)
     (window_behind K₂ nl₃ (counts_from d) 260 (omega arith) ∙ window_behind K nl₂ (counts_from d) 260 (omega arith) ∙ window_behind (only_front 261 numbers skips sl) nl (counts_from d) 260
     (omega arith))
     ∙ window_same 0 (counts_from d) 260 numbers c.requires.2 i)
-    (skips_kept (omega arith) K₂ ∙ skips_kept (omega arith) K ∙ take_at skips (drop 261 numbers) 261 sl ∙ c.copy_from_slice-2.ensures.after ∙ (rw programs at c.skips-skips.ensures))
+    (skips_kept (omega arith) K₂ ∙ skips_kept (omega arith) K ∙ take_at skips (drop 261 numbers) 261 sl ∙ c.copy_from_slice-2.ensures.after ∙ (rw runs at c.skips-skips.ensures))
     (distances_kept (omega arith) K₂ nl₃ (omega arith) ∙ window_put 261 521 260 numbers₁ distances (omega arith) long dl ∙ c.copy_from_slice-3.ensures.after ∙
-    (rw programs at c.distances-distances.ensures))
+    (rw runs at c.distances-distances.ensures))
     (subst (ListsMayConflict c.args.s.now)
     (sym (window_put 521 586 65 numbers₂ judged (omega arith) long₂ jl ∙ c.copy_from_slice-4.ensures.after)) c.may_conflict_of-listed.ensures)

@@ -1,53 +1,27 @@
 -- The counts are those of the state, by the law of Filling, and stand in the part kept for them. Assumes nothing.
-use Rattle.std.proofs.Common.{◌≡◌, ℕ, ◌+◌, ◌-◌, ◌≤◌, Bool, List, length, sym, ap, ◌∙◌, subst, subst₂, arith}
+use Rattle.std.proofs.Common.{◌≡◌, ℕ, ◌+◌, ◌-◌, ◌≤◌, length, ap, ◌∙◌, subst, arith}
 use borrow.Rule.Slice.PartMut.{put_mid, same_len_mid}
-use Rattle.leaves.specs.Tallies.{Tallied}
-use Rattle.leaves.specs.Endable.{Tallyable}
-use Rattle.sheet.specs.Layout.{actions_in, programs_in}
-use Rattle.sheet.specs.declared.Layout.{Layout}
-use Rattle.engine.specs.Tables.{window, Only, truths_at, counts_from, counts_at}
-use Rattle.sheet.proofs.Parts.{programs_long}
-use Rattle.sheet.proofs.Found.{in_sheet}
+use Rattle.engine.specs.Tables.{window, Only, counts_from, counts_at}
 use Rattle.engine.proofs.Tables.{counts_long}
 use Rattle.engine.proofs.Windows.{window_at, only_put, window_put}
-use Rattle.engine.proofs.Judging.{runs, many, tallyable, surveyed}
-use Rattle.engine.proofs.Opened.{of_layout}
+use Rattle.engine.proofs.Judging.{tallyable, surveyed}
 use Rattle.engine.proofs.tally.Goals as goal
-
-pub conflicted_at-conflicted-requires : goal.conflicted_at-conflicted-requires
-conflicted_at-conflicted-requires c = c.requires.prepared
 
 pub tallies-requires : goal.tallies-requires
 tallies-requires c =
-    let O = c.found-found.ensures.of in
     let J = c.requires in
     let d = c.args.d in
-    let s = c.args.s.now in
-    let l = c.found-found.result.layout in
-    let b = c.found-found.result.interrupts in
-    let numbers = c.args.numbers.now in
     let y = c.counts_from-first.result in
-    let N = window_at y (counts_from d) (y + 260) 260 numbers c.counts_from-first.ensures.0 (omega arith) in
-    let programs = of_layout O (λ (l : Layout). programs_in s l) c.programs.ensures.table in
-    let actions = of_layout O (λ (l : Layout). actions_in s l) c.actions.ensures.table in
-    let r = programs_long _ _ (in_sheet O) in
-    record {
-      program_table = (rw programs r, ap length N ∙ counts_long J.prepared d);
-      tallyable = rw (programs, actions)
-          (subst₂ (λ (t f : List Bool). Tallyable (runs s l b) (many l b) (actions_in s l) t c.args.st.running f) (sym c.truths_at.ensures) (sym c.finals_at.ensures)
-          (tallyable O J));
-    }
+    let N = window_at y (counts_from d) (y + 260) 260 c.args.numbers.now c.counts_from-first.ensures.0 (omega arith) in
+    rw (c.programs_of-p.ensures.running, c.actions.ensures.table, c.truths_at.ensures, c.finals_at.ensures)
+    (record { places = ap length N ∙ counts_long J.prepared d; tallyable = tallyable c.args.s.now c.actions.ensures.accepted J })
 
 pub returns : goal.returns
 returns c =
-    let O = c.found-found.ensures.of in
     let J = c.requires in
     let d = c.args.d in
     let st = c.args.st in
     let s = c.args.s.now in
-    let l = c.found-found.result.layout in
-    let b = c.found-found.result.interrupts in
-    let flags = c.args.flags.now in
     let numbers = c.args.numbers.now in
     let y = c.counts_from-first.result in
     let ey = c.counts_from-first.ensures.0 in
@@ -58,13 +32,9 @@ returns c =
     let new = put_mid y (y + 260 - y) numbers counts in
     let K : Only (counts_from d) 260 numbers new = subst (λ (o : ℕ). Only o 260 numbers new) ey (only_put y (y + 260) 260 numbers counts (omega arith) fits long) in
     let e : counts_at d new ≡ counts = subst (λ (o : ℕ). window o 260 new ≡ counts) ey (window_put y (y + 260) 260 numbers counts (omega arith) fits long) in
-    let conflicted = c.conflicted_at-conflicted.result in
-    let programs = of_layout O (λ (l : Layout). programs_in s l) c.programs.ensures.table in
-    let actions = of_layout O (λ (l : Layout). actions_in s l) c.actions.ensures.table in
-    let counted = rw (programs, actions) at c.tallies.ensures.counts in
-    let told = subst₂ (λ (t : List Bool) (k : List ℕ). Tallied (runs s l b) (many l b) (actions_in s l) t conflicted st.running k counts) c.truths_at.ensures N counted in
+    let counted = rw (c.programs_of-p.ensures.running, c.actions.ensures.table, c.truths_at.ensures, N, ← e) at c.tallies.ensures.counts in
     record {
-      tables = surveyed O J new conflicted (same_len_mid y (y + 260 - y) numbers counts c.tallies.auto.counts) K c.conflicted_at-conflicted.ensures
-          (subst (λ (k : List ℕ). Tallied (runs s l b) (many l b) (actions_in s l) (truths_at d flags) conflicted st.running (counts_at d numbers) k) (sym e) told);
+      tables = surveyed s c.actions.ensures.accepted J new c.conflicted_at-conflicted.result (same_len_mid y (y + 260 - y) numbers counts c.tallies.auto.counts) K
+          c.conflicted_at-conflicted.ensures counted;
       written = K;
     }
