@@ -3,7 +3,8 @@
 #![tactic(auto)]
 
 ghost use Rattle.std.specs.Prelude.{◌≡◌, true, ◌-◌, ◌*◌, ◌^◌, ◌≤◌, ◌<◌, length, get_or};
-ghost use Rattle.records.specs.Placeholders.{read_in, environment_of};
+ghost use Rattle.records.specs.Placeholders.{environments, read_in, environment_of};
+ghost use Rattle.remaining.specs.Extended.{most_records};
 ghost use Rattle.remaining.specs.Rest.{Rest, leaf};
 ghost use Rattle.words.specs.Words.{At, CanPutCopy};
 ghost use Rattle.ends.specs.Ends.{final_by_table, Totalled};
@@ -18,7 +19,7 @@ use steps::Laid;
 
 // Whether the record of leaf n is final.
 fn final_of(table: &[u32], n: usize) -> bool
-    requires { (8256 ≤ length table.now) × (n < 66560) }
+    requires { (8256 ≤ length table.now) × (n < environments * most_records) }
     ensures { result ≡ get_or (finals_in table.now) n true }
 {
     positions::final_in(table, n / ENVIRONMENTS, n % ENVIRONMENTS)
@@ -34,7 +35,7 @@ pub fn final_rest(table: &[u32], work: &[u32], at: usize) -> bool
 
 // The totals of leaf n: as many as there are records that go and have a transition, so 0 where there is none.
 fn total_of(table: &[u32], distances: &[u32], n: usize) -> Totals
-    requires { (8256 ≤ length table.now) × (n < 66560) }
+    requires { (8256 ≤ length table.now) × (n < environments * most_records) }
     ensures { Totalled (finals_in table.now) (distances_in distances.now) (counts_in table.now) (leaf n) result }
 {
     let i = n / ENVIRONMENTS;

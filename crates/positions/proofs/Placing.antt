@@ -119,7 +119,8 @@ module _ {t : Tables} {w : List ℕ} {i e to k : ℕ} (C : CanPlace t w i e to k
         first_there : {W : World} {s : State} → Surveyed W s t → (x : RestTransition) → Memᴰ (k, x) (spots_in W s t i e)
             → (z : RestTransition) × Memᴰ (y.k, z) (spots_in W s t y.i y.e) × (x ≡ on_rest (wrap_a (tag_a q.kind) (sibling_a q (reading i e))) z)
         first_there {W} {s} Q x m =
-            ⊎_elim (λ (u, g, z, l, same). subst (λ (u : Way). (z : RestTransition) × Memᴰ (u.k, z) (spots_in W s t u.i u.e) × (x ≡ on_rest (wrap_a (tag_a q.kind) (sibling_a q (reading i e))) z)) (some_is (sym g ∙ goes))
+            ⊎_elim (λ (u, g, z, l, same).
+            subst (λ (u : Way). (z : RestTransition) × Memᴰ (u.k, z) (spots_in W s t u.i u.e) × (x ≡ on_rest (wrap_a (tag_a q.kind) (sibling_a q (reading i e))) z)) (some_is (sym g ∙ goes))
             (z, l, same ∙ ap (λ (q : Program). on_rest (wrap_a (tag_a q.kind) (sibling_a q (reading i e))) z) (sym is)))
             (λ z. absurd (none_some (sym z.0 ∙ goes))) ((forked.forks W s Q).laid x m)
 
