@@ -3,7 +3,8 @@
 #![tactic(auto)]
 
 ghost use Rattle.std.specs.Prelude.{◌≡◌, true, ◌-◌, ◌*◌, ◌^◌, ◌≤◌, ◌<◌, length, get_or};
-ghost use Rattle.records.specs.Placeholders.{read_in, environment_of};
+ghost use Rattle.records.specs.Placeholders.{environments, read_in, environment_of};
+ghost use Rattle.remaining.specs.Extended.{most_records};
 ghost use Rattle.remaining.specs.Rest.{Rest, leaf};
 ghost use Rattle.words.specs.Words.{At, CanPutCopy};
 ghost use Rattle.ends.specs.Ends.{final_by_table, Totalled};
@@ -18,7 +19,7 @@ use steps::Laid;
 
 // Whether the record of leaf n is final.
 fn final_of(table: &[u32], n: usize) -> bool
-    requires { (8256 ≤ length table.now) × (n < 66560) }
+    requires { (8256 ≤ length table.now) × (n < environments * most_records) }
     ensures { result ≡ get_or (finals_in table.now) n true }
 {
     positions::final_in(table, n / ENVIRONMENTS, n % ENVIRONMENTS)
@@ -34,7 +35,7 @@ pub fn final_rest(table: &[u32], work: &[u32], at: usize) -> bool
 
 // The totals of leaf n: as many as there are records that go and have a transition, so 0 where there is none.
 fn total_of(table: &[u32], distances: &[u32], n: usize) -> Totals
-    requires { (8256 ≤ length table.now) × (n < 66560) }
+    requires { (8256 ≤ length table.now) × (n < environments * most_records) }
     ensures { Totalled (finals_in table.now) (distances_in distances.now) (counts_in table.now) (leaf n) result }
 {
     let i = n / ENVIRONMENTS;
@@ -73,17 +74,17 @@ pub struct Passed {
 }
 
 // The position that a cursor leaves to a record's node at its place or behind it.
-fn position(at: usize, place: usize, k: u64) -> u64
-    requires { place ≤ at }
-    ensures { result ≡ cursor_at place k - at * 2 ^ 64 }
+fn position(at: usize, c: Cursor) -> u64
+    requires { c.place ≤ at }
+    ensures { result ≡ cursor_at c.place c.k - at * 2 ^ 64 }
 {
-    if at == place { k } else { 0 }
+    if at == c.place { c.k } else { 0 }
 }
 
 // The first transition from the cursor on of a record, whose node is at `at`.
-fn find_leaf(t: &Tables, n: usize, at: usize, place: usize, k: u64) -> Result<Cursor, Passed>
+fn find_leaf(t: &Tables, n: usize, at: usize, c: Cursor) -> Result<Cursor, Passed>
     requires { CanLook (tables_of t.now) (read_in n) (environment_of n) }
-    ensures { FindsLeaf (tables_of t.now) n at place k result }
+    ensures { FindsLeaf (tables_of t.now) n at c.place c.k result }
 {
     let i = n / ENVIRONMENTS;
     let e = n % ENVIRONMENTS;
@@ -91,25 +92,18 @@ fn find_leaf(t: &Tables, n: usize, at: usize, place: usize, k: u64) -> Result<Cu
         done: positions::final_in(t.table, i, e),
         idle: !positions::enabled_in(t.table, i, e),
     };
-    if at < place {
+    if at < c.place {
         return Err(passed);
     }
-    let j = position(at, place, k);
-    let found = positions::find_record(t, i, e, j);
+    let found = positions::find_record(t, i, e, position(at, c));
     found.map(|k| Cursor { place: at, k }).ok_or(passed)
 }
 
 // The first transition from the cursor on of the remaining program at `at`: one pass. Of records before the cursor's place only the sets are
 // asked, for whether right parts go.
-pub fn find_rest(
-    t: &Tables,
-    work: &[u32],
-    at: usize,
-    place: usize,
-    k: u64,
-) -> Result<Cursor, Passed>
+pub fn find_rest(t: &Tables, work: &[u32], at: usize, c: Cursor) -> Result<Cursor, Passed>
     requires { CanPoint (tables_of t.now) work.now at }
-    ensures { FindsRest (tables_of t.now) work.now at place k result }
+    ensures { FindsRest (tables_of t.now) work.now at c.place c.k result }
 {
     let tag = words::tag_at(work, at);
     if tag == words::GONE {
@@ -120,11 +114,11 @@ pub fn find_rest(
     }
     if tag == words::LEAF {
         let n = words::record_at(work, at);
-        return find_leaf(t, n, at, place, k);
+        return find_leaf(t, n, at, c);
     }
     let left = at + 3;
     let right = left + 3 * words::size_at(work, left);
-    let x = match find_rest(t, work, left, place, k) {
+    let x = match find_rest(t, work, left, c) {
         Ok(found) => return Ok(found),
         Err(passed) => passed,
     };
@@ -134,7 +128,7 @@ pub fn find_rest(
             idle: x.idle,
         });
     }
-    let y = match find_rest(t, work, right, place, k) {
+    let y = match find_rest(t, work, right, c) {
         Ok(found) => return Ok(found),
         Err(passed) => passed,
     };
@@ -176,26 +170,26 @@ fn put_left(work: &mut [u32], from: usize, to: usize, tag: u32, n: usize, x: Lai
 
 // Lays out the transition at the cursor of the remaining program at `from`: straight down to its record's node by the place, and on the way
 // back up the constructs around what it leaves.
-pub fn lay_rest(t: &Tables, work: &mut [u32], from: usize, to: usize, place: usize, k: u64) -> Laid
-    requires { CanLayRest (tables_of t.now) work.old from to place k }
-    ensures { PlacesRest (tables_of t.now) from place k to work.old work.new result }
+pub fn lay_rest(t: &Tables, work: &mut [u32], from: usize, to: usize, c: Cursor) -> Laid
+    requires { CanLayRest (tables_of t.now) work.old from to c.place c.k }
+    ensures { PlacesRest (tables_of t.now) from c.place c.k to work.old work.new result }
 {
     let tag = words::tag_at(work, from);
     if tag == words::LEAF {
         let j = words::record_at(work, from);
         let i = j / ENVIRONMENTS;
         let e = j % ENVIRONMENTS;
-        return positions::lay_record(t, work, i, e, to, k);
+        return positions::lay_record(t, work, i, e, to, c.k);
     }
     let left = from + 3;
     let n = words::size_at(work, left);
     let right = left + 3 * n;
-    if place < right {
+    if c.place < right {
         let at = to + 3;
-        let x = lay_rest(t, work, left, at, place, k);
+        let x = lay_rest(t, work, left, at, c);
         return put_right(work, right, to, tag, x);
     }
     let at = to + steps::past_words(tag == words::SEQUENCE, 3 + 3 * n);
-    let x = lay_rest(t, work, right, at, place, k);
+    let x = lay_rest(t, work, right, at, c);
     put_left(work, left, to, tag, n, x)
 }

@@ -67,10 +67,18 @@ fn measure(
     let mut each_fluent = u64::MAX;
     let mut same = true;
     for _ in 0..ROUNDS {
-        let a = perform_often(rt, |v| state::new_values(effects, r, n, truths, v), values);
+        let a = perform_often(
+            rt,
+            |v|
+                requires { InEffects effects.now r n }
+            { state::new_values(effects, r, n, truths, v) },
+            values,
+        );
         let b = perform_often(
             rt,
-            |v| each_fluent::new_values(effects, r, n, truths, v),
+            |v|
+                requires { InEffects effects.now r n }
+            { each_fluent::new_values(effects, r, n, truths, v) },
             values,
         );
         one_pass = one_pass.min(a.time);

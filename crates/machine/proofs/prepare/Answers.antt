@@ -7,20 +7,10 @@ use Rattle.machine.proofs.prepare.Goals as goal
 
 pub returns : goal.returns
 returns c =
-    let spans_long : length c.spans-spans.result ≡ 260 =
-    search rules in
-    let digits_long : length c.digits-digits.result ≡ 260 =
-    search rules in
-    let distances_long : length c.distances-distances.result ≡ 260 =
-    search rules in
-    let marks_of_long : length c.marks_of-marks.result ≡ 64 =
-    search rules in
-    let programs = c.args.programs.now in
-    let v = c.args.v in
-    let al = spans_long in
-    let bl = digits_long in
-    let cl = distances_long in
-    let dl = marks_of_long in
+    let al : length c.spans-spans.result ≡ 260 = search rules in
+    let bl : length c.digits-digits.result ≡ 260 = search rules in
+    let cl : length c.distances-distances.result ≡ 260 = search rules in
+    let dl : length c.marks_of-marks.result ≡ 64 = search rules in
     let long = c.requires.1 in
     let A = c.put_numbers.ensures in
     let B = c.put_numbers-2.ensures in
@@ -28,6 +18,8 @@ returns c =
     let D = c.put_numbers-4.ensures in
     let p = c.new-p.ensures in
     record {
-      told = put_told long A B C D al bl cl dl (rw p at c.spans-spans.ensures) (rw (c.bounds-endable.ensures, c.spans-spans.ensures, p) at c.digits-digits.ensures) (rw p at c.distances-distances.ensures) c.marks_of-marks.ensures;
+      told =
+          put_told long A B C D al bl cl dl (rw p at c.spans-spans.ensures) (rw (c.bounds-endable.ensures, c.spans-spans.ensures, p) at c.digits-digits.ensures)
+          (rw p at c.distances-distances.ensures) c.marks_of-marks.ensures;
       written = put_only long A B C D al bl cl dl;
     }
