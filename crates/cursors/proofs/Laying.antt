@@ -25,11 +25,9 @@ use Rattle.words.specs.Words.{At, Stands, Kept, Room, CanPutCopy}
 use Rattle.words.proofs.Standing.{gone_at, at_unique, at_size, nodes_pos}
 use Rattle.words.proofs.Moved.{at_kept}
 use Rattle.words.proofs.Reading.{size_at, Parts, Construct, construct, sized}
-use Rattle.steps.specs.Laid.{past, Wrapped}
-use Rattle.steps.specs.Stepped.{CanEndLeft, EndsLeft, EndsRight}
+use Rattle.steps.specs.Laid.{past, GotRight, GotLeft}
+use Rattle.steps.specs.Stepped.{CanPutRight}
 use Rattle.steps.specs.declared.Laid.{Laid}
-use Rattle.steps.specs.declared.Turn.{Turn}
-use Rattle.steps.specs.declared.Turn.TheVariants.{Made, Passed}
 use Rattle.positions.specs.Spots.{Spot, moved, spots_of, rest_spots}
 use Rattle.positions.specs.Rising.{Rising}
 use Rattle.positions.specs.Found.{Tables, digits_in, spots_in, Surveyed, CanLook}
@@ -40,23 +38,9 @@ use Rattle.positions.proofs.Parts.{rising_at, of_moved, of_only}
 use Rattle.positions.proofs.From.{lt_or_ge}
 use Rattle.positions.proofs.Forking.{rises}
 use Rattle.positions.proofs.Placing.{wrap_placed}
-use Rattle.cursors.specs.Going.{cursor_at, rest_spots_in, Inside, CanLayRest, PlacesRest, GotRight, GotLeft}
+use Rattle.cursors.specs.Going.{cursor_at, rest_spots_in, Inside, CanLayRest, PlacesRest}
 use Rattle.cursors.proofs.Ending.{inside_left, inside_right}
 use Rattle.cursors.proofs.Pointing.{point_stands, point_look, point_left, point_right}
-
--- the number of nodes that was laid out
-abbrev size_of : Turn → ℕ
-size_of (Made e n) = n
-size_of (Passed k d) = 0
-
-pub wraps_right : (tag f to n e m : ℕ) (w w' : List ℕ) → EndsLeft tag f to n e w w' (Made e m)
-    → (g : Rest) → At g w f → Wrapped (λ (l : Rest). node tag l g) (to + 3) to n m w w'
-wraps_right tag f to n e m w w' (n', q, h) g A = subst (λ (k : ℕ). Wrapped (λ (l : Rest). node tag l g) (to + 3) to n k w w') (sym (ap size_of q)) (h g A)
-
-pub wraps_left : (tag f to n e m m' : ℕ) (done : Bool) (w w' : List ℕ) → EndsRight tag f to n done w w' (Made e m) (Made e m')
-    → (l : Rest) → At l w f → nodes l ≡ n → Wrapped (wrap_right tag l) (to + past (eqb tag 3) (3 + 3 * n)) to m m' w w'
-wraps_left tag f to n e m m' done w w' (n', q, h) l A en =
-    subst (λ (k : ℕ). Wrapped (wrap_right tag l) (to + past (eqb tag 3) (3 + 3 * n)) to m k w w') (sym (ap size_of q)) (h l A en)
 
 -- positions are below N: a cursor stands before every one of a later place, and tells its place and its position
 next_place : (N a b : ℕ) → a < b → a * N + N ≤ b * N
@@ -260,7 +244,7 @@ module _ {t : Tables} {w : List ℕ} {f to place k : ℕ} (K : CanLayRest t w f 
         right_at : Kept (to + 3) w w₁ → At D.r w₁ (f + 3 + 3 * m)
         right_at E = at_kept D.r (f + 3 + 3 * m) (to + 3) w w₁ E (omega (arith, parts_below)) D.r_at
 
-        pub left_end : CanEndLeft tag (f + 3 + 3 * m) to x.size w₁
+        pub left_end : CanPutRight tag (f + 3 + 3 * m) to x.size w₁
         left_end =
             let z = left_there K.can.surveyed K.there in
             let B = left_laid K.can.surveyed z.1 in

@@ -1,17 +1,16 @@
 -- Own vocabulary: cursors into the transitions of a remaining program whose records are read in environments: the place in the work area of a
 -- record's node, and a position among the record's transitions. What is asked and what is answered where the first from a cursor on is
 -- found, and where the one at a cursor is laid out. Assumes nothing.
-use Rattle.std.specs.Prelude.{◌≡◌, Option, Some, None, Result, Ok, Err, IfErr, ℕ, ◌+◌, ◌*◌, ◌^◌, ◌≤◌, ◌<◌, eqb}
+use Rattle.std.specs.Prelude.{◌≡◌, Option, Some, None, Result, Ok, Err, IfErr, ℕ, ◌+◌, ◌*◌, ◌^◌, ◌≤◌, ◌<◌}
 use mathlib.Core.List.{List, map, Memᴰ}
 use Rattle.records.specs.Placeholders.{environments, read_in}
 use Rattle.golog.specs.declared.State.{State}
 use Rattle.golog.specs.World.{World}
 use Rattle.golog.specs.Transitions.{is_none}
 use Rattle.golog.specs.Written.{written_records}
-use Rattle.remaining.specs.Rest.{Rest, leaf, node, nodes, largest, high}
-use Rattle.remaining.specs.Leaves.{RestTransition, wrap_right, rest_final, rest_transitions}
+use Rattle.remaining.specs.Rest.{Rest, leaf, nodes, largest, high}
+use Rattle.remaining.specs.Leaves.{RestTransition, rest_final, rest_transitions}
 use Rattle.words.specs.Words.{At, Room}
-use Rattle.steps.specs.Laid.{past, Wrapped}
 use Rattle.steps.specs.declared.Laid.{Laid}
 use Rattle.positions.specs.Spots.{Spot, rest_spots, from_spot}
 use Rattle.positions.specs.Found.{first_of, Tables, digits_in, Surveyed}
@@ -78,13 +77,3 @@ abbrev pub PlacesRest : Tables → («from» place k to : ℕ) (w w' : List ℕ)
 PlacesRest t «from» place k to w w' r =
     (W : World) (s : State) → Surveyed W s t → (g : Rest) → At g w «from» → (x : RestTransition) → Memᴰ (cursor_at place k, x) (rest_spots_in W s t «from» g)
     → Placed x to w w' r.entry r.size
-
--- what a transition of a left part left, x, got a copy of the right part at `from` beside it
-pub record GotRight (tag «from» to : ℕ) (w w' : List ℕ) (x r : Laid) : Type 0 where
-  pub entry_is : r.entry ≡ x.entry
-  pub wraps : (g : Rest) → At g w «from» → Wrapped (λ (l : Rest). node tag l g) (to + 3) to x.size r.size w w'
-
--- what a transition of a right part left, x, got the left part of n nodes at `from` beside it again, but in a sequence
-pub record GotLeft (tag «from» to n : ℕ) (w w' : List ℕ) (x r : Laid) : Type 0 where
-  pub entry_is : r.entry ≡ x.entry
-  pub wraps : (l : Rest) → At l w «from» → nodes l ≡ n → Wrapped (wrap_right tag l) (to + past (eqb tag 3) (3 + 3 * n)) to x.size r.size w w'

@@ -6,12 +6,11 @@ ghost use Rattle.std.specs.Prelude.{◌≡◌, true, ◌-◌, ◌*◌, ◌^◌, 
 ghost use Rattle.records.specs.Placeholders.{environments, read_in, environment_of};
 ghost use Rattle.remaining.specs.Extended.{most_records};
 ghost use Rattle.remaining.specs.Rest.{Rest, leaf};
-ghost use Rattle.words.specs.Words.{At, CanPutCopy};
+ghost use Rattle.words.specs.Words.{At};
 ghost use Rattle.ends.specs.Ends.{final_by_table, Totalled};
-ghost use Rattle.steps.specs.Stepped.{CanEndLeft};
 ghost use Rattle.positions.specs.Found.{tables_of, CanLook};
 ghost use Rattle.cursors.specs.Ended.{finals_in, counts_in, distances_in, CanEnd};
-ghost use Rattle.cursors.specs.Going.{cursor_at, CanPoint, FindsLeaf, FindsRest, CanLayRest, PlacesRest, GotRight, GotLeft};
+ghost use Rattle.cursors.specs.Going.{cursor_at, CanPoint, FindsLeaf, FindsRest, CanLayRest, PlacesRest};
 
 use ends::Totals;
 use positions::{ENVIRONMENTS, Tables};
@@ -138,36 +137,6 @@ pub fn find_rest(t: &Tables, work: &[u32], at: usize, c: Cursor) -> Result<Curso
     })
 }
 
-// Puts a copy of the right part at `from` beside what a transition of the left one left.
-fn put_right(work: &mut [u32], from: usize, to: usize, tag: u32, x: Laid) -> Laid
-    requires { CanEndLeft tag from to x.size work.old }
-    ensures { GotRight tag from to work.old work.new x result }
-{
-    let n = x.size;
-    let m = words::size_at(work, from);
-    words::put_copy_right(work, from, to, tag, n, m);
-    Laid {
-        entry: x.entry,
-        size: 1 + n + m,
-    }
-}
-
-// Puts the left part, n nodes at `from`, beside what a transition of the right one left, but in a sequence.
-fn put_left(work: &mut [u32], from: usize, to: usize, tag: u32, n: usize, x: Laid) -> Laid
-    requires { CanPutCopy from to tag x.size n work.old }
-    ensures { GotLeft tag from to n work.old work.new x result }
-{
-    if tag == words::SEQUENCE {
-        return x;
-    }
-    let m = x.size;
-    words::put_copy_left(work, from, to, tag, n, m);
-    Laid {
-        entry: x.entry,
-        size: 1 + n + m,
-    }
-}
-
 // Lays out the transition at the cursor of the remaining program at `from`: straight down to its record's node by the place, and on the way
 // back up the constructs around what it leaves.
 pub fn lay_rest(t: &Tables, work: &mut [u32], from: usize, to: usize, c: Cursor) -> Laid
@@ -187,9 +156,9 @@ pub fn lay_rest(t: &Tables, work: &mut [u32], from: usize, to: usize, c: Cursor)
     if c.place < right {
         let at = to + 3;
         let x = lay_rest(t, work, left, at, c);
-        return put_right(work, right, to, tag, x);
+        return steps::put_right(work, right, to, tag, x);
     }
     let at = to + steps::past_words(tag == words::SEQUENCE, 3 + 3 * n);
     let x = lay_rest(t, work, right, at, c);
-    put_left(work, left, to, tag, n, x)
+    steps::put_left(work, left, to, tag, n, x)
 }

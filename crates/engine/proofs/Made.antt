@@ -3,6 +3,7 @@
 use Rattle.std.proofs.Common.{◌≡◌, ℕ, ◌+◌, ◌<◌, Bool, List, sym, refl, ap, ◌∙◌, subst, arith}
 use mathlib.Core.Option.{Option}
 use Rattle.std.proofs.Common.{Some}
+use Rattle.std.specs.Prelude.{Ok, Err}
 use Rattle.height.specs.Work.{header}
 use Rattle.sheet.specs.Check.{Accepts}
 use Rattle.golog.specs.declared.State.{State}
@@ -14,9 +15,9 @@ use Rattle.demands.proofs.Compact.{all_lower}
 use Rattle.words.proofs.Written.{kept_less}
 use Rattle.leaves.specs.Running.{Running}
 use Rattle.steps.specs.Laid.{sources_of, Built}
-use Rattle.steps.specs.Stepped.{CanStep, Stepped, StepsRest}
-use Rattle.steps.specs.declared.Turn.{Turn}
-use Rattle.steps.specs.declared.Turn.TheVariants as turn
+use Rattle.steps.specs.Stepped.{CanStep, Turn, Stepped, StepsRest}
+use Rattle.steps.specs.declared.Laid.{Laid}
+use Rattle.steps.specs.declared.Passed.{Passed}
 use Rattle.steps.proofs.Nth.{nth_member}
 use Rattle.engine.specs.Tables.{running_in, truths_at, finals_at, counts_at, Surveyed}
 use Rattle.engine.specs.Frames.{frame_of, frame_at, nodes_at, KeptFrames}
@@ -66,13 +67,13 @@ module _
   step_kept = kept_less (frame_at s d + frame_of s) (frame_at s d + frame_of s + header) w w' (A g).kept (omega arith)
 
   -- below the number of transitions there is one
-  pub none_left : (j : ℕ) (done : Bool) → t ≡ turn.Passed j done → k.next < k.end → ⊥
-  none_left j done y l =
+  pub none_left : (p : Passed) → t ≡ Err p → k.next < k.end → ⊥
+  none_left p y l =
       let B = subst (Stepped (world_of s) st (extended_records s) g.frame.rest k.next (frame_at s d + frame_of s + header) w w') y (A g) in
       omega (arith, B.turned.0, listed_length accepted g.frame st, g.listed.end_is)
 
-  module _ {e z : ℕ} (y : t ≡ turn.Made e z) where
-    built : Built (rest_transitions (world_of s) st (extended_records s) g.frame.rest) k.next (frame_at s d + frame_of s + header) e z w'
+  module _ {z : Laid} (y : t ≡ Ok z) where
+    built : Built (rest_transitions (world_of s) st (extended_records s) g.frame.rest) k.next (frame_at s d + frame_of s + header) z.entry z.size w'
     built = (subst (Stepped (world_of s) st (extended_records s) g.frame.rest k.next (frame_at s d + frame_of s + header) w w') y (A g)).turned
 
     known : Known (IsAction s) built.move
@@ -80,22 +81,22 @@ module _
         rest_known (IsAction s) (world_of s) st (extended_records s) (all_lower s accepted) (acts_known s accepted) g.frame.rest (built.move, built.rest)
         (nth_member _ k.next built.nth)
 
-    move_is : move_of e ≡ built.move
-    move_is = decoded s e built.move known built.entry_is
+    move_is : move_of z.entry ≡ built.move
+    move_is = decoded s z.entry built.move known built.entry_is
 
     -- its move is a test, or one that the sheet has
-    pub made_known : Known (IsAction s) (move_of e)
+    pub made_known : Known (IsAction s) (move_of z.entry)
     made_known = subst (Known (IsAction s)) (sym move_is) known
 
     -- with the state after it
     pub made_next :
         {st' : State}
-        → st' ≡ after (world_of s) (move_of e) st
-        → MakesNext s (g.program, st) g.left w' (d + 1) (Some (made_at k e st')) g.ahead
+        → st' ≡ after (world_of s) (move_of z.entry) st
+        → MakesNext s (g.program, st) g.left w' (d + 1) (Some (made_at k z.entry st')) g.ahead
     made_next {st'} after-it =
         let x : RestTransition = (built.move, built.rest) in
         let first = ahead_next g.listed (transition_of s st x) (listed_nth accepted g.frame st k.next x built.nth) in
-        subst (MakesNext s (g.program, st) g.left w' (d + 1) (Some (made_at k e st'))) (sym first)
+        subst (MakesNext s (g.program, st) g.left w' (d + 1) (Some (made_at k z.entry st'))) (sym first)
         record {
           move_is = move_is;
           known = known;

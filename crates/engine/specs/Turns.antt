@@ -4,8 +4,7 @@ use Rattle.height.specs.Work.{header}
 use Rattle.golog.specs.declared.State.{State}
 use Rattle.demands.specs.Decoded.{world_of}
 use Rattle.demands.specs.Compact.{extended_records}
-use Rattle.steps.specs.Stepped.{Stepped}
-use Rattle.steps.specs.declared.Turn.{Turn}
+use Rattle.steps.specs.Stepped.{Turn, Stepped}
 use Rattle.engine.specs.Frames.{frame_of, frame_at}
 use Rattle.engine.specs.Going.{CanGoOn}
 use Rattle.engine.specs.declared.Cursor.{Cursor}

@@ -36,8 +36,8 @@ use leaves::Programs;
 use records::Program;
 use sheet::Sheet;
 use state::{Evaluated, Possibility};
-use steps::Turn;
 use steps::tables::Tables;
+use steps::{Laid, Passed};
 
 // How many sets of tables there are: those for a depth stand until a configuration so much deeper is surveyed.
 pub const SETS: usize = 8;
@@ -447,7 +447,7 @@ fn lay_next(
     st: State,
     d: usize,
     k: Cursor,
-) -> Turn
+) -> Result<Laid, Passed>
     requires { Surveyed s.now st d flags.now numbers.now × CanGoOn s.now st work.old d k }
     ensures turns { Turns s.now st d k work.old work.new result }
     ensures accepted { Accepts s.now }
@@ -482,12 +482,12 @@ pub fn next(
         return None;
     }
     let turn = lay_next(work, flags, numbers, s, st, d, k);
-    let Turn::Made { entry, size: _ } = turn else {
+    let Ok(x) = turn else {
         return None;
     };
-    let state = state_after(s, truths_at(flags, d), entry, st);
+    let state = state_after(s, truths_at(flags, d), x.entry, st);
     Some(Taken {
-        entry,
+        entry: x.entry,
         state,
         cursor: Cursor {
             next: k.next + 1,

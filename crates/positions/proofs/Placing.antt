@@ -28,13 +28,13 @@ use Rattle.remaining.proofs.Written.{read_kind, rise_read, written_lower}
 use Rattle.words.specs.Words.{At, Put, Room}
 use Rattle.words.proofs.Written.{kept_less, kept_trans, kept_put}
 use Rattle.words.proofs.Moved.{put_gone}
-use Rattle.steps.specs.Laid.{code_of, past, Wrapped}
+use Rattle.steps.specs.Laid.{code_of, past, Wrapped, LaidOwn, WrappedLaid}
 use Rattle.steps.specs.declared.Laid.{Laid}
 use Rattle.positions.specs.declared.Way.{Way}
 use Rattle.positions.specs.declared.Fork.{Fork}
 use Rattle.positions.specs.Spots.{Spot}
 use Rattle.positions.specs.Found.{Tables, digits_in, spots_in, Surveyed, Leads, Forked, ForksRecord, CanLook}
-use Rattle.positions.specs.Placed.{CanPlace, Placed, LaidOwn, WrappedLaid}
+use Rattle.positions.specs.Placed.{CanPlace, Placed}
 use Rattle.positions.proofs.Listed.{spots_are}
 use Rattle.positions.proofs.Parts.{some_member}
 use Rattle.positions.proofs.Forking.{none_some, some_is, spots_own}

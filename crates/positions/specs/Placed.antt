@@ -1,15 +1,13 @@
 -- Own vocabulary: the transition of a program record at a position, laid out in words: what is asked and what is answered. Assumes nothing.
 use Rattle.std.specs.Prelude.{◌≡◌, ℕ, ◌+◌, ◌*◌}
 use mathlib.Core.List.{List, Memᴰ}
-use Rattle.records.specs.declared.Program.{Program}
 use Rattle.height.specs.Height.{rise}
 use Rattle.golog.specs.declared.State.{State}
 use Rattle.golog.specs.World.{World}
-use Rattle.remaining.specs.Rest.{Rest, nodes}
-use Rattle.remaining.specs.Leaves.{RestTransition, own_move}
-use Rattle.words.specs.Words.{At, Kept, Put, Room}
-use Rattle.steps.specs.Laid.{code_of, Wrapped}
-use Rattle.steps.specs.declared.Laid.{Laid}
+use Rattle.remaining.specs.Rest.{nodes}
+use Rattle.remaining.specs.Leaves.{RestTransition}
+use Rattle.words.specs.Words.{At, Kept, Room}
+use Rattle.steps.specs.Laid.{code_of}
 use Rattle.positions.specs.Found.{Tables, spots_in, Surveyed, CanLook}
 
 -- record i, read in e, has a transition at k in the state that it is looked at in, and there is room for what it leaves
@@ -31,14 +29,3 @@ pub record Placed (x : RestTransition) (to : ℕ) (w w' : List ℕ) (entry size 
 abbrev pub PlacesRecord : Tables → (i e k to : ℕ) (w w' : List ℕ) (entry size : ℕ) → Type 0
 PlacesRecord t i e k to w w' entry size =
     (W : World) (s : State) → Surveyed W s t → (x : RestTransition) → Memᴰ (k, x) (spots_in W s t i e) → Placed x to w w' entry size
-
--- a record's own transition, which leaves nothing
-pub record LaidOwn (r : Program) (to : ℕ) (w w' : List ℕ) (x : Laid) : Type 0 where
-  pub put : Put to 0 0 1 w w'
-  pub entry_is : x.entry ≡ code_of (own_move r)
-  pub size_is : x.size ≡ 1
-
--- what was laid out at `at`, x, stands in the construct f
-pub record WrappedLaid (f : Rest → Rest) (at to : ℕ) (w w' : List ℕ) (x y : Laid) : Type 0 where
-  pub entry_is : y.entry ≡ x.entry
-  pub wrapped : Wrapped f at to x.size y.size w w'

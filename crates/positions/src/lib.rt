@@ -10,13 +10,11 @@ ghost use Rattle.positions.specs.Found.{tables_of, CanLook, ForksRecord, CanGo, 
 ghost use Rattle.positions.specs.Levels.{digits_over, digits_of};
 ghost use Rattle.golog.specs.Written.{entry_in, program_read};
 ghost use Rattle.records.specs.Placeholders.{put, reading};
-ghost use Rattle.kinds.specs.Programs.{has_a, has_condition, picks, uses_a, uses_b, tag_a, tag_b};
+ghost use Rattle.kinds.specs.Programs.{has_a, has_condition, picks, uses_a, uses_b};
 ghost use Rattle.sets.specs.Sets.{member, set_at};
-ghost use Rattle.steps.specs.Laid.{InWords, past};
+ghost use Rattle.steps.specs.Laid.{InWords};
 ghost use Rattle.positions.specs.Read.{Readable};
-ghost use Rattle.positions.specs.Placed.{CanPlace, PlacesRecord, LaidOwn, WrappedLaid};
-ghost use Rattle.remaining.specs.Leaves.{sibling_a, wrap_a, wrap_b};
-ghost use Rattle.words.specs.Words.{Room};
+ghost use Rattle.positions.specs.Placed.{CanPlace, PlacesRecord};
 
 use kinds::programs::{Kind, kind_of};
 use leaves::Programs;
@@ -375,44 +373,6 @@ pub fn find_record(t: &Tables, i: usize, e: usize, k: u64) -> Option<u64>
     find_way(t, Some(w))
 }
 
-// Lays out the own transition of record r, which leaves nothing.
-fn lay_own(work: &mut [u32], to: usize, r: Program) -> Laid
-    requires room { Room work.old to 1 }
-    requires in_words { InWords r }
-    ensures { LaidOwn r to work.old work.new result }
-{
-    words::put_node(work, to, words::GONE, 0, 1);
-    Laid {
-        entry: steps::entry_of(r),
-        size: 1,
-    }
-}
-
-// Puts what part a of record r, number n, left into its construct.
-fn wrap_laid_a(work: &mut [u32], to: usize, r: Program, n: usize, x: Laid) -> Laid
-    requires room { Room work.old to (x.size + 2) }
-    requires n_bound { n < 2 ^ 32 }
-    requires in_words { InWords r }
-    ensures { WrappedLaid (wrap_a (tag_a r.kind) (sibling_a r n)) (to + past (eqb (tag_a r.kind) 0) 3) to work.old work.new x result }
-{
-    Laid {
-        entry: x.entry,
-        size: steps::wrap_a(work, to, r, n, x.size),
-    }
-}
-
-// The same for part b.
-fn wrap_laid_b(work: &mut [u32], to: usize, r: Program, x: Laid) -> Laid
-    requires room { Room work.old to (x.size + 2) }
-    requires in_words { InWords r }
-    ensures { WrappedLaid (wrap_b (tag_b r.kind) r.a) (to + past (eqb (tag_b r.kind) 0) 6) to work.old work.new x result }
-{
-    Laid {
-        entry: x.entry,
-        size: steps::wrap_b(work, to, r, x.size),
-    }
-}
-
 // Lays out the transition of record i, read in e, at position k: its own, or the one that its ways lead to. What stands beside what it leaves
 // is read in e too, so that it does not see a value chosen below.
 pub fn lay_record(t: &Tables, work: &mut [u32], i: usize, e: usize, to: usize, k: u64) -> Laid
@@ -422,15 +382,15 @@ pub fn lay_record(t: &Tables, work: &mut [u32], i: usize, e: usize, to: usize, k
     let f = ways(t, i, e, k);
     let r = read(f.r, e, records::value_in(t.spans, i, 1) as usize);
     if kinds::programs::has_own(r.kind) {
-        return lay_own(work, to, r);
+        return steps::lay_own(work, to, r);
     }
     if let Some(w) = f.first {
         let at = to + steps::past_words(kinds::programs::tag_a(r.kind) == 0, 3);
         let x = lay_record(t, work, w.i, w.e, at, w.k);
-        return wrap_laid_a(work, to, r, reading_of(i, e), x);
+        return steps::wrap_a(work, to, r, reading_of(i, e), x);
     }
     let w = f.second.unwrap();
     let at = to + steps::past_words(kinds::programs::tag_b(r.kind) == 0, 6);
     let x = lay_record(t, work, w.i, w.e, at, w.k);
-    wrap_laid_b(work, to, r, x)
+    steps::wrap_b(work, to, r, x)
 }

@@ -22,13 +22,14 @@ use Rattle.remaining.specs.Rest.{Rest, gone, leaf, nodes, largest, high, AllLowe
 use Rattle.remaining.specs.Leaves.{RestTransition, on_rest, Leaf, leaf_with, leaf_of, own_move, sibling_a, wrap_a, wrap_b, rest_transitions}
 use Rattle.remaining.proofs.Entries.{leaf_plain, lower_a, lower_b, rise_a, rise_b}
 use Rattle.remaining.proofs.Nodes.{step_nodes}
-use Rattle.words.specs.Words.{Put, Room}
+use Rattle.words.specs.Words.{Room}
 use Rattle.words.proofs.Written.{kept_less, kept_trans, kept_put}
 use Rattle.words.proofs.Moved.{put_gone}
 use Rattle.ends.specs.Ends.{most_levels}
 use Rattle.leaves.specs.Tallies.{counts_of}
 use Rattle.leaves.proofs.Entries.{counts_exact, first_exact}
-use Rattle.steps.specs.Laid.{code_of, Sources, Counted, CanLay, Built, Lays, past, Wrapped}
+use Rattle.steps.specs.Laid.{Sources, Counted, CanLay, Built, Lays, past, Wrapped, LaidOwn, WrappedLaid}
+use Rattle.steps.specs.declared.Laid.{Laid}
 use Rattle.steps.proofs.Nth.{nth_member, Both, from_first, from_second, second_goes}
 
 -- what was built of a transition is small: at most two nodes more for each level
@@ -40,12 +41,13 @@ leaf_few : (W : World) (s : State) (p : ℕ → Program) → AllLower p → (i k
 unfolding rest_transitions nodes largest
 leaf_few W s p low i = built_few W s p low (leaf i)
 
--- what was built, put into a construct
-pub wrap_built : (f : Rest → Rest) (xs ys : List RestTransition) (k j at to e n n' : ℕ) (w w' : List ℕ) → Built xs j at e n w → Wrapped f at to n n' w w'
-    → ((x : RestTransition) → get_elem? xs j ≡ some x → get_elem? ys k ≡ some (on_rest f x)) → Built ys k to e n' w'
-wrap_built f xs ys k j at to e n n' w w' B X h =
+-- what was built, x, put into a construct
+pub wrap_built : (f : Rest → Rest) (xs ys : List RestTransition) (k j at to : ℕ) (x y : Laid) (w w' : List ℕ) → Built xs j at x.entry x.size w → y.entry ≡ x.entry
+    → Wrapped f at to x.size y.size w w'
+    → ((x : RestTransition) → get_elem? xs j ≡ some x → get_elem? ys k ≡ some (on_rest f x)) → Built ys k to y.entry y.size w'
+wrap_built f xs ys k j at to x y w w' B e X h =
     let Y = X.wrapped B.rest B.at (sym B.size_is) in
-    record { move = B.move; rest = f B.rest; nth = h (B.move, B.rest) B.nth; at = Y.0; entry_is = B.entry_is; size_is = Y.1 }
+    record { move = B.move; rest = f B.rest; nth = h (B.move, B.rest) B.nth; at = Y.0; entry_is = e ∙ B.entry_is; size_is = Y.1 }
 
 cond_less : (b : Bool) (k x : ℕ) → k < cond b x 0 → T b × (k < x)
 cond_less true k x h = (tt, h)
@@ -175,17 +177,18 @@ module _ {W : World} {s : State} {v : Sources} (C : Counted W s v) where
             let few = leaf_few W s p C.lower r.a k at e n w₁ L.built in
             record { inside = omega (arith, R.inside, L.kept.len, few, (a_lower a_goes.0).1); small = omega (arith, R.small, L.kept.len) }
 
-        pub a_lays : {w w₁ w' : List ℕ} {to x tag e n n' : ℕ} → tag ≡ tag_a r.kind → x ≡ past (eqb tag 0) 3
-            → Lays (leaf_of W s v.records r.a).transitions k (to + x) w w₁ e n
-            → Wrapped (wrap_a (tag_a r.kind) (sibling_a r i)) (to + past (eqb (tag_a r.kind) 0) 3) to n n' w₁ w' → Lays (leaf_of W s v.records i).transitions k to w w' e n'
+        pub a_lays : {w w₁ w' : List ℕ} {to n tag : ℕ} {x y : Laid} → tag ≡ tag_a r.kind → n ≡ past (eqb tag 0) 3
+            → Lays (leaf_of W s v.records r.a).transitions k (to + n) w w₁ x.entry x.size
+            → WrappedLaid (wrap_a (tag_a r.kind) (sibling_a r i)) (to + past (eqb (tag_a r.kind) 0) 3) to w₁ w' x y
+            → Lays (leaf_of W s v.records i).transitions k to w w' y.entry y.size
         unfolding parts A
-        a_lays {w} {w₁} {w'} {to} {x} {tag} {e} {n} {n'} et ex M X =
-            let L = subst (λ (y : ℕ). Lays (leaf_of W s p r.a).transitions k (to + y) w w₁ e n) (ex ∙ ap (λ (y : ℕ). past (eqb y 0) 3) et) M in
+        a_lays {w} {w₁} {w'} {to} {n} {tag} {x} {y} et en M X =
+            let L = subst (λ (n : ℕ). Lays (leaf_of W s p r.a).transitions k (to + n) w w₁ x.entry x.size) (en ∙ ap (λ (g : ℕ). past (eqb g 0) 3) et) M in
             record {
               built =
-                  wrap_built _ A.transitions _ k k _ to e n n' w₁ w' L.built X
-                  (λ x h. ap (λ (xs : List RestTransition). get_elem? xs k) parts_are ∙ from_first _ _ A.transitions B.transitions ua ub k a_goes.0 h);
-              kept = kept_trans to to w w₁ w' (kept_less to _ w w₁ L.kept (omega arith)) X.kept (omega arith);
+                  wrap_built _ A.transitions _ k k _ to x y w₁ w' L.built X.entry_is X.wrapped
+                  (λ z h. ap (λ (xs : List RestTransition). get_elem? xs k) parts_are ∙ from_first _ _ A.transitions B.transitions ua ub k a_goes.0 h);
+              kept = kept_trans to to w w₁ w' (kept_less to _ w w₁ L.kept (omega arith)) X.wrapped.kept (omega arith);
             }
 
       -- else part b's, at the difference
@@ -219,33 +222,33 @@ module _ {W : World} {s : State} {v : Sources} (C : Counted W s v) where
             let few = leaf_few W s p C.lower r.b (k - first) at e n w₁ L.built in
             record { inside = omega (arith, R.inside, L.kept.len, few, (b_lower b_goes.0).1); small = omega (arith, R.small, L.kept.len) }
 
-        pub b_lays : {w w₁ w' : List ℕ} {to x tag e n n' : ℕ} → tag ≡ tag_b r.kind → x ≡ past (eqb tag 0) 6
-            → Lays (leaf_of W s v.records r.b).transitions (k - first) (to + x) w w₁ e n
-            → Wrapped (wrap_b (tag_b r.kind) r.a) (to + past (eqb (tag_b r.kind) 0) 6) to n n' w₁ w' → Lays (leaf_of W s v.records i).transitions k to w w' e n'
+        pub b_lays : {w w₁ w' : List ℕ} {to n tag : ℕ} {x y : Laid} → tag ≡ tag_b r.kind → n ≡ past (eqb tag 0) 6
+            → Lays (leaf_of W s v.records r.b).transitions (k - first) (to + n) w w₁ x.entry x.size
+            → WrappedLaid (wrap_b (tag_b r.kind) r.a) (to + past (eqb (tag_b r.kind) 0) 6) to w₁ w' x y
+            → Lays (leaf_of W s v.records i).transitions k to w w' y.entry y.size
         unfolding parts B
-        b_lays {w} {w₁} {w'} {to} {x} {tag} {e} {n} {n'} et ex M X =
-            let L = subst (λ (y : ℕ). Lays (leaf_of W s p r.b).transitions (k - first) (to + y) w w₁ e n) (ex ∙ ap (λ (y : ℕ). past (eqb y 0) 6) et) M in
+        b_lays {w} {w₁} {w'} {to} {n} {tag} {x} {y} et en M X =
+            let L = subst (λ (n : ℕ). Lays (leaf_of W s p r.b).transitions (k - first) (to + n) w w₁ x.entry x.size) (en ∙ ap (λ (g : ℕ). past (eqb g 0) 6) et) M in
             record {
               built =
-                  wrap_built _ B.transitions _ k (k - first) _ to e n n' w₁ w' L.built X
-                  (λ x h. ap (λ (xs : List RestTransition). get_elem? xs k) parts_are ∙ from_second _ _ A.transitions B.transitions ua ub k (k - first) b_goes.0 (omega (arith, first_is))
+                  wrap_built _ B.transitions _ k (k - first) _ to x y w₁ w' L.built X.entry_is X.wrapped
+                  (λ z h. ap (λ (xs : List RestTransition). get_elem? xs k) parts_are ∙ from_second _ _ A.transitions B.transitions ua ub k (k - first) b_goes.0 (omega (arith, first_is))
                   h);
-              kept = kept_trans to to w w₁ w' (kept_less to _ w w₁ L.kept (omega arith)) X.kept (omega arith);
+              kept = kept_trans to to w w₁ w' (kept_less to _ w w₁ L.kept (omega arith)) X.wrapped.kept (omega arith);
             }
 
     -- a transition of its own leaves nothing
-    pub own_lays : {w w' : List ℕ} {to k e : ℕ} → k < get_or v.counts i 0 → has_own r.kind ≡ true → Room w to (1 + 2 * rise v.records i) → Put to 0 0 1 w w'
-        → e ≡ code_of (own_move r)
-        → Lays (leaf_of W s v.records i).transitions k to w w' e 1
+    pub own_lays : {w w' : List ℕ} {to k : ℕ} {x : Laid} → k < get_or v.counts i 0 → has_own r.kind ≡ true → Room w to (1 + 2 * rise v.records i)
+        → LaidOwn r to w w' x → Lays (leaf_of W s v.records i).transitions k to w w' x.entry x.size
     unfolding nodes
-    own_lays {w} {w'} {to} {k} h l R P ee = record {
+    own_lays {w} {w'} {to} {k} h l R X = record {
       built = record {
         move = own_move r;
         rest = gone;
         nth = own_step k (subst (λ (n : ℕ). k < n) (count_is i I.inside I.low) h) l;
-        at = put_gone to w w' P (omega (arith, R.inside));
-        entry_is = ee;
-        size_is = refl;
+        at = put_gone to w w' X.put (omega (arith, R.inside));
+        entry_is = X.entry_is;
+        size_is = X.size_is;
       };
-      kept = kept_put to to 0 0 1 w w' P (omega arith);
+      kept = kept_put to to 0 0 1 w w' X.put (omega arith);
     }

@@ -4,6 +4,7 @@
 use mathlib.Core.Path.{◌≡◌, refl, sym, ap, ap₂, subst, ◌∙◌}
 use mathlib.Core.Bool.{Bool, true, false, cond, ◌&&◌}
 use mathlib.Core.List.{List, [], ◌∷◌}
+use Rattle.std.specs.Prelude.{Ok, Err}
 use Prim.Native.Nat.{ℕ, ◌+◌, ◌*◌, ◌-◌, ◌^◌, ◌≤◌, ◌<◌, max}
 use native.Mathlib.Omega.{arith}
 use lib.Dec.{T as Passes, eqb}
@@ -15,7 +16,7 @@ use Rattle.golog.specs.World.{World}
 use Rattle.golog.specs.Transitions.{is_none}
 use Rattle.remaining.specs.Rest.{Rest, gone, leaf, node, nodes, largest, high}
 use Rattle.remaining.specs.Leaves.{RestTransition, goes_right, wrap_right, rest_final, rest_transitions}
-use Rattle.words.specs.Words.{At, Stands, Kept, Room}
+use Rattle.words.specs.Words.{At, Stands, Kept, Room, CanPutCopy}
 use Rattle.words.proofs.Standing.{nodes_pos, at_size, at_unique}
 use Rattle.words.proofs.Written.{kept_refl, kept_less, kept_trans}
 use Rattle.words.proofs.Moved.{at_kept}
@@ -23,10 +24,10 @@ use Rattle.words.proofs.Reading.{size_at, Parts, sized}
 use Rattle.leaves.proofs.Entries.{finals_at}
 use Rattle.ends.specs.Ends.{final_by_table, InTable}
 use Rattle.ends.proofs.Tabled.{within_leaf, within_left, within_right, final_in}
-use Rattle.steps.specs.Laid.{Sources, CanLay, Built, LaysRecord, past}
-use Rattle.steps.specs.Stepped.{Tabled, CanStepRecord, CanStep, Turned, StepsRecord, Stepped, StepsRest, CanEndLeft, EndsLeft, CanEndRight, EndsRight, RoomFor}
-use Rattle.steps.specs.declared.Turn.{Turn}
-use Rattle.steps.specs.declared.Turn.TheVariants.{Made, Passed}
+use Rattle.steps.specs.Laid.{Sources, CanLay, Built, LaysRecord, past, GotRight, GotLeft}
+use Rattle.steps.specs.Stepped.{Tabled, CanStepRecord, CanStep, Turn, Turned, StepsRecord, Stepped, StepsRest, CanPutRight}
+use Rattle.steps.specs.declared.Laid.{Laid}
+use Rattle.steps.specs.declared.Passed.{Passed}
 use Rattle.steps.proofs.Nth.{both_length, from_first, from_second}
 use Rattle.steps.proofs.Laying.{built_few, wrap_built, count_is}
 
@@ -43,21 +44,21 @@ module _ {v : Sources} {finals : List Bool} {w : List ℕ} {i to : ℕ} (K : Can
     room = K.room;
   }
 
-  pub record_none : count ≤ k → {x : Bool} → x ≡ get_or finals i true → StepsRecord v finals i k to w w (Passed (k - count) x)
+  pub record_none : count ≤ k → {x : Bool} → x ≡ get_or finals i true → StepsRecord v finals i k to w w (Err (record { k = k - count; done = x }))
   record_none h ex W s T = record {
     turned = (omega (arith, count_is T.counted i K.inside K.low), ex ∙ ap (λ (l : List Bool). get_or l i true) T.finals_are ∙ finals_at W s v.records v.many i K.inside);
     kept = kept_refl to w;
   }
 
-pub record_made : {v : Sources} (finals : List Bool) {i k to e n : ℕ} {w w' : List ℕ} → LaysRecord v i k to w w' e n → StepsRecord v finals i k to w w' (Made e n)
+pub record_made : {v : Sources} (finals : List Bool) {i k to : ℕ} {x : Laid} {w w' : List ℕ} → LaysRecord v i k to w w' x.entry x.size → StepsRecord v finals i k to w w' (Ok x)
 record_made finals L W s T = record { turned = (L W s T.counted).built; kept = (L W s T.counted).kept }
 
 -- the answer that a match found
 module _ {W : World} {s : State} {p : ℕ → Program} {g : Rest} {k to : ℕ} {w w' : List ℕ} {t : Turn} (S : Stepped W s p g k to w w' t) where
-  made_of : {e n : ℕ} → t ≡ Made e n → Built (rest_transitions W s p g) k to e n w'
+  made_of : {x : Laid} → t ≡ Ok x → Built (rest_transitions W s p g) k to x.entry x.size w'
   made_of q = subst (λ (u : Turn). Turned (rest_final W s p g) (rest_transitions W s p g) k to w' u) q S.turned
 
-  left_of : {j : ℕ} {done : Bool} → t ≡ Passed j done → (k ≡ length (rest_transitions W s p g) + j) × (done ≡ rest_final W s p g)
+  left_of : {q : Passed} → t ≡ Err q → (k ≡ length (rest_transitions W s p g) + q.k) × (q.done ≡ rest_final W s p g)
   left_of q = subst (λ (u : Turn). Turned (rest_final W s p g) (rest_transitions W s p g) k to w' u) q S.turned
 
 module _ {v : Sources} {finals : List Bool} {w : List ℕ} {f to : ℕ} (K : CanStep v finals w f to) where
@@ -69,10 +70,10 @@ module _ {v : Sources} {finals : List Bool} {w : List ℕ} {f to : ℕ} (K : Can
       → StepsRest v finals f k to w w' r
   whatever {k} {w'} {r} h W s T g A = subst (λ (g : Rest). Stepped W s v.records g k to w w' r) (at_unique K.rest g w f K.at A) (h W s T)
 
-  pub gone_left : {k : ℕ} → K.rest ≡ gone → StepsRest v finals f k to w w (Passed k true)
+  pub gone_left : {k : ℕ} → K.rest ≡ gone → StepsRest v finals f k to w w (Err (record { k = k; done = true }))
   unfolding rest_final rest_transitions
   gone_left {k} e =
-      whatever (λ W s T. subst (λ (g : Rest). Stepped W s v.records g k to w w (Passed k true)) (sym e) (record { turned = (omega arith, refl); kept = kept_refl to w }))
+      whatever (λ W s T. subst (λ (g : Rest). Stepped W s v.records g k to w w (Err (record { k = k; done = true }))) (sym e) (record { turned = (omega arith, refl); kept = kept_refl to w }))
 
   pub leaf_can : {i j : ℕ} → K.rest ≡ leaf j → i ≡ j → CanStepRecord v finals w i to
   unfolding nodes largest
@@ -206,10 +207,10 @@ module _ {v : Sources} {finals : List Bool} {w : List ℕ} {f to tag left : ℕ}
     final_is ex ey = ap₂ ◌&&◌ ex ey ∙ ap (rest_final W s p) (sym X.parts.is)
 
     -- the left part made one
-    module _ {e n : ℕ} (q : t ≡ Made e n) where
-      pub made_can : CanEndLeft tag (f + 3 + 3 * left) to n w₁
+    module _ {x : Laid} (q : t ≡ Ok x) where
+      pub made_can : CanPutRight tag (f + 3 + 3 * left) to x.size w₁
       made_can =
-          let few = built_few W s p T.counted.lower l k (to + 3) e n w₁ (made_of S q) in
+          let few = built_few W s p T.counted.lower l k (to + 3) x.entry x.size w₁ (made_of S q) in
           record {
             three = X.parts.three;
             right = r;
@@ -218,26 +219,25 @@ module _ {v : Sources} {finals : List Bool} {w : List ℕ} {f to tag left : ℕ}
             room = record { inside = omega (arith, X.inside, S.kept.len); small = omega (arith, X.small, S.kept.len) };
           }
 
-      pub made_stepped : {w' : List ℕ} {z : Turn} → EndsLeft tag (f + 3 + 3 * left) to n e w₁ w' z → Stepped W s v.records g k to w w' z
+      pub made_stepped : {w' : List ℕ} {y : Laid} → GotRight tag (f + 3 + 3 * left) to w₁ w' x y → Stepped W s v.records g k to w w' (Ok y)
       unfolding rest_transitions
-      made_stepped {w'} {z} (n', ez, wraps) =
-          let Y = wraps r (right_at M) in
-          subst (λ (z : Turn). Stepped W s p g k to w w' z) (sym ez)
-          (record {
+      made_stepped {w'} {y} G =
+          let Y = G.wraps r (right_at M) in
+          record {
             turned =
-                wrap_built (λ (g : Rest). node tag g r) L (rest_transitions W s p g) k k (to + 3) to e n n' w₁ w' (made_of S q) Y
+                wrap_built (λ (g : Rest). node tag g r) L (rest_transitions W s p g) k k (to + 3) to x y w₁ w' (made_of S q) G.entry_is Y
                 (λ y h. ap (λ (xs : List RestTransition). get_elem? xs k) steps_are ∙ from_first (λ (g : Rest). node tag g r) (wrap_right tag l) L R true goes k tt h);
             kept = kept_trans to to w w₁ w' (kept_less to (to + 3) w w₁ S.kept (omega arith)) Y.kept (omega arith);
-          })
+          }
 
     -- it made none: whether the right part goes
-    module _ {j : ℕ} {done : Bool} (q : t ≡ Passed j done) {b : Bool} (eb : b ≡ goes_right tag done (eqb j k)) where
-      counted : k ≡ length L + j
+    module _ {z : Passed} (q : t ≡ Err z) {b : Bool} (eb : b ≡ goes_right tag z.done (eqb z.k k)) where
+      counted : k ≡ length L + z.k
       counted = (left_of S q).0
 
-      idle_is : (xs : List RestTransition) → k ≡ length xs + j → eqb j k ≡ is_none xs
-      idle_is [] e = eq-eqb j k (omega arith)
-      idle_is (x ∷ xs) e = ne_eqb j k (λ z. omega arith)
+      idle_is : (xs : List RestTransition) → k ≡ length xs + z.k → eqb z.k k ≡ is_none xs
+      idle_is [] e = eq-eqb z.k k (omega arith)
+      idle_is (x ∷ xs) e = ne_eqb z.k k (λ n. omega arith)
 
       goes_is : b ≡ goes
       goes_is = eb ∙ ap₂ (goes_right tag) (left_of S q).1 (idle_is L counted)
@@ -246,7 +246,7 @@ module _ {v : Sources} {finals : List Bool} {w : List ℕ} {f to tag left : ℕ}
       unfolding rest_transitions
       both_count = ap length steps_are ∙ both_length (λ (g : Rest). node tag g r) (wrap_right tag l) L R true goes ∙ ap (λ (b : Bool). length L + cond b (length R) 0) (sym goes_is)
 
-      pub stays_stepped : b ≡ false → {x : Bool} → ((g : Rest) → At g w₁ (f + 3 + 3 * left) → x ≡ (done && final_by_table finals g)) → Stepped W s v.records g k to w w₁ (Passed j x)
+      pub stays_stepped : b ≡ false → {x : Bool} → ((g : Rest) → At g w₁ (f + 3 + 3 * left) → x ≡ (z.done && final_by_table finals g)) → Stepped W s v.records g k to w w₁ (Err (record { k = z.k; done = x }))
       stays_stepped nb ex = record {
         turned = (
           counted ∙ omega (arith, both_count, ap (λ (b : Bool). cond b (length R) 0) nb),
@@ -255,48 +255,42 @@ module _ {v : Sources} {finals : List Bool} {w : List ℕ} {f to tag left : ℕ}
         kept = kept_less to (to + 3) w w₁ S.kept (omega arith);
       }
 
-      module _ (yb : b ≡ true) {x : ℕ} (ex : x ≡ past (eqb tag 3) (3 + 3 * left)) {w₂ : List ℕ} {u : Turn} (N : StepsRest v finals (f + 3 + 3 * left) j (to + x) w₁ w₂ u) where
-        U : Stepped W s p r j (to + x) w₁ w₂ u
+      module _ (yb : b ≡ true) {x : ℕ} (ex : x ≡ past (eqb tag 3) (3 + 3 * left)) {w₂ : List ℕ} {u : Turn} (N : StepsRest v finals (f + 3 + 3 * left) z.k (to + x) w₁ w₂ u) where
+        U : Stepped W s p r z.k (to + x) w₁ w₂ u
         U = N W s T r (right_at M)
 
         kept_two : Kept to w w₂
         kept_two = kept_trans to (to + x) w w₁ w₂ (kept_less to (to + 3) w w₁ S.kept (omega arith)) U.kept (omega arith)
 
-        goes_room : RoomFor w₂ to (1 + left) u
-        goes_room = go u U.turned
-          where
-            go : (u : Turn) → Turned (rest_final W s p r) R j (to + x) w₂ u → RoomFor w₂ to (1 + left) u
-            go (Made e m) B =
-                let few = built_few W s p T.counted.lower r j (to + x) e m w₂ B in
-                record { inside = omega (arith, X.inside, X.parts.left_is, kept_two.len); small = omega (arith, X.small, kept_two.len) }
-            go (Passed i d) B = tt
+        pub goes_can : {y : Laid} → u ≡ Ok y → CanPutCopy (f + 3) to tag y.size left w₂
+        goes_can {y} eu =
+            let few = built_few W s p T.counted.lower r z.k (to + x) y.entry y.size w₂ (made_of U eu) in
+            record {
+              room = record { inside = omega (arith, X.inside, X.parts.left_is, kept_two.len); small = omega (arith, X.small, kept_two.len) };
+              three = X.parts.three;
+              below = omega (arith, parts_inside);
+            }
 
-        pub goes_stepped : {w' : List ℕ} {z : Turn} → EndsRight tag (f + 3) to left done w₂ w' u z → Stepped W s v.records g k to w w' z
+        pub goes_made : {w' : List ℕ} {y m : Laid} → u ≡ Ok y → GotLeft tag (f + 3) to left w₂ w' y m → Stepped W s v.records g k to w w' (Ok m)
         unfolding rest_transitions
-        goes_stepped {w'} {z} D = go u U.turned D
+        goes_made {w'} {y} {m} eu G =
+            let Y = G.wraps l left_at (sym X.parts.left_is) in
+            record {
+              turned =
+                  wrap_built (wrap_right tag l) R (rest_transitions W s p g) k z.k (to + past (eqb tag 3) (3 + 3 * left)) to y m w₂ w'
+                  (subst (λ (n : ℕ). Built R z.k (to + n) y.entry y.size w₂) ex (made_of U eu)) G.entry_is Y
+                  (λ y h. ap (λ (xs : List RestTransition). get_elem? xs k) steps_are
+                  ∙ from_second (λ (g : Rest). node tag g r) (wrap_right tag l) L R true goes k z.k (subst Passes (sym yb ∙ goes_is) tt) counted h);
+              kept = kept_trans to to w w₂ w' kept_two Y.kept (omega arith);
+            }
           where
             left_at : At l w₂ (f + 3)
             left_at = at_kept l (f + 3) to w w₂ kept_two (omega (arith, X.below)) X.parts.l_at
 
-            go : (u : Turn) → Turned (rest_final W s p r) R j (to + x) w₂ u → EndsRight tag (f + 3) to left done w₂ w' u z → Stepped W s p g k to w w' z
-            go (Made e m) B (n', ez, wraps) =
-                let Y = wraps l left_at (sym X.parts.left_is) in
-                subst (λ (z : Turn). Stepped W s p g k to w w' z) (sym ez)
-                (record {
-                  turned =
-                      wrap_built (wrap_right tag l) R (rest_transitions W s p g) k j (to + past (eqb tag 3) (3 + 3 * left)) to e m n' w₂ w'
-                      (subst (λ (y : ℕ). Built R j (to + y) e m w₂) ex B) Y
-                      (λ y h. ap (λ (xs : List RestTransition). get_elem? xs k) steps_are
-                      ∙ from_second (λ (g : Rest). node tag g r) (wrap_right tag l) L R true goes k j (subst Passes (sym yb ∙ goes_is) tt) counted h);
-                  kept = kept_trans to to w w₂ w' kept_two Y.kept (omega arith);
-                })
-            go (Passed i d) B (ez, ew) =
-                subst (λ (z : Turn). Stepped W s p g k to w w' z) (sym ez)
-                (subst (λ (y : List ℕ). Stepped W s p g k to w y (Passed i (done && d))) (sym ew)
-                (record {
-                  turned = (counted ∙ omega (arith, B.0, both_count, ap (λ (b : Bool). cond b (length R) 0) yb), final_is (left_of S q).1 B.1);
-                  kept = kept_two;
-                }))
-
-        pub right_ends : CanEndRight tag (f + 3) to left w₂ u
-        right_ends = record { room = goes_room; three = X.parts.three; below = omega (arith, parts_inside) }
+        pub goes_passed : {y : Passed} → u ≡ Err y → Stepped W s v.records g k to w w₂ (Err (record { k = y.k; done = z.done && y.done }))
+        goes_passed {y} eu =
+            let B = left_of U eu in
+            record {
+              turned = (counted ∙ omega (arith, B.0, both_count, ap (λ (b : Bool). cond b (length R) 0) yb), final_is (left_of S q).1 B.1);
+              kept = kept_two;
+            }

@@ -1,29 +1,21 @@
 -- What a part left, alone or in its construct, is what the meaning has around it. Assumes nothing.
-use mathlib.Core.Path.{◌≡◌, refl, sym, ap, subst, ◌∙◌}
+use mathlib.Core.Path.{◌≡◌, sym, ap, subst, ◌∙◌}
 use mathlib.Core.Bool.{Bool, true, false, cond, ◌&&◌}
 use mathlib.Core.List.{List}
 use Prim.Native.Nat.{ℕ, ◌+◌, ◌*◌, ◌<◌}
 use native.Mathlib.Omega.{arith}
 use lib.Dec.{eqb}
 use lib.ListN.{get_or}
-use borrow.Author.Tests.{eq-eqb, ne_eqb}
+use borrow.Author.Tests.{ne_eqb}
 use Rattle.remaining.specs.Rest.{Rest, leaf, node, nodes}
-use Rattle.remaining.specs.Leaves.{wrap_a, wrap_b}
-use Rattle.words.specs.Words.{At, Stands, Kept, Room, CanPutCopy, LeafRight, LeafLeft, CopyRight, CopyLeft}
+use Rattle.remaining.specs.Leaves.{wrap_a, wrap_b, wrap_right}
+use Rattle.words.specs.Words.{At, Stands, Kept, CanPutCopy, LeafRight, LeafLeft, CopyRight, CopyLeft}
 use Rattle.words.proofs.Standing.{at_size}
-use Rattle.words.proofs.Written.{kept_refl}
 use Rattle.steps.specs.Laid.{past, Wrapped}
-use Rattle.steps.specs.Stepped.{CanEndLeft, EndsLeft, CanEndRight, EndsRight, RoomFor}
-use Rattle.steps.specs.declared.Turn.{Turn}
-use Rattle.steps.specs.declared.Turn.TheVariants.{Made}
+use Rattle.steps.specs.Stepped.{CanPutRight}
 
--- as it stands, where the test passes; else in the construct f, x words on
+-- in the construct f, x words on, where the test fails
 module _ (f : Rest → Rest) (to x n : ℕ) where
-  alone : (b : Bool) (w : List ℕ) → b ≡ true → Wrapped (λ (g : Rest). cond b g (f g)) (to + past b x) to n n w w
-  alone b w e =
-      subst (λ (b : Bool). Wrapped (λ (g : Rest). cond b g (f g)) (to + past b x) to n n w w) (sym e)
-      (record { kept = kept_refl to w; wrapped = λ g A h. (subst (At g w) (omega arith) A, sym h) })
-
   inside : (b : Bool) (n' : ℕ) (w w' : List ℕ) → b ≡ false → Kept to w w' → ((g : Rest) → At g w (to + x) → nodes g ≡ n → At (f g) w' to × (n' ≡ nodes (f g)))
       → Wrapped (λ (g : Rest). cond b g (f g)) (to + past b x) to n n' w w'
   inside b n' w w' e K h =
@@ -45,10 +37,10 @@ module _ (tag q to n : ℕ) (w : List ℕ) {t : ℕ} (et : t ≡ tag) where
       inside (λ (g : Rest). node tag (leaf q) g) to 6 n (eqb tag 0) (n + 2) w w' (ne_eqb tag 0 (λ e. z (et ∙ e))) D.kept (λ g A h. (D.at g A h, omega arith))
 
 -- left of a copy of a right part, whose size is read
-pub right_stands : {tag f to n : ℕ} {w : List ℕ} → CanEndLeft tag f to n w → Stands w f
+pub right_stands : {tag f to n : ℕ} {w : List ℕ} → CanPutRight tag f to n w → Stands w f
 right_stands K = record { rest = K.right; at = K.at }
 
-module _ {tag f to n : ℕ} {w : List ℕ} (K : CanEndLeft tag f to n w) {m : ℕ} (em : m ≡ get_or w (f + 2) 0) where
+module _ {tag f to n : ℕ} {w : List ℕ} (K : CanPutRight tag f to n w) {m : ℕ} (em : m ≡ get_or w (f + 2) 0) where
   copy_size : m ≡ nodes K.right
   copy_size = em ∙ at_size K.right w f K.at
 
@@ -59,36 +51,20 @@ module _ {tag f to n : ℕ} {w : List ℕ} (K : CanEndLeft tag f to n w) {m : �
     below = omega (arith, K.below, copy_size);
   }
 
-  pub ends_left : (e : ℕ) {w' : List ℕ} → CopyRight f to tag n m w w' → EndsLeft tag f to n e w w' (Made e (1 + n + m))
+  pub beside_right : {w' : List ℕ} → CopyRight f to tag n m w w' → (r : Rest) → At r w f → Wrapped (λ (g : Rest). node tag g r) (to + 3) to n (1 + n + m) w w'
   unfolding nodes
-  ends_left e C = (
-    1 + n + m,
-    refl,
-    λ r A. let er : nodes r ≡ m = sym (em ∙ at_size r w f A) in
-        record { kept = C.kept; wrapped = λ g B h. (C.at g r B h A er, omega arith) },
-  )
+  beside_right C r A =
+      let er : nodes r ≡ m = sym (em ∙ at_size r w f A) in
+      record { kept = C.kept; wrapped = λ g B h. (C.at g r B h A er, omega arith) }
 
 -- right of a remaining program
-module _ (tag f to n : ℕ) (done : Bool) (w : List ℕ) {t : Turn} where
-  pub ends_alone : {e m : ℕ} → t ≡ Made e m → tag ≡ 3 → EndsRight tag f to n done w w t (Made e m)
-  ends_alone {e} {m} et z =
-      subst (λ (x : Turn). EndsRight tag f to n done w w x (Made e m)) (sym et)
-      (m, refl, λ l L h. alone (λ (g : Rest). node tag l g) to (3 + 3 * n) m (eqb tag 3) w (eq-eqb tag 3 z))
-
-  pub ends_beside : {w' : List ℕ} {e m : ℕ} → t ≡ Made e m → (tag ≡ 3 → ⊥) → CopyLeft f to tag n m w w' → EndsRight tag f to n done w w' t (Made e (1 + n + m))
+module _ (tag f to n m : ℕ) (w : List ℕ) where
+  pub beside_left : {w' : List ℕ} → (tag ≡ 3 → ⊥) → CopyLeft f to tag n m w w'
+      → (l : Rest) → At l w f → nodes l ≡ n → Wrapped (wrap_right tag l) (to + past (eqb tag 3) (3 + 3 * n)) to m (1 + n + m) w w'
   unfolding nodes
-  ends_beside {w'} {e} {m} et z H =
-      subst (λ (x : Turn). EndsRight tag f to n done w w' x (Made e (1 + n + m))) (sym et) (
-        1 + n + m,
-        refl,
-        λ l L h. inside (λ (g : Rest). node tag l g) to (3 + 3 * n) m (eqb tag 3) (1 + n + m) w w' (ne_eqb tag 3 z) H.kept
-            (λ g A k. (H.at l g L h (subst (At g w) (omega arith) A) k, omega arith)),
-      )
-
-pub beside_can : {tag f to n e m : ℕ} {w : List ℕ} {t : Turn} → CanEndRight tag f to n w t → t ≡ Made e m → CanPutCopy f to tag m n w
-beside_can {tag} {f} {to} {n} {e} {m} {w} K q =
-    let room : Room w to (1 + n + m) = subst (RoomFor w to (1 + n)) q K.room in
-    record { room = record { inside = omega (arith, room.inside); small = room.small }; three = K.three; below = K.below }
+  beside_left {w'} z H l L h =
+      inside (λ (g : Rest). node tag l g) to (3 + 3 * n) m (eqb tag 3) (1 + n + m) w w' (ne_eqb tag 3 z) H.kept
+      (λ g A k. (H.at l g L h (subst (At g w) (omega arith) A) k, omega arith))
 
 pub both_of : {x y z : Bool} → z ≡ true → x ≡ y → x ≡ (z && y)
 both_of {x} {y} h e = e ∙ ap (λ (b : Bool). b && y) (sym h)

@@ -1,17 +1,18 @@
 -- Own vocabulary: the k-th transition of a program record, laid out in words: what is asked and what is answered. Assumes nothing.
-use Rattle.std.specs.Prelude.{◌≡◌, Bool, cond, List, ℕ, ◌+◌, ◌*◌, ◌^◌, ◌≤◌, ◌<◌, get_or}
+use Rattle.std.specs.Prelude.{◌≡◌, Bool, cond, List, ℕ, ◌+◌, ◌*◌, ◌^◌, ◌≤◌, ◌<◌, eqb, get_or}
 use Rattle.std.proofs.Math.Option.{Option, none, some}
 use Rattle.std.proofs.Math.ListN.{get_elem?}
 use Rattle.records.specs.declared.Program.{Program}
 use Rattle.height.specs.Height.{rise}
 use Rattle.golog.specs.declared.State.{State}
 use Rattle.golog.specs.World.{World}
-use Rattle.remaining.specs.Rest.{Rest, nodes, AllLower, Plain}
-use Rattle.remaining.specs.Leaves.{RestTransition, leaf_of}
-use Rattle.words.specs.Words.{At, Kept, Room}
+use Rattle.remaining.specs.Rest.{Rest, node, nodes, AllLower, Plain}
+use Rattle.remaining.specs.Leaves.{RestTransition, own_move, wrap_right, leaf_of}
+use Rattle.words.specs.Words.{At, Kept, Put, Room}
 use Rattle.ends.specs.Ends.{most_levels}
 use Rattle.leaves.specs.Tallies.{counts_of, Sees}
 use Rattle.leaves.specs.Running as table
+use Rattle.steps.specs.declared.Laid.{Laid}
 use Rattle.steps.specs.declared.tables.Tables.{Tables}
 
 -- the code of a transition that is no move (document 01: "A test is a transition but no move"), above every entry of a history
@@ -93,3 +94,24 @@ past alone words = cond alone 0 words
 pub record Wrapped (f : Rest → Rest) (at to n n' : ℕ) (w w' : List ℕ) : Type 0 where
   pub kept : Kept to w w'
   pub wrapped : (g : Rest) → At g w at → nodes g ≡ n → At (f g) w' to × (n' ≡ nodes (f g))
+
+-- a record's own transition, which leaves nothing
+pub record LaidOwn (r : Program) (to : ℕ) (w w' : List ℕ) (x : Laid) : Type 0 where
+  pub put : Put to 0 0 1 w w'
+  pub entry_is : x.entry ≡ code_of (own_move r)
+  pub size_is : x.size ≡ 1
+
+-- what was laid out at `at`, x, stands in the construct f
+pub record WrappedLaid (f : Rest → Rest) (at to : ℕ) (w w' : List ℕ) (x y : Laid) : Type 0 where
+  pub entry_is : y.entry ≡ x.entry
+  pub wrapped : Wrapped f at to x.size y.size w w'
+
+-- what a transition of a left part left, x, got a copy of the right part at `from` beside it
+pub record GotRight (tag «from» to : ℕ) (w w' : List ℕ) (x r : Laid) : Type 0 where
+  pub entry_is : r.entry ≡ x.entry
+  pub wraps : (g : Rest) → At g w «from» → Wrapped (λ (l : Rest). node tag l g) (to + 3) to x.size r.size w w'
+
+-- what a transition of a right part left, x, got the left part of n nodes at `from` beside it again, but in a sequence
+pub record GotLeft (tag «from» to n : ℕ) (w w' : List ℕ) (x r : Laid) : Type 0 where
+  pub entry_is : r.entry ≡ x.entry
+  pub wraps : (l : Rest) → At l w «from» → nodes l ≡ n → Wrapped (wrap_right tag l) (to + past (eqb tag 3) (3 + 3 * n)) to x.size r.size w w'

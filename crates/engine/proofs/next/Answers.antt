@@ -19,14 +19,14 @@ returns-then-k c = record {
 pub returns-in_default : goal.returns-in_default
 returns-in_default c =
     let P = c.requires in
-    absurd (none_left c.lay_next-turn.ensures.accepted c.lay_next-turn.ensures.turns P.1 _ _ c.in_default.is c.if-k.false)
+    absurd (none_left c.lay_next-turn.ensures.accepted c.lay_next-turn.ensures.turns P.1 _ c.in_default.is c.if-k.false)
 
 pub state_after-state-requires : goal.state_after-state-requires
 state_after-state-requires c =
     let P = c.requires in
     record {
       truths = subst (AreTruths (world_of c.args.s.now) c.args.st (layout_of c.args.s.now).q) (sym c.truths_at.ensures) P.0.truths_are;
-      known = made_known c.lay_next-turn.ensures.accepted c.lay_next-turn.ensures.turns P.1 c.in-Made.is;
+      known = made_known c.lay_next-turn.ensures.accepted c.lay_next-turn.ensures.turns P.1 c.in-Ok.is;
     }
 
 pub returns : goal.returns
@@ -34,7 +34,7 @@ returns c =
     let P = c.requires in
     let A = c.lay_next-turn.ensures.turns in
     record {
-      makes = λ g. made_next c.lay_next-turn.ensures.accepted A g c.in-Made.is c.state_after-state.ensures;
+      makes = λ g. made_next c.lay_next-turn.ensures.accepted A g c.in-Ok.is c.state_after-state.ensures;
       kept = step_kept c.lay_next-turn.ensures.accepted A P.1;
       falls = omega (arith, c.if-k.false);
     }

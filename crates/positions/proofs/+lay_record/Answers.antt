@@ -22,8 +22,8 @@ lay_record-x-requires t c =
       can_first C c.ways-f.ensures is other goes _ c.past_words.ensures.1,
     )
 
-pub wrap_laid_a-requires-clause-room : goal.wrap_laid_a-requires-clause-room
-wrap_laid_a-requires-clause-room t c =
+pub wrap_a-requires-clause-room : goal.wrap_a-requires-clause-room
+wrap_a-requires-clause-room t c =
     let C = c.requires in
     let is = is_read C.look c.ways-f.ensures.record_is c.value_in.ensures c.read-r.ensures.0 in
     let other : has_own c.read-r.result.kind ≡ false = sym c.has_own.ensures ∙ c.if-has_own.false in first_room C c.ways-f.ensures is other c.in-Some.is c.lay_record-x.ensures
@@ -35,7 +35,7 @@ returns-in-Some t c =
     let other : has_own c.read-r.result.kind ≡ false = sym c.has_own.ensures ∙ c.if-has_own.false in
     first_laid C c.ways-f.ensures is other c.in-Some.is c.lay_record-x.result c.lay_record-x.ensures c.tag_a.ensures
     c.past_words.ensures.0 refl
-    c.reading_of.ensures.0 c.wrap_laid_a.ensures
+    c.reading_of.ensures.0 c.wrap_a.ensures
 
 pub unwrap-w-requires : goal.unwrap-w-requires
 unwrap-w-requires t c =
@@ -54,8 +54,8 @@ lay_record-x-requires-2 t c =
       can_second C c.ways-f.ensures is other stays c.unwrap-w.ensures _ c.past_words-2.ensures.1,
     )
 
-pub wrap_laid_b-requires-clause-room : goal.wrap_laid_b-requires-clause-room
-wrap_laid_b-requires-clause-room t c =
+pub wrap_b-requires-clause-room : goal.wrap_b-requires-clause-room
+wrap_b-requires-clause-room t c =
     let C = c.requires in
     let is = is_read C.look c.ways-f.ensures.record_is c.value_in.ensures c.read-r.ensures.0 in
     let other : has_own c.read-r.result.kind ≡ false = sym c.has_own.ensures ∙ c.if-has_own.false in
@@ -67,4 +67,4 @@ returns t c =
     let is = is_read C.look c.ways-f.ensures.record_is c.value_in.ensures c.read-r.ensures.0 in
     let other : has_own c.read-r.result.kind ≡ false = sym c.has_own.ensures ∙ c.if-has_own.false in
     second_laid C c.ways-f.ensures is other c.in_default.is c.unwrap-w.ensures c.lay_record-x-2.result c.lay_record-x-2.ensures c.tag_b.ensures
-    c.past_words-2.ensures.0 refl c.wrap_laid_b.ensures
+    c.past_words-2.ensures.0 refl c.wrap_b.ensures

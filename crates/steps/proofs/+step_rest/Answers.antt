@@ -2,7 +2,7 @@
 use Rattle.words.proofs.Standing.{gone_at, leaf_at}
 use Rattle.words.proofs.Reading.{holds_room, construct}
 use Rattle.steps.proofs.Stepping.{can_holds, whatever, gone_left, leaf_can, leaf_steps, split, left_can, left_falls, right_holds, right_can, right_falls}
-use Rattle.steps.proofs.Stepping.{made_can, made_stepped, stays_stepped, right_ends, goes_stepped}
+use Rattle.steps.proofs.Stepping.{made_can, made_stepped, stays_stepped, goes_can, goes_made, goes_passed}
 use Rattle.steps.proofs.+step_rest.Goals as goal
 
 pub tag_at-tag-requires : goal.tag_at-tag-requires
@@ -37,13 +37,18 @@ step_rest-made-requires t c =
     let X = split c.requires.can_step c.tag_at-tag.ensures c.if-tag-eq-GONE.false c.if-tag-eq-LEAF.false c.size_at-n.ensures in
     (left_falls X c.decreases, left_can X)
 
-pub end_left-requires : goal.end_left-requires
-end_left-requires t c =
+pub put_right-requires : goal.put_right-requires
+put_right-requires t c =
     let X = split c.requires.can_step c.tag_at-tag.ensures c.if-tag-eq-GONE.false c.if-tag-eq-LEAF.false c.size_at-n.ensures in
-    made_can X X.tabled c.step_rest-made.ensures c.in-Made.is
+    made_can X X.tabled c.step_rest-made.ensures c.in-Ok.is
 
-pub final_after-d-requires : goal.final_after-d-requires
-final_after-d-requires t c =
+pub returns-in-Ok : goal.returns-in-Ok
+returns-in-Ok t c =
+    let X = split c.requires.can_step c.tag_at-tag.ensures c.if-tag-eq-GONE.false c.if-tag-eq-LEAF.false c.size_at-n.ensures in
+    whatever c.requires.can_step (λ W s T. made_stepped X T c.step_rest-made.ensures c.in-Ok.is c.put_right.ensures)
+
+pub final_after-done-requires : goal.final_after-done-requires
+final_after-done-requires t c =
     let X = split c.requires.can_step c.tag_at-tag.ensures c.if-tag-eq-GONE.false c.if-tag-eq-LEAF.false c.size_at-n.ensures in
     right_holds X c.step_rest-made.ensures
 
@@ -51,7 +56,7 @@ pub returns-then-not-goes_right : goal.returns-then-not-goes_right
 returns-then-not-goes_right t c =
     let X = split c.requires.can_step c.tag_at-tag.ensures c.if-tag-eq-GONE.false c.if-tag-eq-LEAF.false c.size_at-n.ensures in
     whatever c.requires.can_step
-    (λ W s T. stays_stepped X T c.step_rest-made.ensures c.in-Passed.is c.goes_right.ensures c.if-not-goes_right.true c.final_after-d.ensures)
+    (λ W s T. stays_stepped X T c.step_rest-made.ensures c.in-Err.is c.goes_right.ensures c.if-not-goes_right.true c.final_after-done.ensures)
 
 pub step_rest-u-requires : goal.step_rest-u-requires
 step_rest-u-requires t c =
@@ -59,20 +64,19 @@ step_rest-u-requires t c =
     let M = c.step_rest-made.ensures in
     (right_falls X M c.decreases, right_can X M c.past_words.ensures.1)
 
-pub end_right-requires : goal.end_right-requires
-end_right-requires t c =
+pub put_left-requires : goal.put_left-requires
+put_left-requires t c =
     let X = split c.requires.can_step c.tag_at-tag.ensures c.if-tag-eq-GONE.false c.if-tag-eq-LEAF.false c.size_at-n.ensures in
-    right_ends X X.tabled c.step_rest-made.ensures c.in-Passed.is c.goes_right.ensures c.if-not-goes_right.false
-    c.past_words.ensures.0 c.step_rest-u.ensures
+    goes_can X X.tabled c.step_rest-made.ensures c.in-Err.is c.goes_right.ensures c.if-not-goes_right.false c.past_words.ensures.0 c.step_rest-u.ensures c.in-Ok-u.is
 
-pub returns-in-Made : goal.returns-in-Made
-returns-in-Made t c =
-    let X = split c.requires.can_step c.tag_at-tag.ensures c.if-tag-eq-GONE.false c.if-tag-eq-LEAF.false c.size_at-n.ensures in
-    whatever c.requires.can_step (λ W s T. made_stepped X T c.step_rest-made.ensures c.in-Made.is c.end_left.ensures)
-
-pub returns-else-not-goes_right : goal.returns-else-not-goes_right
-returns-else-not-goes_right t c =
+pub returns-in-Ok-u : goal.returns-in-Ok-u
+returns-in-Ok-u t c =
     let X = split c.requires.can_step c.tag_at-tag.ensures c.if-tag-eq-GONE.false c.if-tag-eq-LEAF.false c.size_at-n.ensures in
     whatever c.requires.can_step
-    (λ W s T. goes_stepped X T c.step_rest-made.ensures c.in-Passed.is c.goes_right.ensures c.if-not-goes_right.false
-    c.past_words.ensures.0 c.step_rest-u.ensures c.end_right.ensures)
+    (λ W s T. goes_made X T c.step_rest-made.ensures c.in-Err.is c.goes_right.ensures c.if-not-goes_right.false c.past_words.ensures.0 c.step_rest-u.ensures c.in-Ok-u.is c.put_left.ensures)
+
+pub returns-in-Err-u : goal.returns-in-Err-u
+returns-in-Err-u t c =
+    let X = split c.requires.can_step c.tag_at-tag.ensures c.if-tag-eq-GONE.false c.if-tag-eq-LEAF.false c.size_at-n.ensures in
+    whatever c.requires.can_step
+    (λ W s T. goes_passed X T c.step_rest-made.ensures c.in-Err.is c.goes_right.ensures c.if-not-goes_right.false c.past_words.ensures.0 c.step_rest-u.ensures c.in-Err-u.is)

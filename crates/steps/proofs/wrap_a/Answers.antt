@@ -1,4 +1,5 @@
 -- Left of its sibling in a construct of the record's tag, or as it stands where that is 0. Assumes nothing.
+use mathlib.Core.Path.{refl}
 use Prim.Native.Nat.{◌^◌}
 use native.Mathlib.Omega.{arith}
 use Rattle.kinds.specs.Programs.{loops}
@@ -16,4 +17,4 @@ put_leaf_right-requires c =
     }
 
 pub returns : goal.returns
-returns c = beside_a _ _ _ _ _ c.tag_a-tag.ensures c.if-tag-eq0.false c.sibling.ensures c.put_leaf_right.ensures
+returns c = record { entry_is = refl; wrapped = beside_a _ _ _ _ _ c.tag_a-tag.ensures c.if-tag-eq0.false c.sibling.ensures c.put_leaf_right.ensures }

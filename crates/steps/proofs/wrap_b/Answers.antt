@@ -1,4 +1,5 @@
 -- Right of part a in a construct of the record's tag, or as it stands where that is 0. Assumes nothing.
+use mathlib.Core.Path.{refl}
 use native.Mathlib.Omega.{arith}
 use Rattle.kinds.proofs.Constructs.{construct_b}
 use Rattle.steps.proofs.Wrapping.{beside_b}
@@ -13,4 +14,4 @@ put_leaf_left-requires c =
     }
 
 pub returns : goal.returns
-returns c = beside_b _ _ _ _ _ c.tag_b-tag.ensures c.if-tag-eq0.false c.put_leaf_left.ensures
+returns c = record { entry_is = refl; wrapped = beside_b _ _ _ _ _ c.tag_b-tag.ensures c.if-tag-eq0.false c.put_leaf_left.ensures }
