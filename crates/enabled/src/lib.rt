@@ -63,7 +63,7 @@ fn seeing(p: &Programs, c: usize) -> [bool; leaves::RECORDS]
     marks
 }
 
-// How many values a record lists: one, which stands for all, unless it chooses (kind 12) and its part sees them. `first` and `second` have the
+// How many values a record lists: one, which stands for all, unless it chooses (`Kind::Pick`) and its part sees them. `first` and `second` have the
 // records that see placeholders 0 and 1.
 fn span_by(r: Program, first: &[bool], second: &[bool]) -> u32
     requires { TwoBytes r }

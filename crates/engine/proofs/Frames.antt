@@ -46,15 +46,15 @@ module _ {s w : List ℕ} {left d : ℕ} {p : Prog} (F : Frame s left w d p) whe
   pub in_frame : (nodes_at s d + 3 * nodes F.rest ≤ frame_at s d + frame_of s) × (frame_at s d + frame_of s ≤ length w)
   in_frame = let r = F.roomy in (omega (arith, r.large), omega (arith, r.inside))
 
-  -- where its nodes begin, as it is computed
-  module _ {m : Inspection} (O : Of s m) where
-    pub small_by : d * m.frame + header < 2 ^ 32
-    small_by = omega (arith, frame_by O d, F.roomy.inside, F.roomy.small)
+  pub nodes_small : nodes_at s d < 2 ^ 32
+  nodes_small = omega (arith, F.roomy.inside, F.roomy.small)
 
-    pub at_by : At F.rest w (d * m.frame + header)
-    at_by = subst (λ (o : ℕ). At F.rest w (o + header)) (sym (frame_by O d)) F.words_are
+  -- what stands where its nodes begin
+  module _ {i : ℕ} (begins : i ≡ nodes_at s d) where
+    pub at_by : At F.rest w i
+    at_by = rw begins F.words_are
 
-    pub stands_by : Stands w (d * m.frame + header)
+    pub stands_by : Stands w i
     stands_by = record { rest = F.rest; at = at_by }
 
   -- words of later frames do not matter

@@ -26,7 +26,7 @@ ghost use Rattle.engine.specs.Tables.{running_in, endable_in, truths_from, final
 ghost use Rattle.engine.specs.Tables.{ListsMayConflict, Prepared, Judged, ConflictedAt, Surveyed, Filled};
 ghost use Rattle.engine.specs.Tables.{truths_at, ConflictOf};
 ghost use Rattle.engine.specs.Evaluated.{FormulasNamed, ActionsNamed, evaluated, possibility};
-ghost use Rattle.engine.specs.Frames.{Frame};
+ghost use Rattle.engine.specs.Frames.{nodes_at, Frame};
 ghost use Rattle.engine.specs.Going.{is_final, Ahead, Tells, Known, IsAction, move_of, CanGoOn, GoesOn};
 ghost use Rattle.engine.specs.Turns.{Turns};
 
@@ -120,6 +120,15 @@ pub fn put_first(work: &mut [u32], s: &Sheet)
     let found = s.found();
     let top = top_of(found.layout.p, found.interrupts);
     words::put_node(work, height::HEADER, words::LEAF, top, 1);
+}
+
+// Where the nodes of frame d begin.
+pub fn nodes_from(s: &Sheet, d: usize) -> usize
+    requires { nodes_at s.now d < 2 ^ 32 }
+    ensures begins { result ≡ nodes_at s.now d }
+    ensures accepted { Accepts s.now }
+{
+    d * s.found().frame + height::HEADER
 }
 
 // The program table that runs.
@@ -226,6 +235,7 @@ fn mark_finals(flags: &mut [bool], from: usize, p: &Programs, skips: &[u32], run
     let none = size as u32;
     let to = from + sheet::MOST_FORMULAS;
     let mut i = records::value_in(skips, 0, none) as usize;
+    // Kept: no index count: it goes from one record in doubt to the next, by skips.
     while i < size {
         let r = p.record(i);
         let f = final_by(flags, from, r, running);
@@ -265,8 +275,7 @@ pub fn is_final(
     ensures written { Filled d d flags.old flags.new numbers.now numbers.now }
 {
     judge(flags, numbers, s, st, d);
-    let at = d * s.found().frame + height::HEADER;
-    ends::final_rest(finals_at(flags, d), work, at)
+    ends::final_rest(finals_at(flags, d), work, nodes_from(s, d))
 }
 
 // What each formula of the sheet names: made once, since it does not depend on the state.
@@ -405,8 +414,7 @@ pub fn survey(
     judge(flags, numbers, s, st, d);
     tally(numbers, flags, s, st, d);
     count_survey(numbers);
-    let at = d * s.found().frame + height::HEADER;
-    let totals = total(flags, numbers, work, d, at);
+    let totals = total(flags, numbers, work, d, nodes_from(s, d));
     Findings {
         done: totals.done,
         soon: totals.soon,
@@ -461,7 +469,7 @@ fn lay_next(
         finals: finals_at(flags, d),
         counts: counts_at(numbers, d),
     };
-    let at = d * found.frame + height::HEADER;
+    let at = nodes_from(s, d);
     steps::step_rest(&t, work, at, at + found.frame, k.next)
 }
 

@@ -7,7 +7,7 @@ ghost use Rattle.kinds.specs.Programs.{links};
 ghost use Rattle.height.specs.Height.{height_over, height_of, plain, interrupts};
 ghost use Rattle.height.specs.Work.{FrameLimits, frame_words};
 
-use kinds::programs::Kind;
+use kinds::programs::{Kind, kind_of};
 use records::Program;
 
 // The words of a frame before its nodes.
@@ -52,7 +52,7 @@ pub fn has_interrupts(t: &[u8], n: usize) -> bool
     requires { 8 * n ≤ length t.now }
     ensures { result ≡ interrupts (program_at t.now) n }
 {
-    (0..n).any(|i| records::program_at(t, i).kind == Kind::Interrupt as usize)
+    (0..n).any(|i| kind_of(records::program_at(t, i).kind) == Some(Kind::Interrupt))
 }
 
 // What counts as height for the work area: two levels more where there are interrupts.

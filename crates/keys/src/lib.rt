@@ -227,7 +227,7 @@ pub fn key_of(
     ensures keyed { (left : ℕ) (p : Prog) → Frame s.now left work.now d p → IfSome result (λ size. Keyed s.now (p, st) label (take size key.new)) }
 {
     let found = s.found();
-    let at = d * found.frame + height::HEADER;
+    let at = engine::nodes_from(s, d);
     let n = words::size_at(work, at);
     pack(key, work, at, n, st, (found.layout.f + 7) / 8, label)
 }

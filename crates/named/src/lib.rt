@@ -12,9 +12,9 @@ ghost use Rattle.named.specs.Tables.{sets_of, union_of, conditions_by, action_se
 use records::Action;
 
 // How many formulas and actions a sheet may have.
-pub const FORMULAS: usize = 512;
+pub const FORMULAS: usize = records::FORMULAS;
 
-pub const ACTIONS: usize = 64;
+pub const ACTIONS: usize = records::ACTIONS;
 
 // What formula i names, where `lower` has what the formulas before it name.
 fn names_at(formulas: &[u8], i: usize, lower: &[u32]) -> u32

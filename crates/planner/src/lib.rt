@@ -27,7 +27,7 @@ pub struct Size {
     pub bound: usize,
 }
 
-// Checks a sheet: the words of work that planning and replay require and the set of the fluents that formulas name, or a number and a place.
+// Checks a sheet: the words of work that planning and replay require and the set of the fluents that formulas name, or a refusal.
 pub fn check(s: &[u8]) -> Result<Acceptance, Refusal>
     ensures answer { result ≡ check_of s.now }
 {
@@ -55,7 +55,7 @@ pub fn notes<'a>(s: &'a [u8], number: &mut u32, place: &mut usize) -> &'a [u8]
     sheet::notes(s, number, place)
 }
 
-// Fluent x of a sheet: its domain size and initial value, or a number and a place.
+// Fluent x of a sheet: its domain size and initial value, or a refusal.
 pub fn look_up(s: &[u8], x: usize) -> Result<Fluent, Refusal>
     ensures answer { result ≡ look_of s.now x }
 {

@@ -18,14 +18,11 @@ ghost use Rattle.positions.specs.Placed.{CanPlace, PlacesRecord};
 
 use kinds::programs::{Kind, kind_of};
 use leaves::Programs;
-use records::Program;
+use records::{ACTIONS, CHOICES, Program};
 use steps::Laid;
 
 // How many environments there are.
-pub const ENVIRONMENTS: usize = 256;
-
-// How many actions there are: an entry of a history is an action's number and as many times the environment.
-const ACTIONS: usize = 64;
+pub const ENVIRONMENTS: usize = records::ENVIRONMENTS;
 
 // How many digits a record has, where its parts have da and db.
 fn digits_by(r: Program, endable: bool, span: u32, da: u32, db: u32) -> u32
@@ -83,6 +80,7 @@ fn entry_in(a: usize, e: usize) -> usize
     if golog::START <= a {
         a
     } else {
+        // an entry of a history is an action's number and as many times the environment as there are actions
         a + ACTIONS * e
     }
 }
@@ -137,38 +135,30 @@ fn read(r: Program, e: usize, span: usize) -> Program
     }
 }
 
-// What stands in a placeholder is below it.
-const VALUES: usize = 16;
-
 // The environment with v in placeholder c.
 fn put_value(e: usize, c: usize, v: usize) -> usize
     requires { e < 256 }
     ensures { (result ≡ put e c v) × (result < 256) }
 {
     match c {
-        0 => v % VALUES + VALUES * (e / VALUES),
-        _ => e % VALUES + VALUES * (v % VALUES),
+        0 => v % CHOICES + CHOICES * (e / CHOICES),
+        _ => e % CHOICES + CHOICES * (v % CHOICES),
     }
 }
-
-// Where the sets of records that are final, and of those that have a transition, begin in the table of a state.
-const FINALS: usize = 512;
-
-const ENABLED: usize = 772;
 
 // Whether record i, read in e, is final; whether it has a transition.
 pub fn final_in(table: &[u32], i: usize, e: usize) -> bool
     requires { (8256 ≤ length table.now) × (i < 260) × (e < 256) }
     ensures { result ≡ member (set_at table.now (512 + i)) e }
 {
-    sets::has_in(table, FINALS + i, e)
+    sets::has_in(table, enabled::FINAL + i, e)
 }
 
 pub fn enabled_in(table: &[u32], i: usize, e: usize) -> bool
     requires { (8256 ≤ length table.now) × (i < 260) × (e < 256) }
     ensures { result ≡ member (set_at table.now (772 + i)) e }
 {
-    sets::has_in(table, ENABLED + i, e)
+    sets::has_in(table, enabled::ENABLED + i, e)
 }
 
 // How far apart the parts of a record of d digits stand.
@@ -317,7 +307,7 @@ fn fork_values(r: Program, n: usize, d: usize, table: &[u32], e: usize, k: u64) 
         };
     }
     let by = apart_of(d);
-    let v = (k / by).min(VALUES as u64) as usize;
+    let v = (k / by).min(CHOICES as u64) as usize;
     let first = (v < n).then(|| value_way(r, e, v, k % by, by));
     let second = next_value(table, r.b, e, r.c, v + 1, n).map(|w| value_way(r, e, w, 0, by));
     Fork { r, first, second }

@@ -11,27 +11,20 @@ ghost use Rattle.possible.specs.Written.{said_at, resolved_table, conflicting_in
 ghost use Rattle.possible.specs.Possible.{ReadableRange, GivesValue, GiveValues, Readable, PossibleSet, Performable, PerformedState};
 
 use golog::State;
-use records::{Action, Effect};
+use records::{ACTIONS, Action, CHOICES, ENVIRONMENTS, Effect};
 use sets::WORDS;
-use state::conflicts::ACTIONS;
 
-// How many environments there are: what stands in placeholder 0, and 16 times what stands in placeholder 1.
-const ENVIRONMENTS: usize = 256;
-
-// Values are below it, in a placeholder too; as a value byte it means placeholder 0, and the next one placeholder 1.
-const VALUES: usize = 16;
-
-// The value that a value byte means in environment e.
+// The value that a value byte means in environment e: CHOICES means placeholder 0, and the next one placeholder 1.
 fn resolved(e: usize, value: usize) -> usize
     requires { e < 256 }
     ensures { (result ≡ resolved e value) × (result < 16) }
 {
-    if value < VALUES {
+    if value < CHOICES {
         value
-    } else if value == VALUES {
-        e % VALUES
+    } else if value == CHOICES {
+        e % CHOICES
     } else {
-        e / VALUES
+        e / CHOICES
     }
 }
 
@@ -54,7 +47,7 @@ fn only(e: usize) -> [u32; WORDS]
     requires { e < 256 }
     ensures { Has (λ (d : ℕ). eqb d e) result }
 {
-    sets::both(sets::holding(0, e % VALUES), sets::holding(1, e / VALUES))
+    sets::both(sets::holding(0, e % CHOICES), sets::holding(1, e / CHOICES))
 }
 
 // Of a set the environments in which effects of a range that hold do not contradict each other: compared in one environment after the other.
@@ -84,8 +77,8 @@ fn staying(fluents: &[u8], r: Effect, table: &[u32], set: [u32; WORDS]) -> [u32;
     ensures { Has (λ (e : ℕ). member set e && not (strays_in fluents.now table.now r e)) result }
 {
     let size = records::fluent_at(fluents, r.fluent).size;
-    if size < VALUES {
-        let outside = sets::reaching(r.value - VALUES, size);
+    if size < CHOICES {
+        let outside = sets::reaching(r.value - CHOICES, size);
         return sets::without(set, sets::both(sets::set_at(table, r.condition), outside));
     }
     set
@@ -107,7 +100,7 @@ fn inside(
     let mut left = set;
     for i in first..first + count {
         let effect = records::effect_at(effects, i);
-        if VALUES <= effect.value {
+        if CHOICES <= effect.value {
             let less = staying(fluents, effect, table, left);
             left = less;
         }

@@ -5,10 +5,21 @@ ghost use Rattle.std.specs.Prelude.{◌≡◌, ◌+◌, ◌*◌, ◌≤◌, ◌<
 ghost use Rattle.records.specs.Bytes.{limit16, le16, le32};
 ghost use Rattle.records.specs.Records.{fluent_at, formula_at, effect_at, action_at, program_at, TwoBytes};
 
-// Document 02, F-6: the placeholders, and the most values that are chosen from.
+// The most fluents, formulas and actions that a sheet may have (document 01, its limits: `specs/Trailer.antt` of crate sheet).
+pub const FLUENTS: usize = 32;
+
+pub const FORMULAS: usize = 512;
+
+pub const ACTIONS: usize = 64;
+
+// Document 02, F-6: the placeholders (`placeholders` of `specs/Placeholders.antt`), and the most values that are chosen from: below it are a
+// fluent's values and a placeholder's.
 pub const PLACEHOLDERS: usize = 2;
 
 pub const CHOICES: usize = 16;
+
+// How many environments there are: what stands in placeholder 0, and 16 times what stands in placeholder 1.
+pub const ENVIRONMENTS: usize = CHOICES * CHOICES;
 
 // Document 01: "Fluent, 2 bytes".
 #[derive(Clone, Copy, Debug, PartialEq, Eq)]

@@ -18,13 +18,13 @@ const TRAILER: usize = 18;
 const MAGIC: usize = 0x5142;
 
 // The most fluents, formulas, effects, actions, program records and transitions that a sheet may count.
-const MOST_FLUENTS: usize = 32;
+const MOST_FLUENTS: usize = records::FLUENTS;
 
-pub const MOST_FORMULAS: usize = 512;
+pub const MOST_FORMULAS: usize = records::FORMULAS;
 
 const MOST_EFFECTS: usize = 512;
 
-const MOST_ACTIONS: usize = 64;
+const MOST_ACTIONS: usize = records::ACTIONS;
 
 const MOST_PROGRAMS: usize = 256;
 
@@ -92,7 +92,8 @@ impl Cause {
 }
 
 // Document 01's number of a cause, and its place, which is 0 unless a record is at fault.
-// Kept: the number is what C and `view::find` hand on: `found_from` answers whatever number a view holds.
+// Kept: `view::find` hands on whatever refusal a view holds (`found_from`), whose fields are public, and C gets number and place as they stand
+// (clauses `number` and `place` of `planner_raw_look_up` and others).
 #[derive(Clone, Copy, Debug, PartialEq, Eq)]
 pub struct Refusal {
     pub number: u32,
@@ -316,7 +317,8 @@ pub fn check(s: &[u8]) -> Result<Acceptance, Refusal>
 }
 
 // The notes: the caller's own bytes ahead of the first record. Under a number, the empty part at the slice's start.
-// Kept: the clauses `answer` and `borrowed` speak of the part handed out under a number too, and `planner_raw_notes` hands both to C.
+// Kept: the clauses `answer` and `borrowed` speak of the part handed out under a number too; C gets its length, and number and place, from
+// `planner_raw_notes`.
 pub fn notes<'a>(s: &'a [u8], number: &mut u32, place: &mut usize) -> &'a [u8]
     ensures answer { result.now ≡ notes_of s.now }
     ensures borrowed { result.ref_ptr ≡ s.entry.ref_ptr }

@@ -10,10 +10,10 @@ use crate::effects;
 use records::Action;
 
 // How many actions a sheet may have.
-pub const ACTIONS: usize = 64;
+pub const ACTIONS: usize = records::ACTIONS;
 
 // How many fluents.
-pub const FLUENTS: usize = 32;
+pub const FLUENTS: usize = records::FLUENTS;
 
 // Whether effects of a range that hold give one fluent different values: one pass, which notes what value each fluent was given.
 pub fn conflict(effects: &[u8], first: usize, count: usize, truths: &[bool]) -> bool

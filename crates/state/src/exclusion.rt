@@ -5,12 +5,7 @@ ghost use Rattle.state.specs.Conflicts.{most_actions, Lists};
 ghost use Rattle.state.specs.Exclusion.{asked_of, Exclusive, Readable, ReadableAll, MayConflict};
 
 use crate::conflicts::{ACTIONS, FLUENTS};
-use records::Action;
-
-// How many formulas a sheet may have, and a fluent values.
-const FORMULAS: usize = 512;
-
-const VALUES: usize = 16;
+use records::{Action, CHOICES, FORMULAS};
 
 // The places of a list of actions: one for each, and one for how many there are.
 // Kept: the count stands behind the places by the promises of `listed` and `in_conflict` (specs/Conflicts.antt, `Lists`, `listed_count`).
@@ -28,7 +23,7 @@ fn asked_at(formulas: &[u8], q: usize) -> Option<Asked>
     ensures { result ≡ asked_of (formula_at formulas.now q) }
 {
     let r = records::formula_at(formulas, q);
-    if kinds::formulas::asks_value(r.kind) & (r.a < VALUES) {
+    if kinds::formulas::asks_value(r.kind) & (r.a < CHOICES) {
         return Some(Asked {
             fluent: r.x as u8,
             value: r.a,
@@ -44,13 +39,13 @@ fn is_exclusive(formulas: &[u8], effects: &[u8], first: usize, count: usize) -> 
     ensures { result ≡ true → Exclusive formulas.now effects.now first count }
 {
     let mut fluents: [Option<Option<u8>>; FLUENTS] = [None; FLUENTS];
-    let mut noted: [Option<u8>; FLUENTS * VALUES] = [None; FLUENTS * VALUES];
+    let mut noted: [Option<u8>; FLUENTS * CHOICES] = [None; FLUENTS * CHOICES];
     for i in first..first + count {
         let e = records::effect_at(effects, i);
         let asked = asked_at(formulas, e.condition);
         let x = e.fluent;
         let fluent = asked.map(|a| a.fluent);
-        let at = VALUES * x + asked.map_or(0, |a| a.value);
+        let at = CHOICES * x + asked.map_or(0, |a| a.value);
         let given = e.value as u8;
         if fluents[x].is_some_and(|f| f != fluent) | noted[at].is_some_and(|v| v != given) {
             return false;

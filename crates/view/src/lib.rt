@@ -9,8 +9,7 @@ ghost use Rattle.view.specs.View.{opened_of, count_from, found_at, view_of, foun
 use records::Fluent;
 use sheet::{Cause, Refusal};
 
-// Document 01: "a struct holding the sheet slice and table offset"; or, of a sheet that was turned away, why. What was an offset beside the
-// number 0 is `Ok`, and another number beside its place is `Err`: `find` answers the same.
+// Document 01: "a struct holding the sheet slice and table offset"; or, of a sheet that was turned away, why, which `find` answers then.
 #[derive(Clone, Copy)]
 pub struct View<'a> {
     pub src: &'a [u8],

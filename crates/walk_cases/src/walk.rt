@@ -36,7 +36,7 @@ fn tell(
 {
     let f = engine::survey(flags, numbers, work, s, st, d);
     report::configuration(rt, d, st, f)?;
-    let from = d * s.found().frame + height::HEADER;
+    let from = engine::nodes_from(s, d);
     report::nodes(rt, work, from, words::size_at(work, from))?;
     Ok(f.first)
 }

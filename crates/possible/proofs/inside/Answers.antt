@@ -7,7 +7,7 @@ use Rattle.possible.specs.Possible.{GivesValue}
 use Rattle.possible.proofs.Straying.{value_stays, staying_none, staying_more}
 use borrow.Author.Rules.{rules}
 use Rattle.possible.proofs.inside.Goals as goal
-use Rattle.possible.proofs.inside.Goals.{then-effect-ge-VALUES, else-effect-ge-VALUES}
+use Rattle.possible.proofs.inside.Goals.{then-effect-ge-CHOICES, else-effect-ge-CHOICES}
 
 pub loop-i-init : goal.loop-i-init
 loop-i-init c =
@@ -23,7 +23,7 @@ loop-i-preserved c =
     let next : c.loop-i.i + 1 - first ≡ c.loop-i.i - first + 1 = omega arith in
     let is = e ∙ ap (effect_at c.args.effects.now) (sym here) in
     let gives : GivesValue c.args.fluents.now c.effect_at-effect.result = rw e (c.requires.1 _ (omega arith) (omega arith)) in
-    elim c.if-effect-ge-VALUES.branch [
-      | then-effect-ge-VALUES w ↦ rw (w.left-is, next) (staying_more _ _ _ _ _ _ v is (omega (arith, here)) w.staying-less.ensures)
-      | else-effect-ge-VALUES w ↦ rw (w.left-is, next) (staying_more _ _ _ _ _ _ v is (omega (arith, here)) (value_stays _ _ _ gives v.has.len w.if-effect-ge-VALUES.false))
+    elim c.if-effect-ge-CHOICES.branch [
+      | then-effect-ge-CHOICES w ↦ rw (w.left-is, next) (staying_more _ _ _ _ _ _ v is (omega (arith, here)) w.staying-less.ensures)
+      | else-effect-ge-CHOICES w ↦ rw (w.left-is, next) (staying_more _ _ _ _ _ _ v is (omega (arith, here)) (value_stays _ _ _ gives v.has.len w.if-effect-ge-CHOICES.false))
     ]
