@@ -32,6 +32,7 @@ pub fn begin(index: &mut [u32])
 }
 
 // Opens the next round, and answers its number; after the last one the index begins anew. One too short for a round has no entries.
+// Kept: 0 for one too short and no Option, since `Opened` has the round that `round_in` reads in word 1, which is 0 where there is none.
 pub fn next_round(index: &mut [u32]) -> u32
     requires { Sound index.old }
     ensures { Opened index.old index.new result }
@@ -91,6 +92,7 @@ fn head_for(index: &[u32], key: &[u32]) -> Option<usize>
 }
 
 // The place of the entry with the key, by the links from a head on.
+// Kept: a link is 0 where it leads nowhere, since it stands in a word of the lent index (`Linked`, specs/Content.antt).
 fn look(index: &[u32], key: &[u32], head: usize) -> Option<usize>
     requires { Sound index.now × (1 < head) × (head ≤ 1 + heads_of (length index.now)) }
     ensures { (es : List Entry) → Says index.now es → Located es key.now result }
