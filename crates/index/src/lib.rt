@@ -16,6 +16,7 @@ const VALUES: u32 = 33554432;
 const LENGTHS: usize = 128;
 
 // One head for each 16 words that a place of 32 bits reaches, so that there are about as many as there is room for entries of a dozen words.
+#[tactic(auto, unfolding(crate::specs::Content::heads_of))]
 fn heads(len: usize) -> usize
     ensures { (result ≡ heads_of len) × (result < 2 ^ 28) }
 {

@@ -43,6 +43,7 @@ fn two(values: &[u8; 32], i: usize) -> u32
 }
 
 // Four values.
+#[tactic(auto, unfolding(crate::specs::Packed::four_at))]
 fn four(values: &[u8; 32], i: usize) -> u32
     requires { i + 4 ≤ 32 }
     ensures { (result ≡ four_at values.now i) × (result < 65536) }
@@ -51,6 +52,7 @@ fn four(values: &[u8; 32], i: usize) -> u32
 }
 
 // Eight values.
+#[tactic(auto, unfolding(crate::specs::Packed::eight_at))]
 fn eight(values: &[u8; 32], i: usize) -> u32
     requires { i + 8 ≤ 32 }
     ensures { result ≡ eight_at values.now i }
@@ -98,6 +100,7 @@ fn is_coded(work: &[u32], i: usize, limit: u32) -> bool
 }
 
 // The first of n nodes and, where there is one, the second.
+#[tactic(auto, using(crate::proofs::Joined::pair_two, crate::proofs::Joined::pair_one))]
 fn pair(work: &[u32], i: usize, n: usize) -> u32
     requires { (i + 3 * n ≤ length work.now) × (0 < n) }
     ensures { result ≡ pair_at work.now i n }
@@ -180,6 +183,7 @@ fn write_nodes(key: &mut [u32], to: usize, work: &[u32], from: usize, n: usize) 
 }
 
 // Whether interrupts run, the number of nodes, the label, and whether each node has a word of its own, in one word.
+#[tactic(auto, unfolding(crate::specs::Packed::head_of))]
 fn head(running: bool, n: usize, label: usize, wide: bool) -> u32
     requires { (n < 4096) × (label < 65536) }
     ensures { result ≡ head_of running n label wide }
