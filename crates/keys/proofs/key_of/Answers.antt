@@ -16,7 +16,7 @@ use Rattle.engine.specs.Frames.{nodes_at, Frame}
 use Rattle.keys.specs.Packed.{Packed}
 use Rattle.keys.specs.Keyed.{Keyed}
 use Rattle.sheet.proofs.Found.{in_sheet}
-use Rattle.words.proofs.Standing.{at_node_room, at_size, at_room}
+use Rattle.words.proofs.Standing.{at_size, at_room}
 use Rattle.engine.proofs.Frames.{frame_by}
 use Rattle.keys.proofs.key_of.Goals as goal
 
@@ -41,24 +41,6 @@ module _ {s w : List ℕ} {m : Inspection} {left d n : ℕ} {p : Prog} (O : Of s
         (subst (λ (i : ℕ). Packed ((m.layout.f + 7) / 8) st w (i + header) (nodes F.rest) label (take size key)) (frame_by O d)
         (subst (λ (k : ℕ). Packed ((m.layout.f + 7) / 8) st w (d * m.frame + header) k label (take size key)) size_is P));
   }
-
-pub overflow_mul-at : goal.overflow_mul-at
-overflow_mul-at c =
-    let F = c.requires.2 in
-    omega (arith, frame_by c.found-found.ensures.of c.args.d, F.roomy.inside, F.roomy.small)
-
-pub overflow_add-at : goal.overflow_add-at
-overflow_add-at c =
-    let F = c.requires.2 in
-    omega (arith, frame_by c.found-found.ensures.of c.args.d, F.roomy.inside, F.roomy.small)
-
-pub size_at-n-requires : goal.size_at-n-requires
-size_at-n-requires c =
-    let F = c.requires.2 in
-    omega (arith, frame_by c.found-found.ensures.of c.args.d, at_node_room F.rest _ _ F.words_are)
-
-pub overflow_add-found : goal.overflow_add-found
-overflow_add-found c = let O = c.found-found.ensures.of in omega (arith, (in_sheet O).f)
 
 pub pack-requires : goal.pack-requires
 pack-requires c =
