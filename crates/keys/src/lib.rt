@@ -219,7 +219,7 @@ fn pack(
 }
 
 // The key of the configuration of frame d and the state, with a label: how many words it takes, where it has one.
-#[tactic(auto, using(engine::proofs::Frames::frame_by, words::proofs::Standing::at_node_room, sheet::proofs::Found::in_sheet))]
+#[tactic(auto, using(engine::proofs::Frames::frame_by, words::proofs::Standing::at_node_room, words::proofs::Standing::at_room, words::proofs::Standing::at_size, sheet::proofs::Found::in_sheet))]
 pub fn key_of(
     key: &mut [u32],
     work: &[u32],
