@@ -94,6 +94,7 @@ fn head_for(index: &[u32], key: &[u32]) -> Option<usize>
 
 // The place of the entry with the key, by the links from a head on.
 // Kept: a link is 0 where it leads nowhere, since it stands in a word of the lent index (`Linked`, specs/Content.antt).
+#[tactic(auto, unfolding(crate::specs::Content::heads_of))]
 fn look(index: &[u32], key: &[u32], head: usize) -> Option<usize>
     requires { Sound index.now × (1 < head) × (head ≤ 1 + heads_of (length index.now)) }
     ensures { (es : List Entry) → Says index.now es → Located es key.now result }
@@ -139,6 +140,7 @@ fn enter(index: &mut [u32], at: usize, next: u32, header: u32, key: &[u32])
 }
 
 // Adds an entry behind the last one, where there is room, and lets the head lead to it.
+#[tactic(auto, unfolding(crate::specs::Content::heads_of))]
 fn add(index: &mut [u32], key: &[u32], head: usize, value: u32)
     requires lt_head { (1 < head) × (head ≤ 1 + heads_of (length index.old)) }
     requires value_bound { (value < 2 ^ 25) × (length key.now < 128) }
