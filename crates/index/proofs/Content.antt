@@ -83,7 +83,3 @@ module _ (w : List ℕ) (es : List Entry) (S : Says w es) where
   located_inside key x (j, H, e) =
       let T = S.stands j H.there in
       (omega (arith, T.above, e), omega (arith, T.inside, e))
-
--- a head stands inside
-pub head_inside : (n x : ℕ) → 1 < x → x ≤ 1 + heads_of n → x < n
-head_inside n x h l = omega (arith, heads_inside n (omega arith))
