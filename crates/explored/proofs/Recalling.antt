@@ -2,10 +2,10 @@
 -- was explored. A new round leaves what is claimed where nothing is asked, and nothing else. Assumes nothing.
 use Prim.Native.Nat.{ℕ, ◌≤◌, ◌<◌}
 use native.Mathlib.Omega.{arith}
-use mathlib.Core.Bool.{Bool, true, false, ◌&&◌, ◌||◌, true≢false}
+use mathlib.Core.Bool.{Bool, true, ◌||◌}
 use mathlib.Core.List.{List}
 use mathlib.Core.Logic.{◌⊎◌, inl, ⊎_elim}
-use mathlib.Core.Path.{◌≡◌, refl, sym, ap, ◌∙◌, subst}
+use mathlib.Core.Path.{◌≡◌, refl, sym, ap, ◌∙◌}
 use lib.Dec.{T, eqb}
 use Rattle.golog.specs.Transitions.{Configuration}
 use Rattle.runs.specs.Guide.{Guide, unguided}
@@ -31,11 +31,6 @@ module _ (round left flag : ℕ) (l : left ≤ 64) (f : flag ≤ 2) where
 
   round_is : round_of (value_of round left flag) ≡ round
   round_is = omega arith
-
--- two tests that were passed
-pub both : (a b : Bool) → (a && b) ≡ true → (a ≡ true) × (b ≡ true)
-both true b e = (refl, e)
-both false b e = absurd (true≢false (sym e))
 
 -- an entry that is found and serves
 pub recalled :
@@ -92,5 +87,5 @@ lasting s w guides round e N = keeps_weaker (Holds s guides round) (Lasts s (rou
     turn : (key : List ℕ) (v : ℕ) → Holds s guides round key v → Lasts s (round_in w) key v
     turn key v H = record {
       by_now = omega (arith, H.by_now, N.round_is);
-      claims = λ c K. subst (λ (g : Guide). ClaimOf s (left_in v) (flag_in v) (c, g)) e (H.claims c 0 K (inl refl));
+      claims = λ c K. rw e at (H.claims c 0 K (inl refl));
     }

@@ -47,6 +47,7 @@ fn weigh(value: u32, label: usize, left: usize, round: u32, cut: bool) -> Option
 
 // Asks the index whether a configuration may be passed over with so many transitions left: where it may, whether the bound has then run out in
 // some run.
+// Kept: `note` makes its key in the same two lines: a function of them is longer, as it needs a struct of the array with its length (no heap).
 pub fn recall(
     index: &[u32],
     work: &[u32],
@@ -67,7 +68,8 @@ pub fn recall(
 }
 
 // The flag of a configuration that was explored without a plan: had the bound run out in some run before, and has it now?
-// Kept: a flag is a number, since `claim_flag` and `serves` (crate runs), which the contracts of flag_of, weigh and note cite, are by number.
+// Kept: a number, since it is packed into a word of the lent index (`value_of`), and `claim_flag` and `serves` (crate runs), by which the
+// contracts and the proofs of runs say what an entry claims, go by it.
 pub fn flag_of(before: bool, after: bool) -> u32
     ensures { (result ≡ claim_flag before after) × (result ≤ 2) }
 {

@@ -53,14 +53,14 @@ module _ (w : List ℕ) (es : List Entry) (S : Says w es) (j : ℕ) (b : j < len
         header_is = get_or-set_same w ((entry_at es j).at + 1) (v + 2 ^ 25 * length (entry_at es j).key) 0 (omega (arith, T.inside));
         small = small;
         key_is = λ k h. kept ((entry_at es j).at + 2 + k) (omega arith) ∙ T.key_is k h;
-        above = subst (λ (m : ℕ). 1 + heads_of m < (entry_at es j).at) (sym len₁) T.above;
+        above = rw (← len₁) at T.above;
         before = omega (arith, T.before, end₁);
         inside = omega (arith, T.inside, len₁);
       }
 
   -- an entry keeps its place and its key
   field_same : {A : Type 0} (g : Entry → A) → g anew ≡ g (entry_at es j) → (k : ℕ) → k < length es → g (entry_at (set es j anew) k) ≡ g (entry_at es k)
-  field_same g e k h = each_set (λ i x. g x ≡ g (entry_at es i)) es anew j (λ i p q. refl) e k (subst (λ (n : ℕ). k < n) (sym (length-set es j anew)) h)
+  field_same g e k h = each_set (λ i x. g x ≡ g (entry_at es i)) es anew j (λ i p q. refl) e k (rw (← length-set es j anew) at h)
 
   says_anew : Says w₁ (set es j anew)
   unfolding anew
@@ -72,7 +72,7 @@ module _ (w : List ℕ) (es : List Entry) (S : Says w es) (j : ℕ) (b : j < len
         let q : k < length es = omega (arith, length-set es j anew) in
         omega (arith, S.apart i k h q, field_same stop refl i (omega arith), field_same (λ e. e.at) refl k q);
     heads = λ a h.
-        let h' : a < heads_of (length w) = subst (λ (n : ℕ). a < heads_of n) len₁ h in
+        let h' : a < heads_of (length w) = rw len₁ at h in
         subst (Linked (set es j anew) (length (set es j anew))) (sym (kept (2 + a) (omega (arith, (S.stands j b).above))))
         (subst (λ (n : ℕ). Linked (set es j anew) n (get_or w (2 + a) 0)) (sym (length-set es j anew))
         (linked_kept es (set es j anew) (length es) (get_or w (2 + a) 0) (field_same (λ e. e.at) refl) (S.heads a h')));
@@ -135,7 +135,7 @@ module _ (w key : List ℕ) (v head : ℕ) (small : v < 2 ^ 25) (low : 1 < head)
     header_is = word (end_of w + 1) (omega arith) (omega arith) ∙ E.header_is;
     small = small;
     key_is = λ k h. word (end_of w + 2 + k) (omega arith) (omega arith) ∙ E.key_is k h;
-    above = subst (λ (m : ℕ). 1 + heads_of m < end_of w) (sym len₂) (omega arith);
+    above = rw len₂ (omega arith);
     before = omega (arith, end₂);
     inside = omega (arith, len₂);
   }
@@ -177,7 +177,7 @@ module _ (w key : List ℕ) (v head : ℕ) (small : v < 2 ^ 25) (low : 1 < head)
         k p i h;
     heads = λ a h.
         subst (λ (n : ℕ). Linked (es ++ (more ∷ [])) n (get_or w₂ (2 + a) 0)) (sym (length-append es (more ∷ [])))
-        (head_linked a (subst (λ (n : ℕ). a < heads_of n) len₂ h) (ℕ_discrete (2 + a) head));
+        (head_linked a (rw len₂ at h) (ℕ_discrete (2 + a) head));
     nexts = each_more (λ k x. Linked (es ++ (more ∷ [])) k (get_or w₂ x.at 0)) es more
         (λ k h. let T = S.stands k h in
         subst (Linked (es ++ (more ∷ [])) k) (sym (used _ T.above (omega (arith, T.before)))) (linked_more k _ (omega arith) (S.nexts k h)))

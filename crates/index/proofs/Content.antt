@@ -27,7 +27,7 @@ stands_kept w w' e n l f S = record {
   header_is = f (e.at + 1) (omega arith) (omega arith) ∙ S.header_is;
   small = S.small;
   key_is = λ k h. f (e.at + 2 + k) (omega arith) (omega arith) ∙ S.key_is k h;
-  above = subst (λ (m : ℕ). 1 + heads_of m < e.at) (sym n) S.above;
+  above = rw (← n) at S.above;
   before = omega (arith, S.before);
   inside = omega (arith, S.inside);
 }
@@ -54,8 +54,7 @@ module _ (w : List ℕ) (es : List Entry) (S : Says w es) where
   linked_inside x l h =
       let (j, b, e) = linked_entry x l h in
       let T = S.stands j b in
-      subst (λ (y : ℕ). y + 2 + get_or w (y + 1) 0 / 2 ^ 25 ≤ length w) e
-      (omega (arith, T.inside, T.header_is, T.small))
+      rw (← e) (omega (arith, T.inside, T.header_is, T.small))
 
   -- an entry whose words are the key's has the key
   pub located : (key : List ℕ) (x : ℕ) → Linked es (length es) x → (x ≡ 0 → ⊥) → Matches w x key → Located es key (Some x)
@@ -77,14 +76,10 @@ module _ (w : List ℕ) (es : List Entry) (S : Says w es) where
 
   -- what the head of a bucket leads to
   pub head_linked : (x : ℕ) → 1 < x → x ≤ 1 + heads_of (length w) → Linked es (length es) (get_or w x 0)
-  head_linked x h l = subst (λ (y : ℕ). Linked es (length es) (get_or w y 0)) (omega arith) (S.heads (x - 2) (omega arith))
+  head_linked x h l = let e : 2 + (x - 2) ≡ x = omega arith in rw e at (S.heads (x - 2) (omega arith))
 
   -- the first two words of the entry that has the key stand inside, and are none of the first two
   pub located_inside : (key : List ℕ) (x : ℕ) → Located es key (Some x) → (1 < x) × (x + 2 ≤ length w)
   located_inside key x (j, H, e) =
       let T = S.stands j H.there in
       (omega (arith, T.above, e), omega (arith, T.inside, e))
-
--- a head stands inside
-pub head_inside : (n x : ℕ) → 1 < x → x ≤ 1 + heads_of n → x < n
-head_inside n x h l = omega (arith, heads_inside n (omega arith))

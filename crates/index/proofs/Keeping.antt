@@ -1,7 +1,7 @@
 -- What a caller needs: where P is so of every key of an index and its value, it stays so after a note of what is so, and holds of what is
 -- found. In a new round the entries are those of earlier ones, or gone. Assumes nothing.
 use Prim.Native.Nat.{ℕ, ◌<◌}
-use mathlib.Core.Path.{◌≡◌, sym, subst}
+use mathlib.Core.Path.{◌≡◌}
 use mathlib.Core.Logic.{◌⊎◌, inl, inr}
 use mathlib.Core.List.{List, []}
 use native.Mathlib.Omega.{arith}
@@ -31,7 +31,7 @@ module _ (P : List ℕ → ℕ → Type 0) where
   pub keeps_found : (key w : List ℕ) (v : ℕ) → ((es : List Entry) → Says w es → Tells es key (Some v)) → Keeps P w → P key v
   keeps_found key w v T (es, S, E) =
       let (j, H, a) = T es S in
-      subst (λ (x : ℕ). P key x) a (subst (λ (x : List ℕ). P x (entry_at es j).value) H.key_is (E j H.there))
+      rw (H.key_is, a) at (E j H.there)
 
 module _ (P Q : List ℕ → ℕ → Type 0) where
   pub keeps_weaker : (w : List ℕ) → ((key : List ℕ) (v : ℕ) → P key v → Q key v) → Keeps P w → Keeps Q w
@@ -41,5 +41,5 @@ module _ (P Q : List ℕ → ℕ → Type 0) where
   keeps_opened w w' r O f (es, S, E) = let (es', S', o) = O.says es S in (es', S', every es' o)
     where
       every : (es' : List Entry) → (es' ≡ []) ⊎ ((es' ≡ es) × (round_in w < r)) → Every Q es'
-      every es' (inl e) = subst (Every Q) (sym e) (every_none Q)
-      every es' (inr (e, h)) = subst (Every Q) (sym e) (λ j b. f h _ _ (E j b))
+      every es' (inl e) = rw e (every_none Q)
+      every es' (inr (e, h)) = rw e (λ j b. f h _ _ (E j b))

@@ -24,7 +24,7 @@ module _ (P : ℕ → Entry → Type 0) (es : List Entry) (e : Entry) where
   each_set j old new k h = go (ℕ_discrete k j)
     where
       b : k < length es
-      b = subst (λ (n : ℕ). k < n) (length-set es j e) h
+      b = rw (length-set es j e) at h
 
       go : Dec (k ≡ j) → P k (entry_at (set es j e) k)
       go (yes p) =

@@ -1,12 +1,12 @@
 -- A round is opened: word 1 is in no entry and is no head, so to set it changes nothing that the index says. Assumes nothing.
 use Prim.Native.Nat.{ℕ, ◌+◌, ◌<◌}
-use mathlib.Core.Path.{◌≡◌, refl, sym, ap, subst, ◌∙◌}
+use mathlib.Core.Path.{◌≡◌, refl, ap, ◌∙◌}
 use mathlib.Core.Logic.{inl, inr}
 use mathlib.Core.List.{List, [], ◌∷◌}
 use native.Mathlib.Omega.{arith}
 use lib.ListN.{get_or, length, set, length-set, get_or-eq_default}
 use lib.Seq.{get_or-set_same, get_or-set_other}
-use Rattle.index.specs.Content.{Entry, entry_at, heads_of, round_in, Linked, Says, Begun, Opened}
+use Rattle.index.specs.Content.{Entry, entry_at, heads_of, round_in, Says, Begun, Opened}
 use Rattle.index.proofs.Content.{stands_kept}
 
 -- the same content in another round
@@ -15,9 +15,8 @@ says_round w r es S = record {
   stands = λ j h. let T = S.stands j h in
       stands_kept w (set w 1 r) (entry_at es j) (length-set w 1 r) (omega (arith, kept 0 (omega arith), ap heads_of (length-set w 1 r))) (λ k lo hi. kept k (omega (arith, T.above))) T;
   apart = S.apart;
-  heads = λ b h.
-      subst (Linked es (length es)) (sym (kept (2 + b) (omega arith))) (S.heads b (subst (λ (n : ℕ). b < heads_of n) (length-set w 1 r) h));
-  nexts = λ j h. subst (Linked es j) (sym (kept _ (omega (arith, (S.stands j h).above)))) (S.nexts j h);
+  heads = λ b h. rw (kept (2 + b) (omega arith)) (S.heads b (rw (length-set w 1 r) at h));
+  nexts = λ j h. rw (kept (entry_at es j).at (omega (arith, (S.stands j h).above))) (S.nexts j h);
 }
   where
     kept : (k : ℕ) → (k ≡ 1 → ⊥) → get_or (set w 1 r) k 0 ≡ get_or w k 0

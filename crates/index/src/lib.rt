@@ -16,6 +16,7 @@ const VALUES: u32 = 33554432;
 const LENGTHS: usize = 128;
 
 // One head for each 16 words that a place of 32 bits reaches, so that there are about as many as there is room for entries of a dozen words.
+#[tactic(auto, unfolding(crate::specs::Content::heads_of))]
 fn heads(len: usize) -> usize
     ensures { (result ≡ heads_of len) × (result < 2 ^ 28) }
 {
@@ -32,6 +33,7 @@ pub fn begin(index: &mut [u32])
 }
 
 // Opens the next round, and answers its number; after the last one the index begins anew. One too short for a round has no entries.
+// Kept: 0 for one too short and no Option, since `Opened` has the round that `round_in` reads in word 1, which is 0 where there is none.
 pub fn next_round(index: &mut [u32]) -> u32
     requires { Sound index.old }
     ensures { Opened index.old index.new result }
@@ -91,6 +93,8 @@ fn head_for(index: &[u32], key: &[u32]) -> Option<usize>
 }
 
 // The place of the entry with the key, by the links from a head on.
+// Kept: a link is 0 where it leads nowhere, since it stands in a word of the lent index (`Linked`, specs/Content.antt).
+#[tactic(auto, unfolding(crate::specs::Content::heads_of))]
 fn look(index: &[u32], key: &[u32], head: usize) -> Option<usize>
     requires { Sound index.now × (1 < head) × (head ≤ 1 + heads_of (length index.now)) }
     ensures { (es : List Entry) → Says index.now es → Located es key.now result }
@@ -136,6 +140,7 @@ fn enter(index: &mut [u32], at: usize, next: u32, header: u32, key: &[u32])
 }
 
 // Adds an entry behind the last one, where there is room, and lets the head lead to it.
+#[tactic(auto, unfolding(crate::specs::Content::heads_of))]
 fn add(index: &mut [u32], key: &[u32], head: usize, value: u32)
     requires lt_head { (1 < head) × (head ≤ 1 + heads_of (length index.old)) }
     requires value_bound { (value < 2 ^ 25) × (length key.now < 128) }

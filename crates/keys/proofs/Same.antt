@@ -19,13 +19,13 @@ module _ (w w' : List ℕ) where
   later n d m i j p q S h e g k l =
       let a : i + 3 * (d + k) ≡ p + 3 * k = omega arith in
       let b : j + 3 * (d + k) ≡ q + 3 * k = omega arith in
-      subst (λ (x : ℕ). Alike x (q + 3 * k) w w') a (subst (λ (x : ℕ). Alike (i + 3 * (d + k)) x w w') b (S (d + k) (omega arith)))
+      rw (a, b) at (S (d + k) (omega arith))
 
   first : (n i j : ℕ) → SameNodes n i j w w' → 0 < n → Alike i j w w'
   first n i j S h =
       let a : i + 3 * 0 ≡ i = omega arith in
       let b : j + 3 * 0 ≡ j = omega arith in
-      subst (λ (x : ℕ). Alike x j w w') a (subst (λ (x : ℕ). Alike (i + 3 * 0) x w w') b (S 0 h))
+      rw (a, b) at (S 0 h)
 
   rest_same : (g g' : Rest) (n i j : ℕ) → At g w i → At g' w' j → nodes g ≤ n → nodes g' ≤ n → SameNodes n i j w w' → g' ≡ g
   unfolding At nodes

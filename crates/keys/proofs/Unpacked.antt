@@ -1,7 +1,7 @@
 -- One key means one state, one label, and nodes with the same tags and numbers, all in pairs or all wide: each word of the key determines
 -- what is joined in it, and no bits were left out. Assumes nothing.
 use Prim.Native.Nat.{ℕ, ◌+◌, ◌-◌, ◌*◌, ◌/◌, ◌%◌, ◌<◌}
-use mathlib.Core.Path.{◌≡◌, sym, ap, ap₂, subst, ◌∙◌}
+use mathlib.Core.Path.{◌≡◌, sym, ap, ap₂, ◌∙◌}
 use mathlib.Core.Bool.{Bool, true, false}
 use mathlib.Core.List.{List}
 use native.Mathlib.Omega.{arith}
@@ -72,7 +72,7 @@ module _ {g n n' i j label label' : ℕ} {st st' : State} {w w' key : List ℕ} 
           let e : 8 * (x / 8) + x % 8 ≡ x = omega arith in
           let low = eight_same st.values st'.values (8 * (x / 8))
           (sym (Q.values_are (x / 8) (omega arith)) ∙ P.values_are (x / 8) (omega arith)) (x % 8) (omega arith) in
-          let same = subst (λ (k : ℕ). get_or st'.values k 0 % 16 ≡ get_or st.values k 0 % 16) e low in
+          let same = rw e at low in
           omega (arith, same, P.small x h, Q.small x h)
       go (no l) = omega (arith, P.none x (omega arith) h, Q.none x (omega arith) h)
 
@@ -83,14 +83,10 @@ module _ {g n n' i j label label' : ℕ} {st st' : State} {w w' key : List ℕ} 
       heads.0
 
   words_same : SameWords P.wide n i j w w'
-  words_same k h =
-      subst (λ (b : Bool). k < words_of b n → word_at b w' j n k ≡ get_or key (1 + g + k) 0) heads.3
-      (subst (λ (m : ℕ). k < words_of Q.wide m → word_at Q.wide w' j m k ≡ get_or key (1 + g + k) 0) sizes_same (λ l. sym (Q.nodes_are k l)))
-      h
-      ∙ P.nodes_are k h
+  words_same k h = let q = rw (heads.3, sizes_same) at Q.nodes_are in sym (q k h) ∙ P.nodes_are k h
 
   pub nodes_same : SameNodes n i j w w'
   nodes_same x h =
       alike (limit_of P.wide) w w' (i + 3 * x) (j + 3 * x) (P.coded x h)
-      (subst (λ (b : Bool). Coded (limit_of b) w' (j + 3 * x)) heads.3 (Q.coded x (omega (arith, sizes_same))))
+      (rw heads.3 at (Q.coded x (omega (arith, sizes_same))))
       (node_same P.wide n i j w w' words_same x h)

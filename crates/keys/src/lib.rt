@@ -43,6 +43,7 @@ fn two(values: &[u8; 32], i: usize) -> u32
 }
 
 // Four values.
+#[tactic(auto, unfolding(crate::specs::Packed::four_at))]
 fn four(values: &[u8; 32], i: usize) -> u32
     requires { i + 4 ≤ 32 }
     ensures { (result ≡ four_at values.now i) × (result < 65536) }
@@ -51,6 +52,7 @@ fn four(values: &[u8; 32], i: usize) -> u32
 }
 
 // Eight values.
+#[tactic(auto, unfolding(crate::specs::Packed::eight_at))]
 fn eight(values: &[u8; 32], i: usize) -> u32
     requires { i + 8 ≤ 32 }
     ensures { result ≡ eight_at values.now i }
@@ -59,6 +61,7 @@ fn eight(values: &[u8; 32], i: usize) -> u32
 }
 
 // Whether all values from place `from` on are below a limit.
+// Kept: a loop without an early exit: the two calls in `pack` take 5 ns with it, and 15 ns with `iter().all(..)` (both in plain Rust, rustc -O).
 fn are_below(values: &[u8; 32], from: usize, limit: u8) -> bool
     requires { from ≤ 32 }
     ensures { result ≡ true → (k : ℕ) → from ≤ k → k < 32 → get_or values.now k 0 < limit }
@@ -97,6 +100,7 @@ fn is_coded(work: &[u32], i: usize, limit: u32) -> bool
 }
 
 // The first of n nodes and, where there is one, the second.
+#[tactic(auto, using(crate::proofs::Joined::pair_two, crate::proofs::Joined::pair_one))]
 fn pair(work: &[u32], i: usize, n: usize) -> u32
     requires { (i + 3 * n ≤ length work.now) × (0 < n) }
     ensures { result ≡ pair_at work.now i n }
@@ -179,6 +183,7 @@ fn write_nodes(key: &mut [u32], to: usize, work: &[u32], from: usize, n: usize) 
 }
 
 // Whether interrupts run, the number of nodes, the label, and whether each node has a word of its own, in one word.
+#[tactic(auto, unfolding(crate::specs::Packed::head_of))]
 fn head(running: bool, n: usize, label: usize, wide: bool) -> u32
     requires { (n < 4096) × (label < 65536) }
     ensures { result ≡ head_of running n label wide }
@@ -214,6 +219,7 @@ fn pack(
 }
 
 // The key of the configuration of frame d and the state, with a label: how many words it takes, where it has one.
+#[tactic(auto, using(engine::proofs::Frames::frame_by, words::proofs::Standing::at_node_room, words::proofs::Standing::at_room, words::proofs::Standing::at_size, sheet::proofs::Found::in_sheet))]
 pub fn key_of(
     key: &mut [u32],
     work: &[u32],

@@ -1,11 +1,7 @@
 -- Where an entry fits, it is added; else nothing changes. Assumes nothing.
 use Rattle.index.proofs.Changed.{notes_nothing, notes_more}
-use Rattle.index.proofs.Content.{head_inside}
 use native.Mathlib.Omega.{arith}
 use Rattle.index.proofs.add.Goals as goal
-
-pub bounds-index-0 : goal.bounds-index-0
-bounds-index-0 c = omega (arith, head_inside _ _ c.requires.lt_head.0 c.requires.lt_head.1)
 
 pub returns-then-end-k : goal.returns-then-end-k
 returns-then-end-k c =

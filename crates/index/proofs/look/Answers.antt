@@ -1,13 +1,6 @@
 -- Each place on the way is one that the links lead to, and lower than the one before. Assumes nothing.
-use Rattle.index.proofs.Content.{head_inside, head_linked, linked_next, linked_inside, located}
-use native.Mathlib.Omega.{arith}
+use Rattle.index.proofs.Content.{head_linked, linked_next, linked_inside, located}
 use Rattle.index.proofs.look.Goals as goal
-
-pub offset_bounds-index-head : goal.offset_bounds-index-head
-offset_bounds-index-head c = omega (arith, head_inside _ _ c.requires.1 c.requires.2)
-
-pub bounds-index-head : goal.bounds-index-head
-bounds-index-head c = head_inside _ _ c.requires.1 c.requires.2
 
 pub loop-at-init : goal.loop-at-init
 loop-at-init c = λ es S. head_linked _ es S _ c.requires.1 c.requires.2
