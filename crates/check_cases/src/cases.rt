@@ -8,17 +8,28 @@ const FIRST: usize = 512;
 
 // A sheet in the buffer: how far after the first record each table and the trailer start, its bounds in the buffer, and
 // what is shown beside the answer.
-#[derive(Clone, Copy)]
+#[derive(Clone, Copy, Debug, PartialEq, Eq)]
 pub struct Case {
     formulas: u32,
     effects: u32,
     actions: u32,
     programs: u32,
     trailer: u32,
-    pub start: usize,
-    pub end: usize,
+    start: usize,
+    end: usize,
     pub shows_trailer: bool,
     pub shows_notes: bool,
+}
+
+// The bytes of a sheet and of its trailer; none where they are not all in the buffer.
+impl Case {
+    pub fn sheet(self, s: &[u8]) -> &[u8] {
+        s.get(self.start..self.end).unwrap_or(&[])
+    }
+
+    pub fn trailer(self, s: &[u8]) -> &[u8] {
+        s.get(index(self.trailer, 0)..self.end).unwrap_or(&[])
+    }
 }
 
 // Where the numbers of a clause go: from index `at` on, a byte each for those in `bytes`, two bytes each for the others.
@@ -29,7 +40,8 @@ struct Fields {
     bytes: Range<usize>,
 }
 
-fn lay_out(f: u16, q: u16, e: u16, a: u16, p: u16) -> Case {
+// The sheet with so many fluents, formulas, effects, actions and program records.
+fn lay_out([f, q, e, a, p]: [u16; 5]) -> Case {
     let formulas = 2 * u32::from(f);
     let effects = formulas + 6 * u32::from(q);
     let actions = effects + 4 * u32::from(e);
@@ -50,7 +62,7 @@ fn lay_out(f: u16, q: u16, e: u16, a: u16, p: u16) -> Case {
 
 // The sheet with no records, before the first clause.
 pub fn empty() -> Case {
-    lay_out(0, 0, 0, 0, 0)
+    lay_out([0; 5])
 }
 
 // The index of what lies at an offset in a table.
@@ -63,25 +75,20 @@ fn put(s: &mut [u8], t: &[u8], fields: Fields) {
     let Fields { at, numbers, bytes } = fields;
     let mut next = at;
     for k in numbers {
-        next = write::field(s, next, scan::number(t, k), bytes.contains(&k));
+        let size = if bytes.contains(&k) { 1 } else { 2 };
+        next = write::bytes(s, next, &scan::number(t, k).to_le_bytes()[..size]);
     }
 }
 
 // A sheet of given counts, with fluents of size 1 and 0 in all other records.
 fn counts(s: &mut [u8], t: &[u8]) -> Case {
-    let f = scan::two(t, 0);
-    let c = lay_out(
-        f,
-        scan::two(t, 1),
-        scan::two(t, 2),
-        scan::two(t, 3),
-        scan::two(t, 4),
-    );
-    write::bytes(s, FIRST, c.trailer as usize, 0, 0);
-    write::fluents(s, FIRST, f);
+    let counts: [u16; 5] = std::array::from_fn(|k| scan::two(t, k));
+    let c = lay_out(counts);
+    write::zeros(s, FIRST, c.trailer as usize);
+    write::fluents(s, FIRST, counts[0]);
     put(s, t, wide(index(c.trailer, 0), 0..6));
-    write::four(s, index(c.trailer, 12), c.trailer);
-    write::pair(s, index(c.trailer, 16), 0x42, 0x51);
+    write::bytes(s, index(c.trailer, 12), &c.trailer.to_le_bytes());
+    write::bytes(s, index(c.trailer, 16), &[0x42, 0x51]);
     c
 }
 
@@ -94,10 +101,10 @@ fn wide(at: usize, numbers: Range<usize>) -> Fields {
     }
 }
 
-// The fields that a clause sets: a record's, or some of the trailer's. Of another clause none.
-fn fields_of(c: Case, topic: Topic, record: u16) -> Fields {
+// The fields that a clause sets, if it sets any: a record's, or some of the trailer's.
+fn fields_of(c: Case, topic: Topic, record: u16) -> Option<Fields> {
     let i = u32::from(record);
-    match topic {
+    Some(match topic {
         Topic::Fluent => Fields {
             at: index(0, 2 * i),
             numbers: 1..3,
@@ -121,35 +128,33 @@ fn fields_of(c: Case, topic: Topic, record: u16) -> Fields {
         Topic::Action => wide(index(c.actions, 6 * i), 1..4),
         Topic::Program => wide(index(c.programs, 8 * i), 1..5),
         Topic::Bound => wide(index(c.trailer, 10), 0..1),
-        _ => wide(0, 0..0),
+        _ => return None,
+    })
+}
+
+// Program record i + 1, with these parts.
+fn link(s: &mut [u8], table: u32, kind: u16, i: u16, [a, b]: [u16; 2]) {
+    let mut next = index(table, 8 * u32::from(i) + 8);
+    for x in [kind, a, b, 0] {
+        next = write::bytes(s, next, &x.to_le_bytes());
     }
 }
 
-fn if_linked(linked: bool, i: u16) -> u16 {
-    if linked { i } else { 0 }
-}
-
-// Program record i + 1, naming record i in a, in b, or in both.
-fn link(s: &mut [u8], table: u32, kind: u16, i: u16, in_a: bool, in_b: bool) {
-    let a = write::two(s, index(table, 8 * u32::from(i) + 8), kind);
-    let b = write::two(s, a, if_linked(in_a, i));
-    let c = write::two(s, b, if_linked(in_b, i));
-    write::two(s, c, 0);
-}
-
-// Program records of one kind, above the first named and up to the last, each naming the one below it.
-fn chain(s: &mut [u8], table: u32, t: &[u8], in_a: bool, in_b: bool) {
+// Program records of one kind, above the first named and up to the last; the parts of each by the number of the one below it.
+fn chain<F: Fn(u16) -> [u16; 2]>(s: &mut [u8], table: u32, t: &[u8], parts: F)
+    requires { F.IsAlwaysCallable parts }
+{
     let kind = scan::two(t, 0);
     let last = scan::two(t, 2);
     for i in scan::two(t, 1)..last {
-        link(s, table, kind, i, in_a, in_b);
+        link(s, table, kind, i, parts(i));
     }
 }
 
 // The last n bytes of the sheet alone.
 fn last(c: Case, n: usize) -> Case {
     Case {
-        start: if n <= c.end { c.end - n } else { c.start },
+        start: c.end.checked_sub(n).unwrap_or(c.start),
         ..c
     }
 }
@@ -157,7 +162,7 @@ fn last(c: Case, n: usize) -> Case {
 // Room for n notes, which are to be shown.
 fn noted(c: Case, n: usize) -> Case {
     Case {
-        start: if n <= FIRST { FIRST - n } else { c.start },
+        start: FIRST.checked_sub(n).unwrap_or(c.start),
         shows_notes: true,
         ..c
     }
@@ -180,21 +185,27 @@ fn framed(c: Case, topic: Topic, n: u16) -> Case {
 // Changes the bytes as a clause says.
 fn change(s: &mut [u8], c: Case, topic: Topic, t: &[u8]) {
     match topic {
-        Topic::ChainA => chain(s, c.programs, t, true, false),
-        Topic::ChainB => chain(s, c.programs, t, false, true),
-        Topic::ChainBoth => chain(s, c.programs, t, true, true),
+        Topic::ChainA => chain(s, c.programs, t, |i| [i, 0]),
+        Topic::ChainB => chain(s, c.programs, t, |i| [0, i]),
+        Topic::ChainBoth => chain(s, c.programs, t, |i| [i, i]),
         Topic::Distance => {
-            write::four(s, index(c.trailer, 12), scan::number(t, 0));
+            write::bytes(s, index(c.trailer, 12), &scan::number(t, 0).to_le_bytes());
         }
-        Topic::Notes => write::bytes(s, c.start, usize::from(scan::two(t, 0)), 1, 1),
+        Topic::Notes => write::counted(s, c.start, usize::from(scan::two(t, 0))),
         Topic::Nested => write::copy(s, c.start, FIRST, c.end),
-        _ => put(s, t, fields_of(c, topic, scan::two(t, 0))),
+        _ => {
+            if let Some(fields) = fields_of(c, topic, scan::two(t, 0)) {
+                put(s, t, fields);
+            }
+        }
     }
 }
 
-// The sheet after one clause.
+// The sheet after one clause; another word changes nothing.
 fn changed(s: &mut [u8], c: Case, t: &[u8]) -> Case {
-    let topic = scan::topic_of(t);
+    let Some(topic) = scan::topic_of(t) else {
+        return c;
+    };
     if topic == Topic::Counts {
         return counts(s, t);
     }

@@ -16,7 +16,7 @@ const BYTES: usize = 65536;
 fn line(rt: &impl Print, base: &[u8], t: &[u8]) -> io::Result<()> {
     report::text(rt, t)?;
     if scan::is_heading(t) {
-        return report::text(rt, b"\n");
+        return println!(rt);
     }
     let mut s = [0u8; 16384];
     let c = cases::build(&mut s, cases::empty(), scan::clauses(base));
@@ -24,12 +24,13 @@ fn line(rt: &impl Print, base: &[u8], t: &[u8]) -> io::Result<()> {
 }
 
 fn report_on(rt: &impl Print, c: cases::Case, s: &[u8]) -> io::Result<()> {
-    report::answer(rt, s, c.start, c.end)?;
+    let sheet = c.sheet(s);
+    report::answer(rt, sheet)?;
     if c.shows_trailer {
-        report::trailer(rt, s, c.end)?;
+        report::trailer(rt, c.trailer(s))?;
     }
     if c.shows_notes {
-        report::notes(rt, s, c.start, c.end)?;
+        report::notes(rt, sheet)?;
     }
     Ok(())
 }

@@ -5,14 +5,9 @@ pub fn text(rt: &impl Print, label: &[u8]) -> io::Result<()> {
     rt.write_all(label)
 }
 
-// The bytes from `start` on, below `end`; none where they are not all there.
-fn part(s: &[u8], start: usize, end: usize) -> &[u8] {
-    s.get(start..end).unwrap_or(&[])
-}
-
 // `ok`, the words of work and, where formulas name fluents, `names` and their set; or the number and the place.
-pub fn answer(rt: &impl Print, s: &[u8], start: usize, end: usize) -> io::Result<()> {
-    match sheet::check(part(s, start, end)) {
+pub fn answer(rt: &impl Print, s: &[u8]) -> io::Result<()> {
+    match sheet::check(s) {
         Ok(found) => {
             let words = found.words;
             print!(rt; ": ok {words}")?;
@@ -35,22 +30,18 @@ fn ends(rt: &impl Print, t: &[u8]) -> io::Result<()> {
 }
 
 // The notes' length, their first and last byte, and the number and place beside them.
-pub fn notes(rt: &impl Print, s: &[u8], start: usize, end: usize) -> io::Result<()> {
+pub fn notes(rt: &impl Print, s: &[u8]) -> io::Result<()> {
     let mut number: u32 = 0;
     let mut place: usize = 0;
-    let found = sheet::notes(part(s, start, end), &mut number, &mut place);
+    let found = sheet::notes(s, &mut number, &mut place);
     let bytes = found.len();
     print!(rt; "  notes: {bytes} bytes,")?;
     ends(rt, found)?;
     println!(rt; " number {number}, place {place}")
 }
 
-// The last 18 bytes in hexadecimal.
-pub fn trailer(rt: &impl Print, s: &[u8], end: usize) -> io::Result<()> {
-    if end < 18 {
-        return Ok(());
-    }
-    let t = part(s, end - 18, end);
+// A trailer in hexadecimal.
+pub fn trailer(rt: &impl Print, t: &[u8]) -> io::Result<()> {
     print!(rt; "  trailer:")?;
     for x in t {
         print!(rt; " {x:02x}")?;

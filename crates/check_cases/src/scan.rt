@@ -9,7 +9,7 @@ pub fn clauses(t: &[u8]) -> &[u8] {
     t.split(|c| *c == b',').next().unwrap_or(t)
 }
 
-// What a clause is about, by the first two letters of its word. Another word changes nothing.
+// What a clause is about, by the first two letters of its word.
 #[derive(Clone, Copy, Debug, PartialEq, Eq)]
 pub enum Topic {
     Counts,
@@ -28,20 +28,19 @@ pub enum Topic {
     Notes,
     Nested,
     Trailer,
-    Other,
 }
 
-// The word of a clause; a blank before it is passed over.
-pub fn topic_of(t: &[u8]) -> Topic {
+// The word of a clause, if it is one of these; a blank before it is passed over.
+pub fn topic_of(t: &[u8]) -> Option<Topic> {
     match t {
         [b' ', a, b, ..] => named(*a, *b),
         [a, b, _, ..] => named(*a, *b),
-        _ => Topic::Other,
+        _ => None,
     }
 }
 
-fn named(a: u8, b: u8) -> Topic {
-    match [a, b] {
+fn named(a: u8, b: u8) -> Option<Topic> {
+    Some(match [a, b] {
         [b'c', b'o'] => Topic::Counts,
         [b'f', b'l'] => Topic::Fluent,
         [b'f', b'o'] => Topic::Formula,
@@ -58,8 +57,8 @@ fn named(a: u8, b: u8) -> Topic {
         [b'n', b'o'] => Topic::Notes,
         [b'n', b'e'] => Topic::Nested,
         [b't', b'r'] => Topic::Trailer,
-        _ => Topic::Other,
-    }
+        _ => return None,
+    })
 }
 
 // A number with one more digit; it stays where it would grow too large for any field.

@@ -1,44 +1,30 @@
-// Writers of bytes into a lent buffer. Each answers the index after what it wrote; where there is no room it writes
-// nothing, so none of them asks anything of its caller.
+// Writers of bytes into a lent buffer. Where there is no room they write nothing, so none of them asks anything of its caller.
 
-pub fn byte(s: &mut [u8], at: usize, v: u8) -> usize {
-    if at < s.len() {
-        s[at] = v;
-        return at + 1;
-    }
-    at
-}
-
-pub fn pair(s: &mut [u8], at: usize, first: u8, second: u8) -> usize {
-    let next = byte(s, at, first);
-    byte(s, next, second)
-}
-
-// Numbers of two and of four bytes are little-endian.
-pub fn two(s: &mut [u8], at: usize, v: u16) -> usize {
-    pair(s, at, (v % 256) as u8, (v / 256) as u8)
-}
-
-pub fn four(s: &mut [u8], at: usize, v: u32) -> usize {
-    let next = two(s, at, (v % 65536) as u16);
-    two(s, next, (v / 65536) as u16)
-}
-
-// A field of one byte or of two.
-pub fn field(s: &mut [u8], at: usize, v: u32, one: bool) -> usize {
-    if one {
-        return byte(s, at, (v % 256) as u8);
-    }
-    two(s, at, (v % 65536) as u16)
-}
-
-// n bytes: v, v + step, and so on.
-pub fn bytes(s: &mut [u8], at: usize, n: usize, v: u8, step: u8) {
+// Bytes from `at` on: the index after those written.
+pub fn bytes(s: &mut [u8], at: usize, values: &[u8]) -> usize {
     let mut next = at;
-    let mut x = v;
-    for _ in 0..n {
-        next = byte(s, next, x);
-        x = x.wrapping_add(step);
+    for x in values {
+        if let Some(place) = s.get_mut(next) {
+            *place = *x;
+            next += 1;
+        }
+    }
+    next
+}
+
+// n bytes of 0.
+pub fn zeros(s: &mut [u8], at: usize, n: usize) {
+    for place in s.iter_mut().skip(at).take(n) {
+        *place = 0;
+    }
+}
+
+// n bytes: 1, 2, and so on, 0 after 255.
+pub fn counted(s: &mut [u8], at: usize, n: usize) {
+    let mut x: u8 = 0;
+    for place in s.iter_mut().skip(at).take(n) {
+        x = x.wrapping_add(1);
+        *place = x;
     }
 }
 
@@ -46,15 +32,14 @@ pub fn bytes(s: &mut [u8], at: usize, n: usize, v: u8, step: u8) {
 pub fn fluents(s: &mut [u8], at: usize, n: u16) {
     let mut next = at;
     for _ in 0..n {
-        next = pair(s, next, 1, 0);
+        next = bytes(s, next, &[1, 0]);
     }
 }
 
-// A copy of the bytes from `from` on, below `end`.
+// A copy of the bytes from `from` on, below `end`, to a place that is not above them.
 pub fn copy(s: &mut [u8], at: usize, from: usize, end: usize) {
-    let mut next = at;
-    for i in from..end {
-        let x = s.get(i).copied().unwrap_or(0);
-        next = byte(s, next, x);
+    let last = end.min(s.len());
+    if at <= from && from <= last {
+        s.copy_within(from..last, at);
     }
 }

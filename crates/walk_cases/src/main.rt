@@ -7,18 +7,12 @@ mod walk;
 
 use std::io;
 
-// Writes bytes from `at` on, as far as there is room: where they end.
-fn put(s: &mut [u8], at: usize, bytes: &[u8]) -> usize {
-    let mut next = at;
-    for b in bytes {
-        if s.len() <= next {
-            return s.len();
-        }
-        s[next] = *b;
-        next += 1;
-    }
-    next
-}
+// The shared tables: fluents 0 and 1; formulas 0 to 4: fluent 1 is 0, fluent 0 is 0, both, true, not formula 1; effects 0 and 1: fluent 0 becomes 0,
+// fluent 1 becomes 2; actions 0 and 1: shift to 0, berth on 1-2.
+const TABLES: &[u8] = b"\x03\x01\x03\x00\
+    \x02\x01\x00\x00\x00\x00\x02\x00\x00\x00\x00\x00\x06\x00\x00\x00\x01\x00\x00\x00\x00\x00\x00\x00\x05\x00\x01\x00\x00\x00\
+    \x03\x00\x00\x00\x03\x00\x01\x02\
+    \x00\x00\x00\x00\x01\x00\x02\x00\x01\x00\x01\x00";
 
 // One case: the shared tables, then the case's program records and trailer.
 fn case(
@@ -28,28 +22,16 @@ fn case(
     trailer: &[u8],
     choices: &[u8],
 ) -> io::Result<()> {
-    report::text(rt, title)?;
-    report::text(rt, "\n")?;
+    println!(rt; "{title}")?;
     let mut s = [0u8; 256];
-    // fluents 0 and 1
-    let a = put(&mut s, 0, b"\x03\x01\x03\x00");
-    // formulas 0 to 4: fluent 1 is 0; fluent 0 is 0; both; true; not formula 1
-    let b = put(
-        &mut s,
-        a,
-        b"\x02\x01\x00\x00\x00\x00\x02\x00\x00\x00\x00\x00\x06\x00\x00\x00\x01\x00\x00\x00\x00\x00\x00\x00\x05\x00\x01\x00\x00\x00",
-    );
-    // effects 0 and 1: fluent 0 becomes 0; fluent 1 becomes 2
-    let c = put(&mut s, b, b"\x03\x00\x00\x00\x03\x00\x01\x02");
-    // actions 0 and 1: shift to 0; berth on 1-2
-    let d = put(
-        &mut s,
-        c,
-        b"\x00\x00\x00\x00\x01\x00\x02\x00\x01\x00\x01\x00",
-    );
-    let e = put(&mut s, d, programs);
-    let f = put(&mut s, e, trailer);
-    walk::walk_sheet(rt, s.get(..f).unwrap_or(&s), choices)
+    let mut end: usize = 0;
+    for part in [TABLES, programs, trailer] {
+        for (place, b) in s.iter_mut().skip(end).zip(part) {
+            *place = *b;
+        }
+        end = end.saturating_add(part.len());
+    }
+    walk::walk_sheet(rt, s.get(..end).unwrap_or(&s), choices)
 }
 
 // Iteration and tests.

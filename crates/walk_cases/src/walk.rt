@@ -107,11 +107,11 @@ fn walk_from(rt: &impl Print, work: &mut [u32], s: &Sheet, choices: &[u8]) -> io
 pub fn walk_sheet(rt: &impl Print, bytes: &[u8], choices: &[u8]) -> io::Result<()> {
     let mut work = [0u32; 1024];
     let Ok(s) = Sheet::open(bytes) else {
-        return report::text(rt, "refused\n");
+        return println!(rt; "refused");
     };
     let words = s.found().words;
     if work.len() < words {
-        return report::text(rt, "too large\n");
+        return println!(rt; "too large");
     }
     walk_from(rt, &mut work[..words], &s, choices)
 }
