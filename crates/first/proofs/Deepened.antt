@@ -13,7 +13,7 @@ use Rattle.demands.specs.Planning.{Goes, Ends}
 use Rattle.search.specs.Outcome.{ReportsVerdict, Reported, is_found, is_more}
 use Rattle.search.specs.Searching.{verdict_from}
 use Rattle.search.specs.declared.Outcome.{Outcome}
-use Rattle.search.specs.declared.Outcome.TheVariants.{Found, Nothing, More}
+use Rattle.search.specs.declared.Outcome.TheVariants.{Found, More}
 use Rattle.search.proofs.Reporting.{unfound_kept}
 use Rattle.first.specs.Settling.{transition_count, Holds, FoundSoFar, FewestFound}
 use Rattle.first.proofs.Asking.{unguided_means, found_run, no_run}
@@ -89,14 +89,6 @@ module _ {s : List ℕ} {low : ℕ} {trace : List ℕ} {o : Outcome} (F : FoundS
   abbrev SoFarOf : Verdict → Type 0
   SoFarOf v = SoFar (Goes (world_of s)) (Ends (world_of s)) low (bound_of s) (first_of s) v
 
-  pub transitions_bounded : transition_count o ≤ bound_of s
-  transitions_bounded = go F.verdict F.holds F.means
-    where
-      go : (v : Verdict) → Holds trace o v → SoFarOf v → transition_count o ≤ bound_of s
-      go (plan h t) (q, z) m = omega (arith, ap transition_count q, m.within)
-      go nothing q m = omega (arith, ap transition_count q)
-      go more q m = omega (arith, ap transition_count q)
-
   -- no bound is between: nothing has fewer transitions
   pub lowest : transition_count o ≤ low → FewestFound s trace o
   lowest l = go F.verdict F.holds F.means
@@ -132,27 +124,23 @@ module _ {s : List ℕ} {low : ℕ} {trace : List ℕ} {o : Outcome} (F : FoundS
         go more q m = absurd (omega (arith, l, ap transition_count q))
 
     -- there is one
-    pub lowered : bound_of s ≤ length trace → is_found x ≡ true → FoundSoFar s low trace' x × (transition_count x ≤ left)
-    lowered room z = go F.verdict F.holds F.means x refl
+    pub lowered : bound_of s ≤ length trace → (n u : ℕ) → x ≡ Found n u → FoundSoFar s low trace' (Found n u) × (u ≤ left)
+    lowered room n u e = go F.verdict F.holds F.means
       where
-        found : NoneBelow (Goes (world_of s)) (Ends (world_of s)) low (first_of s) → left ≤ bound_of s → (y : Outcome) → x ≡ y → FoundSoFar s low trace' x × (transition_count x ≤ left)
-        found few l (Found n u) q =
-            let (X, m) = found_so_far low left true few l R (omega arith) n u q in
-            (X, omega (arith, m, ap transition_count q))
-        found few l Nothing q = absurd (true≢false (sym z ∙ ap is_found q))
-        found few l More q = absurd (true≢false (sym z ∙ ap is_found q))
-
-        go : (v : Verdict) → Holds trace o v → SoFarOf v → (y : Outcome) → x ≡ y → FoundSoFar s low trace' x × (transition_count x ≤ left)
-        go (plan h t) (q, k) m y p = found m.none_below (omega (arith, l, ap transition_count q, m.within)) y p
-        go nothing q m y p = absurd (omega (arith, l, ap transition_count q))
-        go more q m y p = absurd (omega (arith, l, ap transition_count q))
+        go : (v : Verdict) → Holds trace o v → SoFarOf v → FoundSoFar s low trace' (Found n u) × (u ≤ left)
+        go (plan h t) (q, k) m =
+            let within : left ≤ bound_of s = omega (arith, l, ap transition_count q, m.within) in
+            let X = found_so_far low left true m.none_below within R (omega (arith, room, within)) n u e in
+            (subst (FoundSoFar s low trace') e X.0, X.1)
+        go nothing q m = absurd (omega (arith, l, ap transition_count q))
+        go more q m = absurd (omega (arith, l, ap transition_count q))
 
 -- at most `left` were asked for: a plan takes the place of that at hand, or none has so few
 module _ {s best : List ℕ} {low : ℕ} {fewest : Outcome} (L : Lowering s best low fewest) (left : ℕ) (l : left < transition_count fewest) {best' : List ℕ} {x : Outcome}
     (R : Reported 0 0 best best' x (join (flagged true) (verdict_from s left (first_of s, unguided)))) (long : length best' ≡ length best) where
-  pub lowering_found : low ≤ left → is_found x ≡ true → Lowering s best' low x × (transition_count x - low < transition_count fewest - low)
-  lowering_found e z =
-      let X = lowered L.so_far left l R L.room z in
+  pub lowering_found : low ≤ left → (n u : ℕ) → x ≡ Found n u → Lowering s best' low (Found n u) × (u - low < transition_count fewest - low)
+  lowering_found e n u z =
+      let X = lowered L.so_far left l R L.room n u z in
       (record { room = omega (arith, long, L.room); so_far = X.0 }, omega (arith, X.1, l, e))
 
   pub lowering_none : is_found x ≡ false → Lowering s best' (left + 1) fewest

@@ -10,7 +10,7 @@ ghost use Rattle.demands.specs.Planning.{FirstPlan, verdict_of};
 ghost use Rattle.search.specs.Outcome.{Reported};
 ghost use Rattle.search.specs.Searching.{Standing};
 ghost use Rattle.explored.specs.Known.{Lasting};
-ghost use Rattle.first.specs.Settling.{history_of, Within, transition_count, FoundSoFar, FewestFound, CanSettle, Settled, Answers};
+ghost use Rattle.first.specs.Settling.{history_of, Within, FoundSoFar, FewestFound, CanSettle, Settled, Answers};
 
 use search::{Outcome, Question, Window};
 use sheet::Sheet;
@@ -21,16 +21,6 @@ use sheet::Sheet;
 pub struct History {
     pub entries: [u16; sheet::MOST_TRANSITIONS],
     pub n: usize,
-}
-
-// The transitions of a plan.
-fn transition_count(o: Outcome) -> usize
-    ensures { result ≡ transition_count o }
-{
-    match o {
-        Outcome::Found { t, .. } => t,
-        _ => 0,
-    }
 }
 
 // Half way between two bounds.
@@ -58,23 +48,26 @@ fn lower(
     ensures stands { Standing s.now work.new flags.new numbers.new }
     ensures index { Lasting s.now index.new }
 {
-    let mut fewest = o;
+    let Outcome::Found { mut n, mut t } = o else {
+        return o;
+    };
     let mut tried = low;
-    while tried < transition_count(fewest) {
-        let left = half_way(tried, transition_count(fewest));
+    while tried < t {
+        let left = half_way(tried, t);
         let a = Question {
             window: None,
             left,
             cut: true,
         };
-        let x = search::explore(work, best, flags, numbers, index, s, &[], a);
-        if x.is_found() {
-            fewest = x;
-        } else {
-            tried = left + 1;
+        match search::explore(work, best, flags, numbers, index, s, &[], a) {
+            Outcome::Found {
+                n: entries,
+                t: fewer,
+            } => (n, t) = (entries, fewer),
+            _ => tried = left + 1,
         }
     }
-    fewest
+    Outcome::Found { n, t }
 }
 
 // So many bounds, the last ones, are tried at once where the cost of a search about doubles from bound to bound.
@@ -151,11 +144,7 @@ fn rank_at(h: History, i: usize) -> u32
     requires { Within h }
     ensures { (result ≡ rank (drop i (history_of h))) × (result ≤ 65536) }
 {
-    if i < h.n {
-        let entries = h.entries;
-        return entries[i] as u32 + 1;
-    }
-    0
+    h.entries[..h.n].get(i).map_or(0, |e| u32::from(*e) + 1)
 }
 
 // Asks for a plan of at most t transitions whose history begins with the first i entries, what follows them lying in the window.
@@ -175,14 +164,22 @@ fn ask(
     ensures stands { Standing s.now work.new flags.new numbers.new }
     ensures index { Lasting s.now index.new }
 {
-    let given = h.entries;
     let mut entries = h.entries;
     let a = Question {
         window: Some(window),
         left: t,
         cut: true,
     };
-    let o = search::explore(work, &mut entries, flags, numbers, index, s, &given[..i], a);
+    let o = search::explore(
+        work,
+        &mut entries,
+        flags,
+        numbers,
+        index,
+        s,
+        &h.entries[..i],
+        a,
+    );
     let Outcome::Found { n, .. } = o else {
         return None;
     };
@@ -299,7 +296,7 @@ pub fn plan(s: &Sheet, work: &mut [u32], trace: &mut [u16], index: &mut [u32]) -
     let mut entries = [0u16; sheet::MOST_TRANSITIONS];
     let o = deepen(work, &mut entries, &mut flags, &mut numbers, index, s);
     let r = settle(work, trace, &mut flags, &mut numbers, index, s, entries, o);
-    search::clear(work);
-    search::clear(index);
+    work.fill(0);
+    index.fill(0);
     r
 }

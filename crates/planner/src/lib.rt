@@ -123,7 +123,7 @@ fn replay_on(s: &Sheet, history: &[u16], work: &mut [u32]) -> Result<bool, Refus
         return Err(Refusal::from(Cause::ShortWork));
     }
     if found.layout.d < history.len() {
-        search::clear(&mut work[..required]);
+        work[..required].fill(0);
         return Ok(false);
     }
     Ok(search::accepts(s, history, &mut work[..required]))

@@ -1,6 +1,7 @@
 // The library for C and Rust, declared in include/planner.h: a slice passes as a pointer, which is never null, and a length, results
 // through pointers to numbers. Each function answers document 01's number, 0 where there is none. Raw, since a C program calls the
 // header's functions over these, which take a null pointer for an empty slice.
+// Kept: results through pointers, 0 where there is none: the C interface (include/planner.h).
 #![tactic(auto)]
 
 ghost use Rattle.std.specs.Prelude.{◌≡◌, length};

@@ -44,7 +44,7 @@ impl Outcome {
 }
 
 // What may follow the given moves, by rank: nothing is 0, and an entry e is e + 1. From low on, below high.
-#[derive(Clone, Copy)]
+#[derive(Clone, Copy, Debug, PartialEq, Eq)]
 pub struct Window {
     pub low: u32,
     pub high: u32,
@@ -52,7 +52,7 @@ pub struct Window {
 
 // What is asked of a search: a run of at most `left` transitions that makes the given moves, followed by what the window has; without a
 // window, any run. With `cut` only a plan matters, as where the bound ran out in some run before.
-#[derive(Clone, Copy)]
+#[derive(Clone, Copy, Debug, PartialEq, Eq)]
 pub struct Question {
     pub window: Option<Window>,
     pub left: usize,
@@ -82,13 +82,6 @@ struct Visit {
 struct Start {
     ran: bool,
     cursor: Cursor,
-}
-
-// Every word 0.
-pub fn clear(work: &mut [u32])
-    ensures work { work.new ≡ replicate (length work.old) 0 }
-{
-    work.fill(0);
 }
 
 // What a search comes to that found no plan: whether the bound ran out in some run is all that matters.
@@ -121,17 +114,16 @@ fn look(
         return Err(Outcome::More);
     }
     let x = engine::survey(flags, numbers, work, s, q.state, q.depth);
-    let first = x.first;
     if guide::is_over(moves, t.window, q.given, x.done) {
         return Err(Outcome::Found { n: q.n, t: q.depth });
     }
     if q.left == 0 {
-        return Err(unfound(!engine::is_spent(first)));
+        return Err(unfound(!engine::is_spent(x.first)));
     }
     if pruning::too_far(cut, q.left, x.soon) {
         return Err(Outcome::More);
     }
-    Ok(first)
+    Ok(x.first)
 }
 
 // The configuration visited, as the index is asked of it.
@@ -139,10 +131,9 @@ fn subject_of(q: Visit) -> Subject
     requires { IfSome q.given (λ used. used ≤ 64) }
     ensures { result ≡ subject_of q }
 {
-    let state = q.state;
     Subject {
         depth: q.depth,
-        state,
+        state: q.state,
         label: guide::label_of(q.given),
     }
 }
@@ -176,14 +167,12 @@ fn follow(moves: &[u16], q: Visit, x: Taken) -> Visit
     requires { (1 ≤ q.left) × IfSome q.given (λ used. used ≤ length moves.now) × (q.n ≤ 64) × (q.depth ≤ 64) }
     ensures { Follows moves.now q x result }
 {
-    let state = x.state;
-    let given = guide::given_after(moves, q.given, x.entry);
     Visit {
         depth: q.depth + 1,
         left: q.left - 1,
-        given,
+        given: guide::given_after(moves, q.given, x.entry),
         n: q.n + guide::entries_of(x.entry),
-        state,
+        state: x.state,
     }
 }
 
@@ -216,7 +205,7 @@ fn refresh(flags: &mut [bool], numbers: &mut [u32], work: &[u32], s: &Sheet, q: 
     ensures written { Filled q.depth q.depth flags.old flags.new numbers.old numbers.new }
 {
     if stale {
-        let x = engine::survey(flags, numbers, work, s, q.state, q.depth);
+        engine::survey(flags, numbers, work, s, q.state, q.depth);
     }
 }
 
@@ -321,17 +310,16 @@ pub fn explore(
     ensures stands { Standing s.now work.new flags.new numbers.new }
     ensures index { Lasting s.now index.new }
 {
-    let state = engine::initial_of(s);
-    let round = index::next_round(index);
-    let window = a.window.unwrap_or(Window { low: 0, high: 0 });
-    let given = a.window.and(Some(0));
-    let t = Task { window, round };
+    let t = Task {
+        window: a.window.unwrap_or(Window { low: 0, high: 0 }),
+        round: index::next_round(index),
+    };
     let q = Visit {
         depth: 0,
         left: a.left,
-        given,
+        given: a.window.and(Some(0)),
         n: 0,
-        state,
+        state: engine::initial_of(s),
     };
     let (o, _tried) = search_from(work, trace, flags, numbers, index, s, moves, t, q, a.cut);
     o
@@ -367,6 +355,6 @@ pub fn accepts(s: &Sheet, history: &[u16], work: &mut [u32]) -> bool
         history,
         a,
     );
-    clear(work);
+    work.fill(0);
     o.is_found()
 }

@@ -28,7 +28,7 @@ returns-then-found-history c =
     let e = ap (λ (l : Layout). l.d) O.layout_is in
     record {
       answer = longer s w _ (answered O) work c.if-work-required.false c.args.history.now (omega (arith, e, c.if-found-history.true));
-      work = cleared w work _ c.clear.ensures.work c.if-work-required.false ∙ sym (replay_cleared s w _ (answered O) work c.if-work-required.false);
+      work = cleared w work _ (c.fill.ensures.after (λ y e. e)) c.if-work-required.false ∙ sym (replay_cleared s w _ (answered O) work c.if-work-required.false);
     }
 
 pub accepts-requires : goal.accepts-requires

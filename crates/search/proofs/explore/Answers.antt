@@ -8,21 +8,21 @@ search_from-o-requires c =
     let p = c.requires in
     let a = c.args in (
       p.0.prepared,
-      (_, at_first a.moves.now a.trace.now a.a c.next_round-round.result p.0 p.1 p.2 c.unwrap_or-window.ensures c.and-given.ensures c.initial_of-state.ensures),
-      told_anew _ p.3 c.next_round-round.ensures p.4,
+      (_, at_first a.moves.now a.trace.now a.a c.next_round.result p.0 p.1 p.2 c.unwrap_or.ensures c.and.ensures c.initial_of.ensures),
+      told_anew _ p.3 c.next_round.ensures p.4,
     )
 
 pub returns-clause-answer : goal.returns-clause-answer
 returns-clause-answer c =
     let p = c.requires in
     let a = c.args in
-    on_first a.moves.now a.trace.now a.a _ p.0 p.1 p.2 c.unwrap_or-window.ensures c.and-given.ensures c.initial_of-state.ensures c.search_from-o.ensures.answer
+    on_first a.moves.now a.trace.now a.a _ p.0 p.1 p.2 c.unwrap_or.ensures c.and.ensures c.initial_of.ensures c.search_from-o.ensures.answer
 
 pub returns-clause-stands : goal.returns-clause-stands
 returns-clause-stands c =
     let p = c.requires in
     let a = c.args in
-    stands_first a.moves.now a.trace.now a.a c.next_round-round.result p.0 p.1 p.2 c.unwrap_or-window.ensures c.and-given.ensures c.initial_of-state.ensures
+    stands_first a.moves.now a.trace.now a.a c.next_round.result p.0 p.1 p.2 c.unwrap_or.ensures c.and.ensures c.initial_of.ensures
     c.search_from-o.ensures.tables
 
 pub returns-clause-index : goal.returns-clause-index
