@@ -18,14 +18,14 @@ const TIMES: usize = 1000;
 const ROUNDS: usize = 10;
 
 // Values, and the microseconds that it took to come to them.
-#[derive(Clone, Copy)]
+#[derive(Clone, Copy, Debug, PartialEq, Eq)]
 struct Round {
     values: [u8; 32],
     time: u64,
 }
 
 // The times of the quickest round in each way, and whether values were the same in all rounds.
-#[derive(Clone, Copy)]
+#[derive(Clone, Copy, Debug, PartialEq, Eq)]
 struct Times {
     one_pass: u64,
     each_fluent: u64,
@@ -83,9 +83,7 @@ fn measure(
         );
         one_pass = one_pass.min(a.time);
         each_fluent = each_fluent.min(b.time);
-        let by_one_pass = a.values;
-        let by_each_fluent = b.values;
-        same = same & (by_one_pass == by_each_fluent);
+        same = same & (a.values == b.values);
     }
     Times {
         one_pass,
@@ -130,7 +128,7 @@ fn compare(
 {
     let a = state::new_values(effects, r, n, truths, values);
     let b = each_fluent::new_values(effects, r, n, truths, values);
-    report::values(rt, n, &a)?;
+    report::list(rt, "values", n, &a)?;
     report::answer(rt, "  the same values in both ways", a == b)?;
     if timed {
         tell_times(rt, measure(rt, effects, r, n, truths, values))?;
@@ -142,7 +140,7 @@ fn compare(
 fn perform_first(rt: &(impl Print + Eprint + CpuClock), s: &Sheet, timed: bool) -> io::Result<()> {
     let l = s.found().layout;
     if l.a == 0 {
-        return report::text(rt, "no action\n");
+        return println!(rt; "no action");
     }
     let st = engine::initial_of(s);
     let mut truths = [false; sheet::MOST_FORMULAS];
@@ -157,18 +155,18 @@ fn case(
     from: usize,
     timed: bool,
 ) -> io::Result<()> {
-    report::text(rt, title)?;
+    println!(rt; "{title}")?;
     let mut s = [0u8; writing::BYTES];
     writing::write(&mut s, from);
     match Sheet::open(&s) {
         Ok(sheet) => perform_first(rt, &sheet, timed),
-        Err(_) => report::text(rt, "refused\n"),
+        Err(_) => println!(rt; "refused"),
     }
 }
 
 pub fn cases(rt: &(impl Print + Eprint + CpuClock)) -> io::Result<()> {
-    case(rt, "512 effects on 32 fluents, none holds\n", 512, true)?;
-    case(rt, "the last 212 hold\n", 300, false)?;
-    case(rt, "the last 20 hold\n", 492, false)?;
-    case(rt, "all hold\n", 0, false)
+    case(rt, "512 effects on 32 fluents, none holds", 512, true)?;
+    case(rt, "the last 212 hold", 300, false)?;
+    case(rt, "the last 20 hold", 492, false)?;
+    case(rt, "all hold", 0, false)
 }

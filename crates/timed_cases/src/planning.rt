@@ -27,7 +27,7 @@ const BEFORE: u16 = 0xbe4e;
 type Answer = Result<Planned, Refusal>;
 
 // The answer and the trace, whether the whole index was 0 after it, and the microseconds that it took.
-#[derive(Clone, Copy)]
+#[derive(Clone, Copy, Debug, PartialEq, Eq)]
 struct Run {
     answer: Answer,
     trace: [u16; ENTRIES],
@@ -36,7 +36,7 @@ struct Run {
 }
 
 // The times of the quickest round with and without an index, and whether the answers were the same in all rounds.
-#[derive(Clone, Copy)]
+#[derive(Clone, Copy, Debug, PartialEq, Eq)]
 struct Times {
     with_index: u64,
     without: u64,
@@ -77,12 +77,9 @@ fn tell(rt: &impl Print, a: Answer) -> io::Result<()> {
 }
 
 fn title(rt: &impl Print, bound: u8) -> io::Result<()> {
-    report::text(
-        rt,
-        "a star of a choice between two like actions, then a test that never holds, D",
-    )?;
-    report::number(rt, bound as u64)?;
-    report::text(rt, "\n")
+    println!(rt;
+        "a star of a choice between two like actions, then a test that never holds, D {bound}"
+    )
 }
 
 // The request's case.
@@ -124,9 +121,8 @@ fn near(rt: &(impl Print + Eprint + CpuClock)) -> io::Result<()> {
     title(rt, NEAR)?;
     let s = sheets::star(NEAR);
     let r = plan(rt, &s, 0);
-    let expected = r.answer;
-    tell(rt, expected)?;
-    let t = measure(rt, &s, expected);
+    tell(rt, r.answer)?;
+    let t = measure(rt, &s, r.answer);
     report::answer(rt, "  the same answer in every round", t.same)?;
     report::answer(
         rt,
@@ -143,30 +139,22 @@ const LENGTHS: [usize; 5] = [1, 15, 16, 40, INDEX];
 
 // Whether planning with each length of index is as without one, and leaves it 0.
 fn agrees(rt: &impl CpuClock, s: &[u8], expected: Run) -> bool {
-    let answer = expected.answer;
-    let trace = expected.trace;
     let mut same = true;
     for words in LENGTHS {
         let r = plan(rt, s, words);
-        let entries = r.trace;
-        same = same & (r.answer == answer) & (entries == trace) & r.cleared;
+        same = same & (r.answer == expected.answer) & (r.trace == expected.trace) & r.cleared;
     }
     same
 }
 
 // A sheet with a plan.
 fn lengths(rt: &(impl Print + CpuClock)) -> io::Result<()> {
-    report::text(
-        rt,
-        "two fluents exchange their values, 0, 1, 15, 16, 40 and 4,096 words of index\n",
-    )?;
+    println!(rt; "two fluents exchange their values, 0, 1, 15, 16, 40 and 4,096 words of index")?;
     let s = sheets::exchange();
     let r = plan(rt, &s, 0);
-    let answer = r.answer;
-    let trace = r.trace;
-    tell(rt, answer)?;
-    if let Ok(plan) = answer {
-        report::entries(rt, plan.n, &trace)?;
+    tell(rt, r.answer)?;
+    if let Ok(plan) = r.answer {
+        report::list(rt, "entries", plan.n, &r.trace)?;
     }
     report::answer(rt, "  the same at every length, index 0", agrees(rt, &s, r))
 }

@@ -2,7 +2,7 @@
 // sixteen times, each time with another value. No rule of the sheet is applied here.
 // The action is impossible where formula 0, its precondition, fails, and where two effects of one fluent hold (document 02, F-2); what its
 // effects give is defined all the same.
-ghost use Rattle.std.specs.Prelude.{◌<◌, ◌≤◌};
+ghost use Rattle.std.specs.Prelude.{◌<◌};
 
 pub const BYTES: usize = 5216;
 
@@ -22,19 +22,16 @@ pub fn byte(s: &mut [u8], at: usize, v: u8) {
 }
 
 // Writes bytes from a place on, as far as there is room.
-pub fn copy(s: &mut [u8], at: usize, bytes: &[u8])
-    requires { at ≤ 65536 }
-{
-    for (i, b) in bytes.iter().enumerate() {
-        byte(s, at + i, *b);
+pub fn copy(s: &mut [u8], at: usize, bytes: &[u8]) {
+    for (place, b) in s.iter_mut().skip(at).zip(bytes) {
+        *place = *b;
     }
 }
 
 // 32 fluents of size 16, which start with different values.
 fn fluents(s: &mut [u8]) {
     for x in 0..32 {
-        byte(s, 2 * x, 16);
-        byte(s, 2 * x + 1, (x * 7 % 16) as u8);
+        copy(s, 2 * x, &[16, (x * 7 % 16) as u8]);
     }
 }
 
@@ -43,11 +40,13 @@ fn effect(s: &mut [u8], i: usize, kind: u8)
     requires { i < 512 }
 {
     byte(s, FORMULAS + 6 * i, kind);
-    let at = EFFECTS + 4 * i;
-    byte(s, at, (i % 256) as u8);
-    byte(s, at + 1, (i / 256) as u8);
-    byte(s, at + 2, (i % 32) as u8);
-    byte(s, at + 3, ((i % 32 + i / 32) % 16) as u8);
+    let [low, high] = (i as u16).to_le_bytes();
+    let value = (i % 32 + i / 32) % 16;
+    copy(
+        s,
+        EFFECTS + 4 * i,
+        &[low, high, (i % 32) as u8, value as u8],
+    );
 }
 
 // All effects: those from number `from` on hold.
