@@ -40,12 +40,7 @@ fn total_of(table: &[u32], distances: &[u32], n: usize) -> Totals
     let i = n / ENVIRONMENTS;
     let count = usize::from(positions::enabled_in(table, i, n % ENVIRONMENTS));
     let far = records::value_in(distances, i, 0) as usize;
-    Totals {
-        done: final_of(table, n),
-        count,
-        far,
-        soon: ends::soon_of(count, far),
-    }
+    Totals::new(final_of(table, n), count, far)
 }
 
 // The totals of the remaining program at `at`.
@@ -59,14 +54,14 @@ pub fn total_rest(table: &[u32], distances: &[u32], work: &[u32], at: usize) -> 
 }
 
 // Where a transition is: the place of its record's node, and its position among those of the record.
-#[derive(Clone, Copy)]
+#[derive(Clone, Copy, Debug, PartialEq, Eq)]
 pub struct Cursor {
     pub place: usize,
     pub k: u64,
 }
 
 // Where there is none: whether what was searched is final, and whether it has no transition at all.
-#[derive(Clone, Copy)]
+#[derive(Clone, Copy, Debug, PartialEq, Eq)]
 pub struct Passed {
     pub done: bool,
     pub idle: bool,

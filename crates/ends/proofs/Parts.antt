@@ -1,6 +1,6 @@
 -- What is found of the parts of a construct says what is to be found of it: final where both are; its transitions are those of the left
 -- part and, where that one lets it go, those of the right part; and it is as far from its end as both together. Assumes nothing.
-use mathlib.Core.Path.{◌≡◌, refl, sym, ap, ap₂, ◌∙◌}
+use mathlib.Core.Path.{◌≡◌, refl, sym, ap, ap₂, subst, ◌∙◌}
 use mathlib.Core.Bool.{Bool, true, false, cond, ◌&&◌}
 use mathlib.Core.List.{List}
 use Prim.Native.Nat.{ℕ, ◌+◌, ◌^◌, ◌<◌, max}
@@ -12,7 +12,7 @@ use Rattle.remaining.specs.Rest.{Rest, gone, leaf, node, nodes}
 use Rattle.remaining.specs.Leaves.{goes_right}
 use Rattle.words.proofs.Standing.{nodes_pos}
 use Rattle.leaves.specs.Distances.{farthest}
-use Rattle.ends.specs.Ends.{final_by_table, count_by_table, far_by_table, soon_of, soon_by_table, joined, Below, Totalled}
+use Rattle.ends.specs.Ends.{final_by_table, count_by_table, far_by_table, soon_of, soon_by_table, joined, Below, Totalled, totals_of}
 use Rattle.ends.specs.declared.Totals.{Totals}
 
 module _ (finals : List Bool) where
@@ -53,19 +53,19 @@ module _ (finals : List Bool) (distances counts : List ℕ) where
     few = omega (arith, nodes_pos g);
   }
 
-  pub total_leaf : {g : Rest} {n k z i j : ℕ} {x : Bool} → g ≡ leaf j → i ≡ j → n ≡ get_or counts i 0 → n < 2 ^ 32 → k ≡ get_or distances i 0 → k < 2 ^ 32
-      → x ≡ get_or finals i true → z ≡ soon_of n k → Totalled finals distances counts g (record { done = x; count = n; far = k; soon = z })
+  pub total_leaf : {g : Rest} {n k i j : ℕ} {x : Bool} {t : Totals} → g ≡ leaf j → i ≡ j → n ≡ get_or counts i 0 → n < 2 ^ 32 → k ≡ get_or distances i 0 → k < 2 ^ 32
+      → x ≡ get_or finals i true → t ≡ totals_of x n k → Totalled finals distances counts g t
   unfolding count_by_table far_by_table soon_by_table
-  total_leaf {g} {n} {k} {j = j} e ei en ln ek lk ex ez =
+  total_leaf {g} {n} {k} {j = j} e ei en ln ek lk ex et =
       let u : n ≡ get_or counts j 0 = en ∙ ap (λ (i : ℕ). get_or counts i 0) ei in
       let v : k ≡ get_or distances j 0 = ek ∙ ap (λ (i : ℕ). get_or distances i 0) ei in
-      record {
+      subst (Totalled finals distances counts g) (sym et) (record {
         done_is = final_leaf finals e ei ex;
         count_is = u ∙ ap (count_by_table finals counts) (sym e);
         far_is = v ∙ ap (far_by_table distances) (sym e);
-        soon_is = ez ∙ ap₂ soon_of u v ∙ ap (soon_by_table finals distances counts) (sym e);
+        soon_is = ap₂ soon_of u v ∙ ap (soon_by_table finals distances counts) (sym e);
         few = omega (arith, small n k lk, nodes_pos g);
-      }
+      })
 
   module _ {g l r : Rest} {tag : ℕ} (e : g ≡ node tag l r) {x y : Totals} (F : Totalled finals distances counts l x) (G : Totalled finals distances counts r y) where
     nodes_are : nodes g ≡ 1 + nodes l + nodes r

@@ -32,6 +32,10 @@ far_by_table distances (node tag l r) = far_by_table distances l + far_by_table 
 abbrev pub soon_of : (count far : ℕ) → ℕ
 soon_of count far = cond (eqb count 0) farthest (max 1 far)
 
+-- the totals of a record, from whether it is final, its count and its distance
+abbrev pub totals_of : (done : Bool) (count far : ℕ) → Totals
+totals_of done count far = record { done = done; count = count; far = far; soon = soon_of count far }
+
 -- of a construct, from those of its parts: a transition of one leaves the other as it is
 abbrev pub soon_both : (goes : Bool) (farL soonL farR soonR : ℕ) → ℕ
 soon_both goes farL soonL farR soonR = min (soonL + farR) (cond goes (farL + soonR) farthest)

@@ -5,7 +5,7 @@ ghost use Rattle.std.specs.Prelude.{◌≡◌, Bool, true, List, ℕ, ◌*◌, �
 ghost use Rattle.remaining.specs.Rest.{Rest, leaf};
 ghost use Rattle.remaining.specs.Leaves.{goes_right};
 ghost use Rattle.words.specs.Words.{At, Stands};
-ghost use Rattle.ends.specs.Ends.{final_by_table, soon_of, joined, Below, Totalled, Leaves, Asked, Told};
+ghost use Rattle.ends.specs.Ends.{final_by_table, soon_of, totals_of, joined, Below, Totalled, Leaves, Asked, Told};
 
 // Whether the remaining program at `at` is final, where `leaf` answers that of a record.
 pub fn final_by<F: Fn(usize) -> bool>(leaf: &F, work: &[u32], at: usize) -> bool
@@ -51,7 +51,7 @@ pub fn goes_right(tag: u32, done: bool, idle: bool) -> bool
 
 // Whether it is final, how many transitions it has, how far it is from its end at least, and the same by way of any transition, that one
 // counted.
-#[derive(Clone, Copy)]
+#[derive(Clone, Copy, Debug, PartialEq, Eq)]
 pub struct Totals {
     pub done: bool,
     pub count: usize,
@@ -67,6 +67,20 @@ pub fn soon_of(count: usize, far: usize) -> usize
         return leaves::FARTHEST;
     }
     far.max(1)
+}
+
+impl Totals {
+    // The totals of a record, from whether it is final, its count and its distance.
+    pub fn new(done: bool, count: usize, far: usize) -> Totals
+        ensures { result ≡ totals_of done count far }
+    {
+        Totals {
+            done,
+            count,
+            far,
+            soon: soon_of(count, far),
+        }
+    }
 }
 
 // The totals of a construct, from those of its parts.
@@ -119,12 +133,7 @@ fn total_of(finals: &[bool], distances: &[u32], counts: &[u32], i: usize) -> Tot
 {
     let count = records::value_in(counts, i, 0) as usize;
     let far = records::value_in(distances, i, 0) as usize;
-    Totals {
-        done: records::value_in(finals, i, true),
-        count,
-        far,
-        soon: soon_of(count, far),
-    }
+    Totals::new(records::value_in(finals, i, true), count, far)
 }
 
 // The totals of the remaining program at `at`, by the tables.

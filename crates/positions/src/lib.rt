@@ -170,7 +170,7 @@ fn apart_of(d: usize) -> u64
 }
 
 // Where a search goes on: to the transitions of record i, read in e, from position k on, which stand `base` further on.
-#[derive(Clone, Copy)]
+#[derive(Clone, Copy, Debug, PartialEq, Eq)]
 pub struct Way {
     pub i: usize,
     pub e: usize,
@@ -190,7 +190,7 @@ pub struct Tables<'a> {
 }
 
 // A record, and its one way, then the other, where it goes them.
-#[derive(Clone, Copy)]
+#[derive(Clone, Copy, Debug, PartialEq, Eq)]
 pub struct Fork {
     pub r: Program,
     pub first: Option<Way>,

@@ -51,7 +51,7 @@ pub fn past_words(alone: bool, words: usize) -> usize
 }
 
 // What a transition left: the code of its move, and the number of nodes.
-#[derive(Clone, Copy)]
+#[derive(Clone, Copy, Debug, PartialEq, Eq)]
 pub struct Laid {
     pub entry: u32,
     pub size: usize,
@@ -154,7 +154,7 @@ fn lay_record(t: &Tables, work: &mut [u32], i: usize, to: usize, k: usize) -> La
 }
 
 // Where there is none: what is left of k, and whether what was searched is final.
-#[derive(Clone, Copy)]
+#[derive(Clone, Copy, Debug, PartialEq, Eq)]
 pub struct Passed {
     pub k: usize,
     pub done: bool,

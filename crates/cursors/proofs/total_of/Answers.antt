@@ -10,4 +10,4 @@ returns c =
     let few = c.requires.1 in
     total_leaf _ _ _ refl refl
     (count_reading c.args.table.now few (c.from-count.ensures ∙ (as_count _).0) c.enabled_in.ensures) (omega (arith, c.from-count.ensures, as_count c.enabled_in.result))
-    (far_reading c.args.distances.now few c.value_in-far.ensures) (omega arith) c.final_of.ensures c.soon_of.ensures
+    (far_reading c.args.distances.now few c.value_in-far.ensures) (omega arith) c.final_of.ensures c.new.ensures
