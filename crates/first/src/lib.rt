@@ -276,8 +276,7 @@ fn settle(
     let Outcome::Found { n, t } = o else {
         return o;
     };
-    let start = History { entries, n };
-    let h = grow(work, flags, numbers, index, s, t, start);
+    let h = grow(work, flags, numbers, index, s, t, History { entries, n });
     hand_out(trace, h);
     Outcome::Found { n: h.n, t }
 }

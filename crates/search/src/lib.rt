@@ -60,6 +60,7 @@ pub struct Question {
 }
 
 // What stays the same throughout a search: the window, and the round in which the index is told.
+// Kept: a window also where nothing is asked, when none reads it: the clauses take window and given moves apart (`guide_at`).
 #[derive(Clone, Copy)]
 struct Task {
     window: Window,
