@@ -261,8 +261,7 @@ module _ {t : Tables} {w : List ℕ} {f to place k : ℕ} (K : CanLayRest t w f 
         left_placed {w'} {r} G = whatever (λ W s Q u h.
             let z = left_there Q h in
             let B = left_laid Q z.1 in
-            subst (λ (e : ℕ). Placed u to w w' e r.size) (sym G.entry_is)
-            (wrap_placed (λ (g : Rest). node tag g D.r) z.0 B (G.wraps D.r (right_at B.kept)) refl (omega arith) z.2))
+            wrap_placed (λ (g : Rest). node tag g D.r) z.0 B (record { entry_is = G.entry_is; wrapped = G.wraps D.r (right_at B.kept) }) refl (omega arith) z.2)
 
     -- it is the right part's
     module _ (behind : f + 3 + 3 * m ≤ place) where
@@ -307,5 +306,5 @@ module _ {t : Tables} {w : List ℕ} {f to place k : ℕ} (K : CanLayRest t w f 
         right_placed {w'} {r} G = whatever (λ W s Q u h.
             let z = right_there Q h in
             let B = right_laid Q z.1 in
-            subst (λ (e : ℕ). Placed u to w w' e r.size) (sym G.entry_is)
-            (wrap_placed (wrap_right tag D.l) z.0 B (G.wraps D.l (left_at B.kept) (sym D.left_is)) (ap (λ (n : ℕ). to + n) ea) (omega arith) z.2))
+            wrap_placed (wrap_right tag D.l) z.0 B (record { entry_is = G.entry_is; wrapped = G.wraps D.l (left_at B.kept) (sym D.left_is) })
+            (ap (λ (n : ℕ). to + n) ea) (omega arith) z.2)

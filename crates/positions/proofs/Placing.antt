@@ -25,10 +25,10 @@ use Rattle.remaining.specs.Rest.{Rest, gone, leaf, nodes, largest}
 use Rattle.remaining.specs.Leaves.{RestTransition, on_rest, wrap_a, wrap_b, own_move, sibling_a, rest_transitions}
 use Rattle.remaining.proofs.Nodes.{step_nodes}
 use Rattle.remaining.proofs.Written.{read_kind, rise_read, written_lower}
-use Rattle.words.specs.Words.{At, Put, Room}
+use Rattle.words.specs.Words.{At, Room}
 use Rattle.words.proofs.Written.{kept_less, kept_trans, kept_put}
 use Rattle.words.proofs.Moved.{put_gone}
-use Rattle.steps.specs.Laid.{code_of, past, Wrapped, LaidOwn, WrappedLaid}
+use Rattle.steps.specs.Laid.{past, LaidOwn, WrappedLaid}
 use Rattle.steps.specs.declared.Laid.{Laid}
 use Rattle.positions.specs.declared.Way.{Way}
 use Rattle.positions.specs.declared.Fork.{Fork}
@@ -68,15 +68,15 @@ spot_few {W} {s} {t} Q i e k small x m =
     omega (arith, step_nodes W s P low (leaf (reading i e)) x member)
 
 -- what was laid out, put into a construct
-pub wrap_placed : (g : Rest → Rest) (y : RestTransition) {x : RestTransition} {to at at' entry size size' : ℕ} {w w₁ w' : List ℕ} → Placed y at w w₁ entry size
-    → Wrapped g at' to size size' w₁ w' → at ≡ at' → to ≤ at → x ≡ on_rest g y → Placed x to w w' entry size'
-wrap_placed g y {x} {to} {at} {at'} {entry} {size} {size'} {w} {w₁} {w'} B X ea l q =
-    let Y = X.wrapped y.1 (subst (At y.1 w₁) ea B.at) (sym B.size_is) in
-    subst (λ (x : RestTransition). Placed x to w w' entry size') (sym q) (record {
+pub wrap_placed : (g : Rest → Rest) (y : RestTransition) {x : RestTransition} {to at at' : ℕ} {z p : Laid} {w w₁ w' : List ℕ} → Placed y at w w₁ z.entry z.size
+    → WrappedLaid g at' to w₁ w' z p → at ≡ at' → to ≤ at → x ≡ on_rest g y → Placed x to w w' p.entry p.size
+wrap_placed g y {x} {to} {at} {at'} {z} {p} {w} {w₁} {w'} B X ea l q =
+    let Y = X.wrapped.wrapped y.1 (subst (At y.1 w₁) ea B.at) (sym B.size_is) in
+    subst (λ (x : RestTransition). Placed x to w w' p.entry p.size) (sym q) (record {
       at = Y.0;
-      entry_is = B.entry_is;
+      entry_is = X.entry_is ∙ B.entry_is;
       size_is = Y.1;
-      kept = kept_trans to to w w₁ w' (kept_less to at w w₁ B.kept l) X.kept (omega arith);
+      kept = kept_trans to to w w₁ w' (kept_less to at w w₁ B.kept l) X.wrapped.kept (omega arith);
     })
 
 module _ {t : Tables} {w : List ℕ} {i e to k : ℕ} (C : CanPlace t w i e to k) where
@@ -135,22 +135,16 @@ module _ {t : Tables} {w : List ℕ} {i e to k : ℕ} (C : CanPlace t w i e to k
           pub first_room : Room w₁ to (size + 2)
           first_room = let z = first_there C.look.surveyed C.move C.there in way_room first_leads z.1 (B _ _ C.look.surveyed z.0 z.1)
 
-          pub first_placed : {w' : List ℕ} {n tag j size' : ℕ} → tag ≡ tag_a q.kind → n ≡ past (eqb tag 0) 3 → at ≡ to + n → j ≡ reading i e
-              → Wrapped (wrap_a (tag_a q.kind) (sibling_a q j)) (to + past (eqb (tag_a q.kind) 0) 3) to size size' w₁ w'
-              → (W : World) (s : State) → Surveyed W s t → (x : RestTransition) → Memᴰ (k, x) (spots_in W s t i e) → Placed x to w w' entry size'
-          first_placed et en ea ej X W s Q x m =
-              let z = first_there Q x m in
-              wrap_placed _ z.0 (B W s Q z.0 z.1) X (ea ∙ ap (λ (n : ℕ). to + n) (en ∙ ap (λ (g : ℕ). past (eqb g 0) 3) et)) (omega arith)
-              (z.2 ∙ ap (λ (m : ℕ). on_rest (wrap_a (tag_a q.kind) (sibling_a q m)) z.0) (sym ej))
-
         -- the same, where the answer is one value
         module _ {w₁ : List ℕ} {at : ℕ} (z : Laid) (B : (W : World) (s : State) → Surveyed W s t → (v : RestTransition)
             → Memᴰ (y.k, v) (spots_in W s t y.i y.e) → Placed v at w w₁ z.entry z.size) where
           pub first_laid : {w' : List ℕ} {n tag j : ℕ} {p : Laid} → tag ≡ tag_a q.kind → n ≡ past (eqb tag 0) 3 → at ≡ to + n → j ≡ reading i e
               → WrappedLaid (wrap_a (tag_a q.kind) (sibling_a q j)) (to + past (eqb (tag_a q.kind) 0) 3) to w₁ w' z p
               → (W : World) (s : State) → Surveyed W s t → (x : RestTransition) → Memᴰ (k, x) (spots_in W s t i e) → Placed x to w w' p.entry p.size
-          first_laid {w'} {p = p} et en ea ej X W s Q x m =
-              subst (λ (c : ℕ). Placed x to w w' c p.size) (sym X.entry_is) (first_placed B et en ea ej X.wrapped W s Q x m)
+          first_laid et en ea ej X W s Q x m =
+              let u = first_there Q x m in
+              wrap_placed _ u.0 (B W s Q u.0 u.1) X (ea ∙ ap (λ (n : ℕ). to + n) (en ∙ ap (λ (g : ℕ). past (eqb g 0) 3) et)) (omega arith)
+              (u.2 ∙ ap (λ (m : ℕ). on_rest (wrap_a (tag_a q.kind) (sibling_a q m)) u.0) (sym ej))
 
       -- the other, where it does not
       module _ (stays : f.first ≡ None) where
@@ -181,38 +175,27 @@ module _ {t : Tables} {w : List ℕ} {i e to k : ℕ} (C : CanPlace t w i e to k
             pub second_room : Room w₁ to (size + 2)
             second_room = let z = second_at C.look.surveyed C.move C.there in way_room second_leads z.1 (B _ _ C.look.surveyed z.0 z.1)
 
-            pub second_placed : {w' : List ℕ} {n tag size' : ℕ} → tag ≡ tag_b q.kind → n ≡ past (eqb tag 0) 6 → at ≡ to + n
-                → Wrapped (wrap_b (tag_b q.kind) q.a) (to + past (eqb (tag_b q.kind) 0) 6) to size size' w₁ w'
-                → (W : World) (s : State) → Surveyed W s t → (x : RestTransition) → Memᴰ (k, x) (spots_in W s t i e) → Placed x to w w' entry size'
-            second_placed et en ea X W s Q x m =
-                let z = second_at Q x m in
-                wrap_placed _ z.0 (B W s Q z.0 z.1) X (ea ∙ ap (λ (n : ℕ). to + n) (en ∙ ap (λ (g : ℕ). past (eqb g 0) 6) et)) (omega arith) z.2
-
           module _ {w₁ : List ℕ} {at : ℕ} (z : Laid) (B : (W : World) (s : State) → Surveyed W s t → (v : RestTransition)
               → Memᴰ (y.k, v) (spots_in W s t y.i y.e) → Placed v at w w₁ z.entry z.size) where
             pub second_laid : {w' : List ℕ} {n tag : ℕ} {p : Laid} → tag ≡ tag_b q.kind → n ≡ past (eqb tag 0) 6 → at ≡ to + n
                 → WrappedLaid (wrap_b (tag_b q.kind) q.a) (to + past (eqb (tag_b q.kind) 0) 6) to w₁ w' z p
                 → (W : World) (s : State) → Surveyed W s t → (x : RestTransition) → Memᴰ (k, x) (spots_in W s t i e) → Placed x to w w' p.entry p.size
-            second_laid {w'} {p = p} et en ea X W s Q x m =
-                subst (λ (c : ℕ). Placed x to w w' c p.size) (sym X.entry_is) (second_placed B et en ea X.wrapped W s Q x m)
+            second_laid et en ea X W s Q x m =
+                let u = second_at Q x m in
+                wrap_placed _ u.0 (B W s Q u.0 u.1) X (ea ∙ ap (λ (n : ℕ). to + n) (en ∙ ap (λ (g : ℕ). past (eqb g 0) 6) et)) (omega arith) u.2
 
     -- its own
-    pub own_placed : has_own q.kind ≡ true → {w' : List ℕ} {entry : ℕ} → Put to 0 0 1 w w' → entry ≡ code_of (own_move q)
-        → (W : World) (s : State) → Surveyed W s t → (x : RestTransition) → Memᴰ (k, x) (spots_in W s t i e) → Placed x to w w' entry 1
+    pub own_laid : has_own q.kind ≡ true → {w' : List ℕ} {y : Laid} → LaidOwn q to w w' y
+        → (W : World) (s : State) → Surveyed W s t → (x : RestTransition) → Memᴰ (k, x) (spots_in W s t i e) → Placed x to w w' y.entry y.size
     unfolding nodes
-    own_placed own {w'} {entry} X ee W s Q x m =
+    own_laid own {w'} {y} X W s Q x m =
         let o : has_own (t.records i).kind ≡ true = sym (ap has_own same_kind) ∙ own in
         let alone = spots_own Q i e C.look.small o (own_plain (t.records i).kind o) (some_member (spots_in W s t i e) m) in
         let only_one : ◌≡◌ {A = Spot} (k, x) (0, (own_move (program_read e (span_of t.records i) (t.records i)), gone)) = Memᴰ.eq_of_singleton (subst (Memᴰ (k, x)) alone m) in
         let same : x ≡ (own_move q, gone) = ap (λ (z : Spot). z.1) only_one ∙ ap (λ (r : Program). (own_move r, gone)) (sym is) in
-        subst (λ (x : RestTransition). Placed x to w w' entry 1) (sym same) (record {
-          at = put_gone to w w' X (omega (arith, C.room.inside));
-          entry_is = ee;
-          size_is = refl;
-          kept = kept_put to to 0 0 1 w w' X (omega arith);
+        subst (λ (x : RestTransition). Placed x to w w' y.entry y.size) (sym same) (record {
+          at = put_gone to w w' X.put (omega (arith, C.room.inside));
+          entry_is = X.entry_is;
+          size_is = X.size_is;
+          kept = kept_put to to 0 0 1 w w' X.put (omega arith);
         })
-
-    pub own_laid : has_own q.kind ≡ true → {w' : List ℕ} {y : Laid} → LaidOwn q to w w' y
-        → (W : World) (s : State) → Surveyed W s t → (x : RestTransition) → Memᴰ (k, x) (spots_in W s t i e) → Placed x to w w' y.entry y.size
-    own_laid own {w'} {y} X W s Q x m =
-        subst (λ (n : ℕ). Placed x to w w' y.entry n) (sym X.size_is) (own_placed own X.put X.entry_is W s Q x m)

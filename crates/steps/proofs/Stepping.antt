@@ -246,7 +246,8 @@ module _ {v : Sources} {finals : List Bool} {w : List ℕ} {f to tag left : ℕ}
       unfolding rest_transitions
       both_count = ap length steps_are ∙ both_length (λ (g : Rest). node tag g r) (wrap_right tag l) L R true goes ∙ ap (λ (b : Bool). length L + cond b (length R) 0) (sym goes_is)
 
-      pub stays_stepped : b ≡ false → {x : Bool} → ((g : Rest) → At g w₁ (f + 3 + 3 * left) → x ≡ (z.done && final_by_table finals g)) → Stepped W s v.records g k to w w₁ (Err (record { k = z.k; done = x }))
+      pub stays_stepped : b ≡ false → {x : Bool} → ((g : Rest) → At g w₁ (f + 3 + 3 * left) → x ≡ (z.done && final_by_table finals g))
+          → Stepped W s v.records g k to w w₁ (Err (record { k = z.k; done = x }))
       stays_stepped nb ex = record {
         turned = (
           counted ∙ omega (arith, both_count, ap (λ (b : Bool). cond b (length R) 0) nb),
