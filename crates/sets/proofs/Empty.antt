@@ -41,9 +41,9 @@ some_bit n w l = go (ℕ_discrete w 0) (some_from (has_bit w) 0 n) refl
     go (no z) false e =
         absurd (z (sym (mask_bits n w l) ∙ mask_same (has_bit w) (λ (i : ℕ). false) n (unfound (has_bit w) n e) ∙ mask_none n))
 
-pub gathered_none : Gathered [] 0 0
+pub gathered_none : (x : List ℕ) → Gathered x 0 0
 unfolding some_from
-gathered_none = record { each = λ i. bit_none i }
+gathered_none x = record { each = λ i. bit_none i }
 
 -- one word more
 pub gathered_push : (x : List ℕ) (any word : ℕ) → Gathered x (length x) any → Gathered (x ++ word ∷ []) (length (x ++ word ∷ [])) (bit_or any word)

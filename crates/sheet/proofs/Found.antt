@@ -59,6 +59,17 @@ module _ {s : List ℕ} {i : Inspection} (O : Of s i) where
   pub answered_with : {u : ℕ} → u ≡ names_in s (layout_of s) → accepted_with i.words u ≡ check_of s
   answered_with e = sym (answered ∙ ap (accepted_with i.words) (sym e))
 
+-- and from what was found to the inspection's answer
+abbrev made : Layout → Bool → ℕ → ℕ → Inspection
+made l b f w = record { layout = l; interrupts = b; frame = f; words = w }
+
+module _ {s : List ℕ} {i : Inspection} (O : Of s i) where
+  pub inspected_of : inspect_of s ≡ Ok i
+  inspected_of =
+      ap (inspected_in s (layout_of s)) (answered O)
+      ∙ ap Ok (sym (ap₂ (λ (l : Layout) (b : Bool). made l b i.frame i.words) O.layout_is O.interrupts_are
+      ∙ ap₂ (made (layout_of s) (inspection_in s (layout_of s)).interrupts) O.frame_is O.words_are))
+
 -- what was found of a sheet that is opened
 module _ (s : List ℕ) (i : Inspection) (e : inspect_of s ≡ Ok i) where
   pub found_from : Of s i

@@ -359,13 +359,22 @@ impl<'a> Model for Sheet<'a> {
 
 impl<'a> Sheet<'a> {
     // Opens a sheet, which is checked.
-    #[tactic(auto, using(crate::proofs::Found::accepted_from))]
+    #[tactic(auto, using(crate::proofs::Found::accepted_from, crate::proofs::Found::found_from))]
     pub fn open(bytes: &'a [u8]) -> Result<Sheet<'a>, Refusal>
         ensures accepted { IfOk result (λ s. (s ≡ bytes.now) × Accepts bytes.now) }
         ensures refused { IfErr result (λ why. check_of bytes.now ≡ Err why) }
     {
         let found = inspect(bytes)?;
-        Ok(Sheet { bytes, found })
+        Ok(Sheet::inspected(bytes, found))
+    }
+
+    // A sheet of which so much was found: nothing is checked again.
+    #[tactic(auto, using(crate::proofs::Found::inspected_of))]
+    pub fn inspected(bytes: &'a [u8], found: Inspection) -> Sheet<'a>
+        requires { Of bytes.now found }
+        ensures { result ≡ bytes.now }
+    {
+        Sheet { bytes, found }
     }
 
     #[tactic(auto, using(crate::proofs::Found::found_from, crate::proofs::Found::inspected_from, crate::proofs::Found::laid_from))]
@@ -433,8 +442,8 @@ impl<'a> Sheet<'a> {
     fn names(&self) -> u32
         ensures { result ≡ names_in self.now (layout_of self.now) }
     {
-        let count = self.found().layout.q;
-        let sets = named::sets_of(self.formulas(), count);
-        named::union_of(&sets, count)
+        let l = self.found().layout;
+        let sets = named::sets_of(self.formulas(), l.q);
+        named::union_of(&sets, l.q)
     }
 }

@@ -11,14 +11,14 @@ use Rattle.sheet.proofs.Sheet.names.Goals as goal
 pub sets_of-sets-requires : goal.sets_of-sets-requires
 sets_of-sets-requires c =
     let s = c.args.self.now in
-    let O = c.found-count.ensures.of in
+    let O = c.found.ensures.of in
     let l = laid s O.accepted in
     rw (c.formulas.ensures.table, O.layout_is) (formulas_long s (layout_of s) l, l.q, lower_formulas s O.accepted)
 
 pub returns : goal.returns
 returns c =
     let s = c.args.self.now in
-    let O = c.found-count.ensures.of in
+    let O = c.found.ensures.of in
     let t = formulas_in s (layout_of s) in
     let n = (layout_of s).q in
     rw (c.union_of.ensures, c.sets_of-sets.ensures, c.formulas.ensures.table, O.layout_is)
