@@ -129,14 +129,19 @@ pub fn formula_ok(nf: usize, size: usize, i: usize, r: Formula) -> bool
         & field_ok(nf, size, i, field_b(r.kind), r.b)
 }
 
-// What a formula without placeholders says of values, where `lower` has what the lower ones say.
+// The kinds of formulas without placeholders are those below it.
+const PLAIN_KINDS: usize = Kind::EqualsPlaceholder as usize;
+
+// What a formula without placeholders says of values, where `lower` has what the lower ones say. The remainder is the kind: with it the
+// machine code takes the kind's branch with no test before it.
 #[tactic(auto, unfolding(crate::specs::Truth::truth_of))]
 pub fn truth_of(r: Formula, values: &[u8], lower: &[bool]) -> bool
     requires { T (is_plain r.kind) }
     ensures { result ≡ truth_of r values.now lower.now }
 {
-    match kind_of(r.kind) {
+    match kind_of(r.kind % PLAIN_KINDS) {
         Some(Kind::True) => true,
+        Some(Kind::False) => false,
         Some(Kind::HasValue) => records::byte_in(values, r.x) == r.a,
         Some(Kind::LessThan) => records::byte_in(values, r.x) < r.a,
         Some(Kind::EqualValues) => records::byte_in(values, r.x) == records::byte_in(values, r.a),

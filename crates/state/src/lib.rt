@@ -28,15 +28,15 @@ fn truth_at(formulas: &[u8], i: usize, values: &[u8], lower: &[bool]) -> bool
 }
 
 // Fills in what each of the first n formulas, none of which has placeholders, says of a state, whatever stood there: one pass upwards, since
-// a formula names lower ones only.
+// a formula names lower ones only. Never inlined: the loop's time hangs on where its jumps lie.
+#[inline(never)]
 pub fn fill_truths(formulas: &[u8], n: usize, s: State, truths: &mut [bool])
     requires n_in_bounds { (6 * n ≤ length formulas.now) × (n ≤ length truths.old) }
     requires lower_formulas { LowerFormulas formulas.now n × PlainFormulas formulas.now n }
     ensures { truths.new ≡ truths_of formulas.now s.values n truths.old }
 {
-    let values = s.values;
     for i in 0..n {
-        let r = truth_at(formulas, i, &values, truths);
+        let r = truth_at(formulas, i, &s.values, truths);
         truths[i] = r;
     }
 }

@@ -4,4 +4,4 @@ use Rattle.records.proofs.Fills.{Refilled}
 use Rattle.state.proofs.fill_truths.Given as goal
 
 abbrev pub invariant-loop-i : goal.invariant-loop-i
-invariant-loop-i l = Refilled (truth_in l.formulas l.values) (λ (b : Bool). b) l.initial.truths l.truths l.i
+invariant-loop-i l = Refilled (truth_in l.formulas l.fn.s.values) (λ (b : Bool). b) l.initial.truths l.truths l.i
